@@ -1,0 +1,17 @@
+pub mod Kind
+pub mod Scheme
+pub mod View
+pub mod UrlView
+pub mod Lines
+pub mod Json
+pub mod Rule
+pub mod RuleFile
+pub mod Request
+pub mod RequestLine
+pub mod Holds
+pub mod State
+pub mod Precedence
+pub mod Scan
+pub mod Output
+pub mod Words
+pub mod Out

@@ -1,0 +1,96 @@
+-- What a command may do: the statuses that it may end with, and the bytes that it may write on each, for
+-- its words and what the files hold.
+use Rattle.std.specs.Prelude.{◌≡◌, ◌⊎◌, ℕ, ◌+◌, ◌<◌, ◌≤◌, List, [], ◌∷◌, ◌++◌, length, codes, true, false, Option, Some, None, Ok, Err, if◌then◌else◌}
+use Rattle.dnr_spec.specs.declared.status.Status.{Status}
+use Rattle.dnr_spec.specs.declared.status.Status.TheVariants as status
+use Rattle.dnr_spec.specs.Lines.{lines_of, is_within_limits, is_blank}
+use Rattle.dnr_spec.specs.Rule.{Rule}
+use Rattle.dnr_spec.specs.RuleFile.{max_file, FileRefusal, rules_of}
+use Rattle.dnr_spec.specs.Request.{Request}
+use Rattle.dnr_spec.specs.RequestLine.{request_of}
+use Rattle.dnr_spec.specs.State.{State}
+use Rattle.dnr_spec.specs.Scan.{scan}
+use Rattle.dnr_spec.specs.Output.{verdict_line, bad_line, refusal_line}
+use Rattle.dnr_spec.specs.Words.{Task, task_of}
+
+-- what each name holds, if there is a file of that name
+abbrev pub Files : Type 0
+Files = List ℕ → Option (List ℕ)
+
+-- the extension `local` with the ruleset `rules`
+abbrev pub opening : List Rule → State
+opening rules = record {
+  extensions = record { name = codes "local"; sets = record { id = codes "rules"; enabled = true; rules = rules } ∷ [] } ∷ [];
+  count = 0;
+}
+
+-- what a line that is not blank prints
+abbrev pub reply_to : State → ℕ → Option Request → List ℕ
+reply_to state line None = bad_line line
+reply_to state line (Some request) = verdict_line line state.count (scan state request)
+
+-- a blank line prints nothing
+abbrev pub reply : State → ℕ → List ℕ → List ℕ
+reply state number line = if is_blank line then [] else reply_to state number (request_of line)
+
+-- the replies to the lines, which are numbered from this one on
+abbrev pub replies : State → ℕ → List (List ℕ) → List ℕ
+replies state number [] = []
+replies state number (line ∷ lines) = reply state number line ++ replies state (number + 1) lines
+
+-- the rules were read, and each line of the script was served
+pub record IsServed (files : Files) (task : Task) (written : List ℕ) : Type 0 where
+  pub file : List ℕ
+  pub held : files task.rules ≡ Some file
+  pub short : length file ≤ max_file
+  pub rules : List Rule
+  pub read : rules_of file ≡ Ok rules
+  pub script : List ℕ
+  pub started : files task.script ≡ Some script
+  pub within : is_within_limits script ≡ true
+  pub output : written ≡ replies (opening rules) 1 (lines_of script)
+
+-- the rules file breaks the form
+pub record IsRefused (files : Files) (task : Task) (written : List ℕ) : Type 0 where
+  pub file : List ℕ
+  pub held : files task.rules ≡ Some file
+  pub short : length file ≤ max_file
+  pub refusal : FileRefusal
+  pub read : rules_of file ≡ Err refusal
+  pub output : written ≡ refusal_line task.rules refusal
+
+-- the rules file has more bytes than a file may have
+pub record HasLongFile (files : Files) (task : Task) : Type 0 where
+  pub file : List ℕ
+  pub held : files task.rules ≡ Some file
+  pub long : max_file < length file
+
+-- the rules were read, and the script has a line that is too long, or too many lines
+pub record HasLongLine (files : Files) (task : Task) : Type 0 where
+  pub file : List ℕ
+  pub held : files task.rules ≡ Some file
+  pub short : length file ≤ max_file
+  pub rules : List Rule
+  pub read : rules_of file ≡ Ok rules
+  pub script : List ℕ
+  pub started : files task.script ≡ Some script
+  pub beyond : is_within_limits script ≡ false
+
+-- what a status says of a task
+abbrev pub Ends : Files → Task → List ℕ → Status → Type 0
+Ends files task written status.Done = IsServed files task written
+Ends files task written status.Refused = IsRefused files task written
+Ends files task written status.Usage = ⊥
+Ends files task written status.ReadFault = Unit {0}
+Ends files task written status.WriteFault = Unit {0}
+Ends files task written status.NoMemory = Unit {0}
+Ends files task written status.FileTooLong = HasLongFile files task ⊎ HasLongLine files task
+
+-- words that say no command end with Usage alone, and write nothing
+abbrev pub EndsFor : Files → Option Task → Status → List ℕ → Type 0
+EndsFor files None ended written = (ended ≡ status.Usage) × (written ≡ [])
+EndsFor files (Some task) ended written = Ends files task written ended
+
+-- this status and these bytes are allowed for these words and files
+abbrev pub Out : List (List ℕ) → Files → Status → List ℕ → Type 0
+Out words files ended written = EndsFor files (task_of words) ended written

@@ -1,0 +1,17 @@
+-- A rule: Chrome's reference of declarativeNetRequest, `Rule`, `RuleCondition` and `RuleAction`.
+use Rattle.std.specs.Prelude.{ℕ, List}
+use Rattle.dnr_spec.specs.declared.kind.Kind.{Kind}
+
+-- `kinds` are the types on which the rule holds
+pub record Condition : Type 0 where
+  pub kinds : List Kind
+
+pub data Action : Type 0 where
+  block : Action
+  allow : Action
+
+pub record Rule : Type 0 where
+  pub id : ℕ
+  pub priority : ℕ
+  pub condition : Condition
+  pub action : Action
