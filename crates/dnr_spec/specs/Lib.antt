@@ -2,6 +2,7 @@ pub mod Kind
 pub mod Scheme
 pub mod View
 pub mod UrlView
+pub mod UrlFilter
 pub mod Lines
 pub mod Json
 pub mod Rule

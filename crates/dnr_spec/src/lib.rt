@@ -8,6 +8,7 @@
 mod kind;
 mod no_memory;
 mod outcome;
+mod pattern_refusal;
 mod rule_fault;
 mod scheme;
 mod span;
@@ -17,6 +18,7 @@ mod view_refusal;
 pub use kind::Kind;
 pub use no_memory::NoMemory;
 pub use outcome::Outcome;
+pub use pattern_refusal::PatternRefusal;
 pub use rule_fault::RuleFault;
 pub use scheme::Scheme;
 pub use span::Span;
