@@ -14,5 +14,6 @@ pub mod State
 pub mod Precedence
 pub mod Scan
 pub mod Output
+pub mod Status
 pub mod Words
 pub mod Out
