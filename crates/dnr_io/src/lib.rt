@@ -5,11 +5,14 @@
 //! reads the count knows who is to blame for a failed run.
 #![tactic(auto)]
 
+mod ahead;
 mod dir_shelf;
 mod faultless_shelf;
 mod faultless_sink;
 mod faultless_source;
 mod files;
+mod line_refusal;
+mod lines;
 mod memory_shelf;
 mod memory_sink;
 mod memory_source;
@@ -25,6 +28,8 @@ pub use faultless_shelf::FaultlessShelf;
 pub use faultless_sink::FaultlessSink;
 pub use faultless_source::FaultlessSource;
 pub use files::MemoryFile;
+pub use line_refusal::LineRefusal;
+pub use lines::{Lines, MAX_LINE, MAX_LINES};
 pub use memory_shelf::MemoryShelf;
 pub use memory_sink::MemorySink;
 pub use memory_source::MemorySource;
