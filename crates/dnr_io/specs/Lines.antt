@@ -1,6 +1,6 @@
 -- What a reader of lines gives, by what stands ahead of it: the bytes that it has read and not yet given,
 -- and after them those that its source has left.
-use Rattle.std.specs.Prelude.{◌≡◌, ◌⊎◌, ℕ, ◌+◌, ◌<◌, ◌≤◌, List, ◌∷◌, length, Bool, true, Option, Some, None, IfSome}
+use Rattle.std.specs.Prelude.{◌≡◌, ◌≢◌, ◌⊎◌, ℕ, ◌<◌, ◌≤◌, List, [], ◌∷◌, length, Bool, true, Option, Some, None}
 use Rattle.std.specs.Io.KnownBytes.{prepend_known}
 use Rattle.dnr_spec.specs.Lines.{RawLine, raw_lines_of, line_of, is_short, max_line, max_lines}
 
@@ -28,9 +28,13 @@ GivesLine None rest line = Unit {0}
 GivesLine (Some all) None line = ⊥
 GivesLine (Some all) (Some rest) line = IsFirstLine all rest line
 
--- there is a line after the first `count`, and it is too long or one too many
-pub record IsBeyond (count : ℕ) (all : List ℕ) : Type 0 where
+-- the first line of `all` is too long
+pub record StartsTooLong (all : List ℕ) : Type 0 where
   pub raw : RawLine
   pub later : List RawLine
   pub first : raw_lines_of all ≡ raw ∷ later
-  pub beyond : (max_line < length raw.bytes) ⊎ (max_lines ≤ count)
+  pub long : max_line < length raw.bytes
+
+-- after so many lines, the first line of `all` is too long or one too many
+abbrev pub IsBeyond : ℕ → List ℕ → Type 0
+IsBeyond count all = StartsTooLong all ⊎ ((all ≢ []) × (max_lines ≤ count))

@@ -45,7 +45,8 @@ impl Ahead {
     pub fn look<S: Source>(&mut self, source: &mut S) -> Result<bool, Failed>
         ensures bytes { prepend_known self.new (S.left source.new) ≡ prepend_known self.old (S.left source.old) }
         ensures found { IfOk result (λ found. IsTrue found → 0 < length self.new) }
-        ensures end { IfOk result (λ found. IsFalse found → (self.new ≡ []) × IsAtEnd (S.left source.new)) }
+        ensures end { IfOk result (λ found. IsFalse found →
+            (self.old ≡ []) × (self.new ≡ []) × IsAtEnd (S.left source.new)) }
         ensures told { is_some (S.left source.new) ≡ is_some (S.left source.old) }
         ensures files { S.files source.new ≡ S.files source.old }
         ensures cause { HasCause (S.faults source.old) (S.faults source.new) result }

@@ -6,6 +6,7 @@
 #![tactic(auto)]
 
 mod ahead;
+mod all_lines;
 mod dir_shelf;
 mod faultless_shelf;
 mod faultless_sink;
@@ -22,6 +23,7 @@ mod shelf;
 mod sink;
 mod source;
 
+pub use all_lines::read_lines;
 pub use dir_shelf::DirShelf;
 pub use dnr_spec::{NoMemory, Status};
 pub use faultless_shelf::FaultlessShelf;

@@ -1,7 +1,7 @@
 ghost use Rattle.std.specs.Prelude.{◌≡◌};
-ghost use Rattle.dnr_io.specs.declared.line_refusal.LineRefusal.TheVariants.{ReadFault, NoMemory};
+ghost use Rattle.dnr_io.specs.declared.line_refusal.LineRefusal.TheVariants as refusal;
 
-use crate::Failed;
+use crate::{Failed, NoMemory};
 use std::alloc::{AllocError, AllocFailed};
 
 /// Why a line can't be given.
@@ -17,15 +17,23 @@ pub enum LineRefusal {
 }
 
 impl From<Failed> for LineRefusal {
-    ghost from_gives = { λ _ refusal. refusal ≡ ReadFault };
+    ghost from_gives = { λ _ result. result ≡ refusal.ReadFault };
 
     fn from(_: Failed) -> LineRefusal {
         LineRefusal::ReadFault
     }
 }
 
+impl From<NoMemory> for LineRefusal {
+    ghost from_gives = { λ _ result. result ≡ refusal.NoMemory };
+
+    fn from(_: NoMemory) -> LineRefusal {
+        LineRefusal::NoMemory
+    }
+}
+
 impl From<AllocError> for LineRefusal {
-    ghost from_gives = { λ _ refusal. refusal ≡ NoMemory };
+    ghost from_gives = { λ _ result. result ≡ refusal.NoMemory };
 
     fn from(_: AllocError) -> LineRefusal {
         LineRefusal::NoMemory
@@ -33,7 +41,7 @@ impl From<AllocError> for LineRefusal {
 }
 
 impl<T: Drop> From<AllocFailed<T>> for LineRefusal {
-    ghost from_gives = { λ _ refusal. refusal ≡ NoMemory };
+    ghost from_gives = { λ _ result. result ≡ refusal.NoMemory };
 
     fn from(_: AllocFailed<T>) -> LineRefusal {
         LineRefusal::NoMemory

@@ -2,7 +2,7 @@ ghost use Rattle.std.specs.Prelude.{◌≡◌, ◌+◌, ◌<◌, ◌≤◌, [], 
 ghost use Rattle.std.specs.Io.KnownBytes.{IsAtEnd, prepend_known};
 ghost use Rattle.dnr_spec.specs.Lines.{max_line, max_lines, without_cr};
 ghost use Rattle.dnr_io.specs.Faults.{HasCauseOf};
-ghost use Rattle.dnr_io.specs.Lines.{ahead, GivesLine, IsBeyond};
+ghost use Rattle.dnr_io.specs.Lines.{ahead, GivesLine, IsBeyond, StartsTooLong};
 
 use crate::ahead::Ahead;
 use crate::{LineRefusal, NoMemory, Source};
@@ -104,7 +104,7 @@ fn take_line<S: Source>(
         (prepend_known ahead.new (S.left source.new)) line.new.items) }
     ensures within { OnOk result (length line.new.items ≤ max_line) }
     ensures too_long { IsErrOf result LineRefusal.LineTooLong →
-        IfSome (prepend_known ahead.old (S.left source.old)) (IsBeyond 0) }
+        IfSome (prepend_known ahead.old (S.left source.old)) StartsTooLong }
     ensures told { is_some (S.left source.new) ≡ is_some (S.left source.old) }
     ensures files { S.files source.new ≡ S.files source.old }
     ensures cause { HasCauseOf LineRefusal.ReadFault (S.faults source.old) (S.faults source.new) result }
