@@ -5,8 +5,8 @@ use Rattle.dnr_io.specs.Lines.{ahead}
 use Rattle.dnr_io.proofs.ReadSoFar.{ReadSoFar}
 use Rattle.dnr_io.proofs.all_lines.read_lines.Given as goal
 
-abbrev pub invariant-loop-lines : goal.invariant-loop-lines
-invariant-loop-lines g l = record {
+abbrev pub invariant-loop-all : goal.invariant-loop-all
+invariant-loop-all g l = record {
   read : ReadSoFar (g.S.Source.left l.fn.source) (ahead l.lines (g.S.Source.left l.source)) (map (λ line. line.items) l.all.items) l.lines.count;
   few : l.lines.count ≤ max_lines;
   live : IsTrue l.lines.live;
@@ -15,5 +15,5 @@ invariant-loop-lines g l = record {
   later : g.S.Source.faults l.fn.source ≤ g.S.Source.faults l.source;
 }
 
-abbrev pub decreases-loop-lines : goal.decreases-loop-lines
-decreases-loop-lines g l = max_lines - l.lines.count
+abbrev pub decreases-loop-all : goal.decreases-loop-all
+decreases-loop-all g l = max_lines - l.lines.count
