@@ -1,5 +1,6 @@
-ghost use Rattle.std.specs.Prelude.{◌≡◌, ◌≤◌, None, [], length, OnOk};
+ghost use Rattle.std.specs.Prelude.{◌≡◌, ◌≤◌, None, length, OnOk};
 
+use crate::fault::count_fault;
 use crate::{Failed, Shelf, ShelfRefusal, Source};
 use std::fs;
 use std::io::{ErrorKind, Read};
@@ -14,6 +15,7 @@ pub struct DirShelf<'a, R: Files> {
 }
 
 impl<'a, R: Files> DirShelf<'a, R> {
+    /// The shelf of the folder that the program runs in.
     pub fn new(rt: &'a R) -> DirShelf<'a, R>
         ensures { ⟦<DirShelf<'a, R> as Source>⟧.faults result ≡ 0 }
     {
@@ -38,43 +40,33 @@ impl<'a, R: Files> Source for DirShelf<'a, R> {
         let Some(file) = &mut self.reading else {
             return Ok(0);
         };
-        match file.read(buf) {
-            Ok(count) => Ok(count),
-            Err(_) => {
-                self.faults = self.faults.saturating_add(1);
-                Err(Failed)
-            }
-        }
+        let Ok(count) = file.read(buf) else {
+            count_fault(&mut self.faults);
+            return Err(Failed);
+        };
+        Ok(count)
     }
 }
 
 impl<'a, R: Files> Shelf for DirShelf<'a, R> {
     fn fetch(&mut self, name: &str, limit: u64, into: &mut Vec<u8>) -> Result<(), ShelfRefusal> {
-        into.clear();
         let result = read_within(self.rt, name, limit, into);
         if result.is_err() {
             into.clear();
         }
-        match result {
-            Err(ShelfRefusal::Failed) => {
-                self.faults = self.faults.saturating_add(1);
-                Err(ShelfRefusal::Failed)
-            }
-            other => other,
+        if result == Err(ShelfRefusal::Failed) {
+            count_fault(&mut self.faults);
         }
+        result
     }
 
     fn start(&mut self, name: &str) -> Result<(), Failed> {
-        match fs::open(self.rt, name) {
-            Ok(file) => {
-                self.reading = Some(file);
-                Ok(())
-            }
-            Err(_) => {
-                self.faults = self.faults.saturating_add(1);
-                Err(Failed)
-            }
-        }
+        let Ok(file) = fs::open(self.rt, name) else {
+            count_fault(&mut self.faults);
+            return Err(Failed);
+        };
+        self.reading = Some(file);
+        Ok(())
     }
 }
 
@@ -85,12 +77,11 @@ fn read_within<R: Files>(
     limit: u64,
     into: &mut Vec<u8>,
 ) -> Result<(), ShelfRefusal>
-    requires { into.old.items ≡ [] }
     ensures { OnOk result (length into.new.items ≤ limit) }
 {
-    let file = match fs::open(rt, name) {
-        Ok(file) => file,
-        Err(_) => return Err(ShelfRefusal::Failed),
+    into.clear();
+    let Ok(file) = fs::open(rt, name) else {
+        return Err(ShelfRefusal::Failed);
     };
     match file.take(limit.saturating_add(1)).read_to_end(into) {
         Ok(_) if into.len() as u64 <= limit => Ok(()),

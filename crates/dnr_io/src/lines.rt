@@ -54,9 +54,9 @@ impl Lines {
     }
 
     /// Puts the next line, without its LF and a CR before that, in place of what `line` has. `Ok(false)`
-    /// is the end.
+    /// is the end, and leaves `line` empty.
     ///
-    /// After a refusal `line` has any bytes.
+    /// A refusal leaves some first bytes of the line, or none.
     pub fn next<S: Source>(
         &mut self,
         source: &mut S,
@@ -70,7 +70,8 @@ impl Lines {
         ensures counted { IfOk result (λ given. IsTrue given →
             (self.old.count < max_lines) × (self.new.count ≡ self.old.count + 1)) }
         ensures end { IfOk result (λ given. IsFalse given →
-            IsAtEnd (ahead self.old (S.left source.old)) × IsAtEnd (ahead self.new (S.left source.new))) }
+            IsAtEnd (ahead self.old (S.left source.old)) × IsAtEnd (ahead self.new (S.left source.new))
+            × (line.new.items ≡ [])) }
         ensures too_long { IsErrOf result LineRefusal.LineTooLong →
             IfSome (ahead self.old (S.left source.old)) (IsBeyond self.old.count) }
         ensures live { IsTrue self.new.live ↔ (result ≡ Ok true) }
@@ -80,6 +81,7 @@ impl Lines {
         ensures cause { HasCauseOf LineRefusal.ReadFault (S.faults source.old) (S.faults source.new) result }
     {
         self.live = false;
+        line.clear();
         if !self.ahead.look(source)? {
             return Ok(false);
         }
@@ -93,13 +95,14 @@ impl Lines {
     }
 }
 
-// Takes the next line, of which a byte stands ahead.
+// Takes the next line, of which a byte stands ahead, into an empty vector.
 fn take_line<S: Source>(
     ahead: &mut Ahead,
     source: &mut S,
     line: &mut Vec<u8>,
 ) -> Result<(), LineRefusal>
-    requires { 0 < length ahead.old }
+    requires some { 0 < length ahead.old }
+    requires empty { line.old.items ≡ [] }
     ensures line { OnOk result (GivesLine (prepend_known ahead.old (S.left source.old))
         (prepend_known ahead.new (S.left source.new)) line.new.items) }
     ensures within { OnOk result (length line.new.items ≤ max_line) }
@@ -109,7 +112,6 @@ fn take_line<S: Source>(
     ensures files { S.files source.new ≡ S.files source.old }
     ensures cause { HasCauseOf LineRefusal.ReadFault (S.faults source.old) (S.faults source.new) result }
 {
-    line.clear();
     while ahead.look(source)? {
         if ahead.move_to(line)? {
             drop_cr(line);

@@ -1,6 +1,7 @@
 ghost use Rattle.std.specs.Prelude.{◌≡◌, ◌<◌, Some, []};
 ghost use Rattle.dnr_io.specs.Files.{held_in, left_in};
 
+use crate::fault::count_fault;
 use crate::files::{Files, hand_over};
 use crate::plan::Plan;
 use crate::{Failed, MemoryFile, Shelf, ShelfRefusal, Source};
@@ -55,7 +56,7 @@ impl Shelf for MemoryShelf {
             return Err(ShelfRefusal::Failed);
         }
         let Some(bytes) = self.inner.held(name) else {
-            self.plan.fault();
+            count_fault(&mut self.plan.faults);
             return Err(ShelfRefusal::Failed);
         };
         hand_over(bytes, limit, into)
@@ -67,7 +68,7 @@ impl Shelf for MemoryShelf {
         }
         let place = self.inner.place(name);
         if place.is_none() {
-            self.plan.fault();
+            count_fault(&mut self.plan.faults);
             return Err(Failed);
         }
         self.inner.reading = place;

@@ -1,5 +1,6 @@
 ghost use Rattle.std.specs.Prelude.{◌≡◌, ◌<◌, [], Some};
 
+use crate::fault::count_fault;
 use crate::plan::Plan;
 use crate::{Failed, FaultlessSink, Sink};
 use std::alloc::Global;
@@ -50,7 +51,7 @@ impl Sink for MemorySink {
         }
         let count = self.inner.write(piece)?;
         if self.bytes.extend_from_slice(&piece[..count]).is_err() {
-            self.plan.fault();
+            count_fault(&mut self.plan.faults);
             return Err(Failed);
         }
         Ok(count)

@@ -1,5 +1,6 @@
 ghost use Rattle.std.specs.Prelude.{◌≡◌, None};
 
+use crate::fault::count_fault;
 use crate::{Failed, Sink};
 use std::io::Write;
 
@@ -13,6 +14,7 @@ pub struct Output<W> {
 }
 
 impl<W: Write + Drop> Output<W> {
+    /// The writer as a sink that has had no fault.
     pub fn new(inner: W) -> Output<W>
         ensures { ⟦<Output<W> as Sink>⟧.faults result ≡ 0 }
     {
@@ -33,7 +35,7 @@ impl<W: Write + Drop> Sink for Output<W> {
         match self.inner.write(piece) {
             Ok(count) if 0 < count || piece.is_empty() => Ok(count),
             _ => {
-                self.faults = self.faults.saturating_add(1);
+                count_fault(&mut self.faults);
                 Err(Failed)
             }
         }

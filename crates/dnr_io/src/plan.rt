@@ -2,6 +2,8 @@ ghost use Rattle.std.specs.Prelude.{◌≡◌, ◌≤◌};
 ghost use Rattle.std.specs.Bool.{MatchBool};
 ghost use Rattle.dnr_io.specs.Faults.{Rose};
 
+use crate::fault::count_fault;
+
 /// Which calls of an object in memory are to fail, and how many have failed.
 #[derive(Drop)]
 pub struct Plan {
@@ -30,16 +32,8 @@ impl Plan {
         self.calls = self.calls.saturating_add(1);
         let fails = self.failing.contains(&self.calls);
         if fails {
-            self.fault();
+            count_fault(&mut self.faults);
         }
         fails
-    }
-
-    /// Counts a fault.
-    pub fn fault(&mut self)
-        ensures later { self.old.faults ≤ self.new.faults }
-        ensures counted { Rose self.old.faults self.new.faults }
-    {
-        self.faults = self.faults.saturating_add(1);
     }
 }

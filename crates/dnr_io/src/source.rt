@@ -4,9 +4,7 @@ ghost use Rattle.std.specs.Io.KnownBytes.{ReadConsumes};
 ghost use Rattle.dnr_io.specs.Faults.{HasCause};
 ghost use Rattle.dnr_io.specs.Shelf.{Names};
 
-/// A call failed, and the count of faults rose.
-#[derive(Clone, Copy, Debug, PartialEq, Eq)]
-pub struct Failed;
+use crate::Failed;
 
 /// What gives bytes from first to last.
 pub trait Source {
