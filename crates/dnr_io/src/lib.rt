@@ -23,6 +23,8 @@ mod plan;
 mod shelf;
 mod sink;
 mod source;
+#[cfg(test)]
+mod tests;
 
 pub use all_lines::read_lines;
 pub use dir_shelf::DirShelf;

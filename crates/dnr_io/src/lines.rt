@@ -56,7 +56,7 @@ impl Lines {
     /// Puts the next line, without its LF and a CR before that, in place of what `line` has. `Ok(false)`
     /// is the end, and leaves `line` empty.
     ///
-    /// A refusal leaves some first bytes of the line, or none.
+    /// After a refusal `line` may have a part of the line.
     pub fn next<S: Source>(
         &mut self,
         source: &mut S,
