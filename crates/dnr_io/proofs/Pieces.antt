@@ -3,9 +3,9 @@ use Rattle.std.proofs.Common.{◌≡◌, ◌≢◌, ℕ, zero, suc, ◌+◌, ◌
 use Rattle.std.proofs.lemmas.Bool.Decides.{nat_tests}
 use Rattle.std.specs.Prelude.{IfSome}
 use Rattle.std.specs.Io.KnownBytes.{Consumes, IsAtEnd, prepend_known}
-use Rattle.dnr_spec.specs.Lines.{max_line, without_cr, max_lines, is_short, raw_lines_of}
+use Rattle.dnr_spec.specs.Lines.{max_line, line_of, max_lines, is_short, raw_lines_of}
 use Rattle.dnr_io.specs.Ahead.{HasNoLf, MovesPiece, IsTooLong}
-use Rattle.dnr_io.specs.Lines.{GivesLine, IsBeyond, StartsTooLong}
+use Rattle.dnr_io.specs.Lines.{GivesLine, IsBeyond, StartsTooLong, TakesRaw}
 use Rattle.dnr_io.proofs.RawLines.{raw_ended, raw_last, raw_begins}
 
 plain_append : (xs ys : List ℕ) → HasNoLf xs → HasNoLf ys → HasNoLf (xs ++ ys)
@@ -28,39 +28,28 @@ taken_more all before after line grown left taken moves =
 pub plain_more : (before after line grown : List ℕ) (ended : Bool) → HasNoLf line → MovesPiece before after line grown ended → HasNoLf grown
 plain_more before after line grown ended plain moves = subst HasNoLf (sym moves.moved) (plain_append line moves.piece plain moves.first.plain)
 
-short_is : (bytes : List ℕ) (ended : Bool) → length bytes ≤ max_line → is_short (record { bytes = bytes; ended = ended }) ≡ true
-short_is bytes ended short = grind (arith, nat_tests, short)
-
-ended_line : (all left : Option (List ℕ)) (after line : List ℕ) → Consumes all (prepend_known after left) (line ++ 10 ∷ []) → HasNoLf line → length line ≤ max_line → GivesLine all (prepend_known after left) (without_cr line)
-ended_line None left after line taken plain short = tt
-ended_line (Some all) None after line taken plain short = absurd taken
-ended_line (Some all) (Some left) after line taken plain short = record {
-  raw = record { bytes = line; ended = true };
-  first = ap raw_lines_of (taken ∙ append_assoc line (10 ∷ []) (after ++ left)) ∙ raw_ended line (after ++ left) plain;
-  text = refl;
-  short = short_is line true short;
-}
+ended_line : (all left : Option (List ℕ)) (after line : List ℕ) → Consumes all (prepend_known after left) (line ++ 10 ∷ []) → HasNoLf line → TakesRaw all (prepend_known after left) (record { bytes = line; ended = true })
+ended_line None left after line taken plain = tt
+ended_line (Some all) None after line taken plain = absurd taken
+ended_line (Some all) (Some left) after line taken plain =
+    ap raw_lines_of (taken ∙ append_assoc line (10 ∷ []) (after ++ left)) ∙ raw_ended line (after ++ left) plain
 
 -- a line that ends at an LF
-pub ended : (all : Option (List ℕ)) (before after line grown : List ℕ) (left : Option (List ℕ)) (lf : Bool) → lf ≡ true → Consumes all (prepend_known before left) line → HasNoLf line → MovesPiece before after line grown lf → length grown ≤ max_line → GivesLine all (prepend_known after left) (without_cr grown)
-ended all before after line grown left false is taken plain moves short = absurd (cc is)
-ended all before after line grown left true is taken plain moves short =
+pub ended : (all : Option (List ℕ)) (before after line grown : List ℕ) (left : Option (List ℕ)) (lf : Bool) → lf ≡ true → Consumes all (prepend_known before left) line → HasNoLf line → MovesPiece before after line grown lf → TakesRaw all (prepend_known after left) (record { bytes = grown; ended = true })
+ended all before after line grown left false is taken plain moves = absurd (cc is)
+ended all before after line grown left true is taken plain moves =
     let with_lf : before ≡ (moves.piece ++ 10 ∷ []) ++ after = moves.first.front ∙ sym (append_assoc moves.piece (10 ∷ []) after) in
     let all_taken = consumes_piece all before (moves.piece ++ 10 ∷ []) after line left with_lf taken in
     let grown_lf : line ++ (moves.piece ++ 10 ∷ []) ≡ grown ++ 10 ∷ [] = sym (append_assoc line moves.piece (10 ∷ [])) ∙ ap (λ xs. xs ++ 10 ∷ []) (sym moves.moved) in
-    ended_line all left after grown (subst (λ xs. Consumes all (prepend_known after left) xs) grown_lf all_taken) (plain_more before after line grown true plain moves) short
+    ended_line all left after grown (subst (λ xs. Consumes all (prepend_known after left) xs) grown_lf all_taken) (plain_more before after line grown true plain moves)
 
 -- the last line, which has no LF
-pub last : (all left : Option (List ℕ)) (pending line : List ℕ) → Consumes all (prepend_known pending left) line → pending ≡ [] → IsAtEnd left → HasNoLf line → 0 < length line → length line ≤ max_line → GivesLine all (prepend_known pending left) line
-last None left pending line taken none end plain some short = tt
-last (Some all) None pending line taken none end plain some short = absurd taken
-last (Some all) (Some left) pending line taken none end plain some short =
-    let is : all ≡ line = taken ∙ ap (λ xs. line ++ (xs ++ left)) none ∙ ap (λ xs. line ++ xs) end ∙ append-nil line in record {
-      raw = record { bytes = line; ended = false };
-      first = rw (is, none, end) (raw_last line plain some);
-      text = refl;
-      short = short_is line false short;
-    }
+pub last : (all left : Option (List ℕ)) (pending line : List ℕ) → Consumes all (prepend_known pending left) line → pending ≡ [] → IsAtEnd left → HasNoLf line → 0 < length line → TakesRaw all (prepend_known pending left) (record { bytes = line; ended = false })
+last None left pending line taken none end plain some = tt
+last (Some all) None pending line taken none end plain some = absurd taken
+last (Some all) (Some left) pending line taken none end plain some =
+    let is : all ≡ line = taken ∙ ap (λ xs. line ++ (xs ++ left)) none ∙ ap (λ xs. line ++ xs) end ∙ append-nil line in
+    rw (is, none, end) (raw_last line plain some)
 
 too_long : (all : List ℕ) (line piece rest left : List ℕ) → all ≡ line ++ ((piece ++ rest) ++ left) → HasNoLf line → HasNoLf piece → max_line < length line + length piece → StartsTooLong all
 too_long all line piece rest left e plain plain_piece long =
@@ -88,3 +77,15 @@ pub one_more : (was : Option (List ℕ)) (pending : List ℕ) (left : Option (Li
 one_more was [] left count e some full = absurd (omega arith)
 one_more was (b ∷ pending) None count e some full = subst (λ w. IfSome w (IsBeyond count)) e tt
 one_more was (b ∷ pending) (Some left) count e some full = subst (λ w. IfSome w (IsBeyond count)) e (inr ((λ (none : _). absurd (cons_nil b (pending ++ left) none)), full))
+
+short_is : (bytes : List ℕ) (ended : Bool) → length bytes ≤ max_line → is_short (record { bytes = bytes; ended = ended }) ≡ true
+short_is bytes ended short = grind (arith, nat_tests, short)
+
+-- a line is a raw line of which the CR before its LF is dropped
+pub gives_line : (all rest : Option (List ℕ)) (bytes line : List ℕ) (ended : Bool) → TakesRaw all rest (record { bytes = bytes; ended = ended }) → line ≡ line_of (record { bytes = bytes; ended = ended }) → length bytes ≤ max_line → GivesLine all rest line
+gives_line all rest bytes line ended first text short = record {
+  raw = record { bytes = bytes; ended = ended };
+  first = first;
+  text = text;
+  short = short_is bytes ended short;
+}

@@ -8,7 +8,7 @@ use Rattle.std.specs.Prelude.{IfSome, ◌&&◌, ◌==◌, nat_le, if◌then◌el
 use Rattle.std.specs.List.{list_all}
 use Rattle.std.specs.Io.KnownBytes.{IsAtEnd, prepend_known}
 use Rattle.dnr_spec.specs.Lines.{RawLine, raw_lines_of, onto_first, line_of, lines_of, is_short, is_within_limits, max_line, max_lines}
-use Rattle.dnr_io.specs.Lines.{GivesLine, IsBeyond, IsFirstLine, StartsTooLong}
+use Rattle.dnr_io.specs.Lines.{GivesLine, IsBeyond, StartsTooLong}
 
 -- so many lines of the script were read, and `rest` is left
 pub record IsReadSoFar (script rest : List ℕ) (lines : List (List ℕ)) (count : ℕ) : Type 0 where
@@ -30,7 +30,7 @@ none_read (Some script) = record { raws = []; first = refl; texts = refl; short 
 pub one_read : (script before after : Option (List ℕ)) (lines : List (List ℕ)) (count now : ℕ) (line : List ℕ) → ReadSoFar script before lines count → GivesLine before after line → now ≡ count + 1 → ReadSoFar script after (lines ++ line ∷ []) now
 one_read None before after lines count now line read gives up = tt
 one_read (Some script) None after lines count now line read gives up = absurd read
-one_read (Some script) (Some before) None lines count now line read gives up = absurd gives
+one_read (Some script) (Some before) None lines count now line read gives up = absurd gives.first
 one_read (Some script) (Some before) (Some after) lines count now line read gives up = record {
   raws = read.raws ++ gives.raw ∷ [];
   first = read.first ∙ ap (λ raws. read.raws ++ raws) gives.first ∙ sym (append_assoc read.raws (gives.raw ∷ []) (raw_lines_of after));

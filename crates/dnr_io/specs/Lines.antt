@@ -15,18 +15,18 @@ pub record Reading : Type 0 where
 abbrev pub ahead : Reading → Option (List ℕ) → Option (List ℕ)
 ahead reading left = prepend_known reading.pending left
 
--- `line` is the first line of `all` and within the limit, and `rest` are the bytes after it
-pub record IsFirstLine (all rest line : List ℕ) : Type 0 where
+-- `raw` is the first raw line of what stood ahead, and `rest` stands after it
+abbrev pub TakesRaw : Option (List ℕ) → Option (List ℕ) → RawLine → Type 0
+TakesRaw None rest raw = Unit {0}
+TakesRaw (Some all) None raw = ⊥
+TakesRaw (Some all) (Some rest) raw = raw_lines_of all ≡ raw ∷ raw_lines_of rest
+
+-- `line` is the first line of what stood ahead, and within the limit
+pub record GivesLine (all rest : Option (List ℕ)) (line : List ℕ) : Type 0 where
   pub raw : RawLine
-  pub first : raw_lines_of all ≡ raw ∷ raw_lines_of rest
+  pub first : TakesRaw all rest raw
   pub text : line ≡ line_of raw
   pub short : is_short raw ≡ true
-
--- the same of bytes that may be told
-abbrev pub GivesLine : Option (List ℕ) → Option (List ℕ) → List ℕ → Type 0
-GivesLine None rest line = Unit {0}
-GivesLine (Some all) None line = ⊥
-GivesLine (Some all) (Some rest) line = IsFirstLine all rest line
 
 -- the first line of `all` is too long
 pub record StartsTooLong (all : List ℕ) : Type 0 where

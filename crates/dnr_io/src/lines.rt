@@ -2,7 +2,7 @@ ghost use Rattle.std.specs.Prelude.{◌≡◌, ◌+◌, ◌<◌, ◌≤◌, [], 
 ghost use Rattle.std.specs.Io.KnownBytes.{IsAtEnd, prepend_known};
 ghost use Rattle.dnr_spec.specs.Lines.{max_line, max_lines, without_cr};
 ghost use Rattle.dnr_io.specs.Faults.{HasCauseOf};
-ghost use Rattle.dnr_io.specs.Lines.{ahead, GivesLine, IsBeyond, StartsTooLong};
+ghost use Rattle.dnr_io.specs.Lines.{ahead, GivesLine, IsBeyond, StartsTooLong, TakesRaw};
 
 use crate::ahead::Ahead;
 use crate::{LineRefusal, NoMemory, Source};
@@ -88,23 +88,26 @@ impl Lines {
         if self.count == MAX_LINES {
             return Err(LineRefusal::LineTooLong);
         }
-        take_line(&mut self.ahead, source, line)?;
+        if take_raw_line(&mut self.ahead, source, line)? {
+            drop_cr(line);
+        }
         self.count += 1;
         self.live = true;
         Ok(true)
     }
 }
 
-// Takes the next line, of which a byte stands ahead, into an empty vector.
-fn take_line<S: Source>(
+// Takes the next line, of which a byte stands ahead, into an empty vector, and says whether it ended at
+// an LF.
+fn take_raw_line<S: Source>(
     ahead: &mut Ahead,
     source: &mut S,
     line: &mut Vec<u8>,
-) -> Result<(), LineRefusal>
+) -> Result<bool, LineRefusal>
     requires some { 0 < length ahead.old }
     requires empty { line.old.items ≡ [] }
-    ensures line { OnOk result (GivesLine (prepend_known ahead.old (S.left source.old))
-        (prepend_known ahead.new (S.left source.new)) line.new.items) }
+    ensures raw { IfOk result (λ ended. TakesRaw (prepend_known ahead.old (S.left source.old))
+        (prepend_known ahead.new (S.left source.new)) (record { bytes = line.new.items; ended = ended })) }
     ensures within { OnOk result (length line.new.items ≤ max_line) }
     ensures too_long { IsErrOf result LineRefusal.LineTooLong →
         IfSome (prepend_known ahead.old (S.left source.old)) StartsTooLong }
@@ -114,11 +117,10 @@ fn take_line<S: Source>(
 {
     while ahead.look(source)? {
         if ahead.move_to(line)? {
-            drop_cr(line);
-            break;
+            return Ok(true);
         }
     }
-    Ok(())
+    Ok(false)
 }
 
 fn drop_cr(line: &mut Vec<u8>)

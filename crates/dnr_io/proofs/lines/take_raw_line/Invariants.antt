@@ -2,7 +2,7 @@ use Rattle.std.proofs.Common.{◌≡◌, ◌+◌, ◌-◌, ◌<◌, ◌≤◌, l
 use Rattle.std.specs.Io.KnownBytes.{Consumes, prepend_known}
 use Rattle.dnr_spec.specs.Lines.{max_line}
 use Rattle.dnr_io.specs.Ahead.{HasNoLf}
-use Rattle.dnr_io.proofs.lines.take_line.Given as goal
+use Rattle.dnr_io.proofs.lines.take_raw_line.Given as goal
 
 abbrev pub invariant-loop-ahead : goal.invariant-loop-ahead
 invariant-loop-ahead g l = record {
