@@ -1,10 +1,10 @@
-ghost use Rattle.std.specs.Prelude.{◌≡◌, None};
+ghost use Rattle.std.specs.Prelude.{◌≡◌};
 
 use crate::fault::count_fault;
 use crate::{Failed, Sink};
 use std::io::Write;
 
-/// A writer of the standard library as a sink, such as standard output. It tells nothing of what it took.
+/// A writer of the standard library as a sink, such as standard output, which tells nothing.
 ///
 /// The writer must not keep back what it says that it took, since a fault would then be lost.
 #[derive(Drop)]
@@ -16,14 +16,15 @@ pub struct Output<W> {
 impl<W: Write + Drop> Output<W> {
     /// The writer as a sink that has had no fault.
     pub fn new(inner: W) -> Output<W>
-        ensures { ⟦<Output<W> as Sink>⟧.faults result ≡ 0 }
+        ensures taken { ⟦<Output<W> as Sink>⟧.taken result ≡ W.contents inner }
+        ensures faults { ⟦<Output<W> as Sink>⟧.faults result ≡ 0 }
     {
         Output { inner, faults: 0 }
     }
 }
 
 impl<W: Write + Drop> Sink for Output<W> {
-    ghost taken = { λ _. None };
+    ghost taken = { λ output. W.contents output.inner };
 
     ghost faults = { λ output. output.faults };
 

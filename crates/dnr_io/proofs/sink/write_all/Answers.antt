@@ -11,6 +11,5 @@ loop-rest-preserved g c =
       was.0 ++ take count rest,
       appends_append _ _ _ was.0 (take count rest) was.1 wrote.bytes,
       rejoin c.args.bytes.now was.0 rest count was.2,
-      wrote.told ∙ was.3,
-      omega (arith, wrote.cause.later, was.4),
+      omega (arith, wrote.cause.later, was.3),
     )
