@@ -1,4 +1,4 @@
-ghost use Rattle.std.specs.Prelude.{◌<◌, None};
+ghost use Rattle.std.specs.Prelude.{◌≡◌, ◌<◌, None};
 
 use crate::{Failed, Sink};
 
@@ -13,6 +13,7 @@ impl FaultlessSink {
     /// A write takes at most `most` bytes.
     pub fn new(most: usize) -> FaultlessSink
         requires { 0 < most }
+        ensures { ⟦<FaultlessSink as Sink>⟧.faults result ≡ 0 }
     {
         FaultlessSink { most }
     }

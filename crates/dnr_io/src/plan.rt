@@ -1,4 +1,5 @@
-ghost use Rattle.std.specs.Prelude.{◌≡◌, ◌≤◌};
+ghost use Rattle.std.specs.Prelude.{◌≡◌, ◌+◌, ◌-◌, ◌^◌, ◌≤◌, ◌==◌, min};
+ghost use Rattle.std.specs.List.{list_any};
 ghost use Rattle.std.specs.Bool.{MatchBool};
 ghost use Rattle.dnr_io.specs.Faults.{Rose};
 
@@ -15,7 +16,9 @@ pub struct Plan {
 impl Plan {
     /// The calls of these numbers fail, counted from 1.
     pub fn new(failing: Vec<u64>) -> Plan
-        ensures { result.faults ≡ 0 }
+        ensures failing { result.failing.items ≡ failing.items }
+        ensures calls { result.calls ≡ 0 }
+        ensures faults { result.faults ≡ 0 }
     {
         Plan {
             failing,
@@ -26,6 +29,9 @@ impl Plan {
 
     /// Counts a call, and a fault where the call is one that fails.
     pub fn fails(&mut self) -> bool
+        ensures calls { self.new.calls ≡ min (self.old.calls + 1) (2 ^ 64 - 1) }
+        ensures listed { result ≡ list_any (λ call. call == self.new.calls) self.old.failing.items }
+        ensures failing { self.new.failing.items ≡ self.old.failing.items }
         ensures later { self.old.faults ≤ self.new.faults }
         ensures counted { MatchBool result (Rose self.old.faults self.new.faults) (self.new.faults ≡ self.old.faults) }
     {
