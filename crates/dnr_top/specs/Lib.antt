@@ -1,0 +1,4 @@
+pub mod Rule
+pub mod RuleFile
+pub mod Output
+pub mod Words
