@@ -115,4 +115,4 @@ two_files_are_served = record {
 }
 
 pub usage_is_for_bad_words : UsageIsForBadWords
-usage_is_for_bad_words = ((refl, refl), λ written h. h)
+usage_is_for_bad_words = ((refl, refl), (λ written h. h), λ written h. absurd (omega (arith, h)))

@@ -13,11 +13,13 @@ use Rattle.dnr_spec.specs.UrlView.{view_of}
 use Rattle.dnr_spec.specs.UrlFilter.{fits}
 use Rattle.dnr_spec.specs.Lines.{lines_of}
 use Rattle.dnr_spec.specs.Rule.{Action, block, allow, Rule}
-use Rattle.dnr_spec.specs.RuleFile.{FileRefusal, bad_json, bad_rule, rules_of}
+use Rattle.dnr_spec.specs.FileRefusal.{FileRefusal, bad_json, bad_rule}
+use Rattle.dnr_spec.specs.RuleFile.{rules_of}
 use Rattle.dnr_spec.specs.Request.{Request}
 use Rattle.dnr_spec.specs.State.{RuleSet, State}
 use Rattle.dnr_spec.specs.Scan.{scan}
 use Rattle.dnr_spec.specs.Output.{refusal_line}
+use Rattle.dnr_spec.specs.Faults.{Count}
 use Rattle.dnr_spec.specs.Words.{task_of}
 use Rattle.dnr_spec.specs.Out.{Files, opening, replies, Out}
 
@@ -264,14 +266,19 @@ MatchTakesTwoFileNames =
 abbrev pub two_files : Files
 two_files name = if bytes_eq name (codes "r.json") then Some (codes "[]") else (if bytes_eq name (codes "s.jsonl") then Some (request_line (codes "script") ++ codes "\n") else None)
 
+-- no fault
+abbrev pub none : Count
+none = record { before = 0; now = 0 }
+
 -- The two files are served, with the one line that says `none`.
 abbrev pub TwoFilesAreServed : Type 0
 TwoFilesAreServed =
-    Out (codes "match" ∷ codes "r.json" ∷ codes "s.jsonl" ∷ []) two_files status.Done
+    Out (codes "match" ∷ codes "r.json" ∷ codes "s.jsonl" ∷ []) two_files none none status.Done
     (codes "{\"line\":1,\"generation\":0,\"verdict\":\"none\"}\n")
 
--- A command without its files ends with Usage, and one with them never does.
+-- A command without its files ends with Usage, and one with them never does. Where nothing failed no fault is told.
 abbrev pub UsageIsForBadWords : Type 0
 UsageIsForBadWords =
-    Out (codes "match" ∷ codes "a" ∷ []) two_files status.Usage []
-    × ((written : List ℕ) → Out (codes "match" ∷ codes "r.json" ∷ codes "s.jsonl" ∷ []) two_files status.Usage written → ⊥)
+    Out (codes "match" ∷ codes "a" ∷ []) two_files none none status.Usage []
+    × ((written : List ℕ) → Out (codes "match" ∷ codes "r.json" ∷ codes "s.jsonl" ∷ []) two_files none none status.Usage written → ⊥)
+    × ((written : List ℕ) → Out (codes "match" ∷ codes "r.json" ∷ codes "s.jsonl" ∷ []) two_files none none status.ReadFault written → ⊥)

@@ -5,12 +5,14 @@ use Rattle.dnr_spec.specs.declared.status.Status.{Status}
 use Rattle.dnr_spec.specs.declared.status.Status.TheVariants as status
 use Rattle.dnr_spec.specs.Lines.{lines_of, is_within_limits, is_blank}
 use Rattle.dnr_spec.specs.Rule.{Rule}
-use Rattle.dnr_spec.specs.RuleFile.{max_file, FileRefusal, rules_of}
+use Rattle.dnr_spec.specs.FileRefusal.{FileRefusal}
+use Rattle.dnr_spec.specs.RuleFile.{max_file, rules_of}
 use Rattle.dnr_spec.specs.Request.{Request}
 use Rattle.dnr_spec.specs.RequestLine.{request_of}
 use Rattle.dnr_spec.specs.State.{State}
 use Rattle.dnr_spec.specs.Scan.{scan}
 use Rattle.dnr_spec.specs.Output.{verdict_line, bad_line, refusal_line}
+use Rattle.dnr_spec.specs.Faults.{Rose, Count}
 use Rattle.dnr_spec.specs.Words.{Task, task_of}
 
 -- what each name holds, if there is a file of that name
@@ -76,21 +78,22 @@ pub record HasLongLine (files : Files) (task : Task) : Type 0 where
   pub started : files task.script ≡ Some script
   pub beyond : is_within_limits script ≡ false
 
--- what a status says of a task
-abbrev pub Ends : Files → Task → List ℕ → Status → Type 0
-Ends files task written status.Done = IsServed files task written
-Ends files task written status.Refused = IsRefused files task written
-Ends files task written status.Usage = ⊥
-Ends files task written status.ReadFault = Unit {0}
-Ends files task written status.WriteFault = Unit {0}
-Ends files task written status.NoMemory = Unit {0}
-Ends files task written status.FileTooLong = HasLongFile files task ⊎ HasLongLine files task
+-- what a status says of a task, where the faults of the shelf and of the sink were counted so
+abbrev pub Ends : Files → Task → Count → Count → List ℕ → Status → Type 0
+Ends files task shelf sink written status.Done = IsServed files task written
+Ends files task shelf sink written status.Refused = IsRefused files task written
+Ends files task shelf sink written status.Usage = ⊥
+Ends files task shelf sink written status.ReadFault = Rose shelf.before shelf.now
+Ends files task shelf sink written status.WriteFault = Rose sink.before sink.now
+Ends files task shelf sink written status.NoMemory = Unit {0}
+Ends files task shelf sink written status.FileTooLong = HasLongFile files task ⊎ HasLongLine files task
 
 -- words that say no command end with Usage alone, and write nothing
-abbrev pub EndsFor : Files → Option Task → Status → List ℕ → Type 0
-EndsFor files None ended written = (ended ≡ status.Usage) × (written ≡ [])
-EndsFor files (Some task) ended written = Ends files task written ended
+abbrev pub EndsFor : Files → Count → Count → Option Task → Status → List ℕ → Type 0
+EndsFor files shelf sink None ended written = (ended ≡ status.Usage) × (written ≡ [])
+EndsFor files shelf sink (Some task) ended written = Ends files task shelf sink written ended
 
--- this status and these bytes are allowed for these words and files
-abbrev pub Out : List (List ℕ) → Files → Status → List ℕ → Type 0
-Out words files ended written = EndsFor files (task_of words) ended written
+-- This status and these bytes are allowed for these words, files and faults. What stands written is said for
+-- Done, Refused and Usage; a run that ends otherwise may stop anywhere.
+abbrev pub Out : List (List ℕ) → Files → Count → Count → Status → List ℕ → Type 0
+Out words files shelf sink ended written = EndsFor files shelf sink (task_of words) ended written

@@ -6,8 +6,7 @@ use Rattle.dnr_spec.specs.declared.kind.Kind.{Kind}
 use Rattle.dnr_spec.specs.Kind.{kind_named}
 use Rattle.dnr_spec.specs.View.{View}
 use Rattle.dnr_spec.specs.UrlView.{view_of}
-use Rattle.dnr_spec.specs.Json.{tree_of, text_at}
-use Rattle.dnr_spec.specs.RuleFile.{is_object_of}
+use Rattle.dnr_spec.specs.Json.{tree_of, text_at, is_object_of}
 use Rattle.dnr_spec.specs.Request.{Request}
 
 abbrev pub request_keys : List (List ℕ)

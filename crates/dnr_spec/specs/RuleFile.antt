@@ -1,15 +1,15 @@
 -- A rules file: a JSON list of rules, of which each has an id of its own. The first rule that breaks the
 -- form refuses the file.
 use Rattle.std.specs.Prelude.{◌≡◌, ℕ, List, [], ◌∷◌, ◌++◌, length, codes, Bool, true, false, ◌==◌, ◌&&◌, nat_le, Option, Some, None, option_and_then, Result, Ok, Err, if◌then◌else◌}
-use Rattle.std.specs.Option.{option_map_or}
 use Rattle.std.specs.List.{list_any}
 use Rattle.std.specs.Str.{bytes_eq}
 use Rattle.serde_json.specs.Data.{Data, Items, no_items, item}
-use Rattle.serde_json.specs.Find.{get, as_object, as_array}
+use Rattle.serde_json.specs.Find.{get, as_array}
 use Rattle.dnr_spec.specs.declared.rule_fault.RuleFault.{RuleFault}
 use Rattle.dnr_spec.specs.declared.rule_fault.RuleFault.TheVariants as fault
 use Rattle.dnr_spec.specs.Kind.{default_kinds}
-use Rattle.dnr_spec.specs.Json.{tree_of, whole_number, text_at, has_only}
+use Rattle.dnr_spec.specs.Json.{tree_of, whole_number, text_at, is_object_of}
+use Rattle.dnr_spec.specs.FileRefusal.{FileRefusal, bad_json, bad_rule}
 use Rattle.dnr_spec.specs.Rule.{Condition, Action, block, allow, Rule}
 
 -- the most bytes of a rules file
@@ -22,10 +22,6 @@ in_range n = if nat_le 1 n && nat_le n 2147483647 then Some n else None
 
 abbrev pub number_of : Data → Option ℕ
 number_of d = option_and_then in_range (whole_number d)
-
--- the object has no other keys than these
-abbrev pub is_object_of : List (List ℕ) → Data → Bool
-is_object_of keys d = option_map_or (has_only keys) (as_object d) false
 
 abbrev pub rule_keys : List (List ℕ)
 rule_keys = codes "id" ∷ codes "priority" ∷ codes "condition" ∷ codes "action" ∷ []
@@ -71,11 +67,6 @@ read_rule is_taken d =
 -- a rule of this id is among these
 abbrev pub has_id : List Rule → ℕ → Bool
 has_id rules id = list_any (λ rule. rule.id == id) rules
-
--- why a file is refused: at the place of a rule, counted from 0
-pub data FileRefusal : Type 0 where
-  bad_json : FileRefusal
-  bad_rule : ℕ → RuleFault → FileRefusal
 
 -- goes on with the rule, or stops at its fault
 abbrev pub read_next : (Rule → Result (List Rule) FileRefusal) → ℕ → Result Rule RuleFault → Result (List Rule) FileRefusal

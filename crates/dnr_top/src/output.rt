@@ -3,9 +3,11 @@ ghost use Rattle.std.specs.Prelude.{◌≡◌, ◌++◌, codes, decimal, OnOk, I
 ghost use Rattle.json.specs.Print.{quoted};
 ghost use Rattle.dnr_spec.specs.Output as spec;
 ghost use Rattle.dnr_top.specs.Output.{name_seen, verdict_seen};
+ghost use Rattle.dnr_top.specs.RuleFile.{refusal_seen};
 
 
-use dnr_spec::{NoMemory, Outcome};
+use crate::rule_file::FileRefusal;
+use dnr_spec::{NoMemory, Outcome, RuleFault};
 use serde_json::Value;
 use std::alloc::Global;
 
@@ -95,4 +97,46 @@ pub fn write_bad(line: u32, into: &mut String) -> Result<(), NoMemory>
 {
     write!(into, "{{\"line\":{line},\"bad\":\"not-yet-supported\"}}\n")?;
     Ok(())
+}
+
+/// Appends what a rules file of this name prints that is refused, unless memory ran out.
+pub fn write_refusal(
+    alloc: Global,
+    file: &str,
+    refusal: &FileRefusal,
+    into: &mut String,
+) -> Result<(), NoMemory>
+    ensures { OnOk result (string_bytes into.new ≡ string_bytes into.old ++ spec.refusal_line file.now (refusal_seen refusal.now)) }
+{
+    let file = quoted_text(alloc, file)?;
+    write!(into, "{{\"file\":{file},\"refused\":")?;
+    write_cause(refusal, into)?;
+    into.push_str("}\n")?;
+    Ok(())
+}
+
+fn write_cause(refusal: &FileRefusal, into: &mut String) -> Result<(), NoMemory>
+    ensures { OnOk result (string_bytes into.new ≡ string_bytes into.old ++ spec.refusal_fields (refusal_seen refusal.now)) }
+{
+    match refusal {
+        FileRefusal::BadJson => into.push_str("\"bad-json\"")?,
+        FileRefusal::BadRule(place, fault) => {
+            let path = fault_name(*fault);
+            write!(into, "\"not-yet-supported\",\"place\":{place},\"path\":\"{path}\"")?;
+        }
+    }
+    Ok(())
+}
+
+fn fault_name(fault: RuleFault) -> &'static str
+    ensures { result.now ≡ spec.fault_name fault }
+{
+    match fault {
+        RuleFault::Rules => "rules",
+        RuleFault::Rule => "rule",
+        RuleFault::Id => "id",
+        RuleFault::Priority => "priority",
+        RuleFault::Condition => "condition",
+        RuleFault::Action => "action",
+    }
 }

@@ -16,13 +16,20 @@ use serde_json::Value;
 use std::alloc::{AllocError, AllocFailed, Global};
 use std::collections::BTreeSet;
 
-/// Why a file has no rules.
+/// How a rules file breaks its form.
 #[derive(Clone, Copy, Debug, PartialEq, Eq)]
-pub enum RulesRefusal {
+pub enum FileRefusal {
     /// The file is no JSON.
     BadJson,
     /// The rule at this place, counted from 0, breaks the form.
     BadRule(usize, RuleFault),
+}
+
+/// Why a file gives no rules.
+#[derive(Clone, Copy, Debug, PartialEq, Eq)]
+pub enum RulesRefusal {
+    /// The file breaks its form.
+    BadFile(FileRefusal),
     /// Memory ran out.
     NoMemory,
 }
@@ -65,7 +72,7 @@ pub fn read_rules(alloc: Global, bytes: &[u8]) -> Result<Vec<Rule>, RulesRefusal
 {
     match read_tree(alloc, bytes)? {
         Some(tree) => read_value(alloc, &tree),
-        None => Err(RulesRefusal::BadJson),
+        None => Err(RulesRefusal::BadFile(FileRefusal::BadJson)),
     }
 }
 
@@ -76,7 +83,7 @@ fn read_value(alloc: Global, tree: &Value) -> Result<Vec<Rule>, RulesRefusal>
 {
     match tree.as_array() {
         Some(values) => read_list(alloc, values),
-        None => Err(RulesRefusal::BadRule(0, RuleFault::Rules)),
+        None => Err(bad_rule(0, RuleFault::Rules)),
     }
 }
 
@@ -93,10 +100,16 @@ fn read_list(alloc: Global, values: &[Value]) -> Result<Vec<Rule>, RulesRefusal>
                 taken.insert(rule.id)?;
                 rules.push(rule)?;
             }
-            Err(fault) => return Err(RulesRefusal::BadRule(rules.len(), fault)),
+            Err(fault) => return Err(bad_rule(rules.len(), fault)),
         }
     }
     Ok(rules)
+}
+
+fn bad_rule(place: usize, fault: RuleFault) -> RulesRefusal
+    ensures { result ≡ RulesRefusal.BadFile (FileRefusal.BadRule place fault) }
+{
+    RulesRefusal::BadFile(FileRefusal::BadRule(place, fault))
 }
 
 // Reads a rule whose id is not one of those that are taken.

@@ -28,7 +28,7 @@ pub fn read_tree(alloc: Global, bytes: &[u8]) -> Result<Option<Value>, NoMemory>
 
 /// Whether the value is an object with no other keys than these.
 pub fn is_object_of(value: &Value, keys: &[&str]) -> bool
-    ensures { result ≡ form.is_object_of (map (λ key. key.now) keys.now) (view value.now) }
+    ensures { result ≡ spec.is_object_of (map (λ key. key.now) keys.now) (view value.now) }
 {
     match value.as_object() {
         Some(members) => has_only(members, keys),
