@@ -75,7 +75,7 @@ plain_body url valid none =
     let bare = bare_without_authority url valid.head none in
     rw (none, bare.0, bare.1, bare.2) (simp append-nil)
 
-no_host_span : (url : Parts) → IsValid url → url.host ≡ None → host_span (text_before url AfterQuery) ≡ None
+pub no_host_span : (url : Parts) → IsValid url → url.host ≡ None → host_span (text_before url AfterQuery) ≡ None
 no_host_span url valid none =
     let place = λ (o : Option (List ℕ)). option_map (λ authority. host_at (length (scheme_part (text_before url AfterQuery)) + 3) authority (host_and_port authority)) o in
     ap (λ b. place (option_and_then authority_in b)) (body_part-text url valid ∙ ap Some (plain_body url valid none))
@@ -90,7 +90,7 @@ split_slash xs (b ∷ path) none first =
     let slash : b ≡ 47 = ⊎_elim (λ empty. absurd (let no = ap length empty in omega arith)) (λ e. e) first in
     ap (λ c. (split_once 47 (xs ++ c ∷ path)).0) slash ∙ ap (λ r. r.0) (split_once_at 47 xs path none)
 
-own_path : (url : Parts) → IsValid url → has_authority url ≡ true → (url.path ≡ []) ⊎ (get_or url.path 0 0 ≡ 47)
+pub own_path : (url : Parts) → IsValid url → has_authority url ≡ true → (url.path ≡ []) ⊎ (get_or url.path 0 0 ≡ 47)
 own_path url valid some = rooted (kind_of url) url.path (hierarchical url valid.path (base_from_authority url some)).0
 
 rich_body : (url : Parts) → has_authority url ≡ true → body url ≡ 47 ∷ 47 ∷ (text_between url BeforeUsername AfterPort ++ url.path)
@@ -126,7 +126,7 @@ own_host_start url some =
 abbrev pub own_span : Parts → Span
 own_span url = record { start = offset url BeforeHost; end = offset url AfterHost }
 
-own_host_span : (url : Parts) → IsValid url → has_authority url ≡ true → host_span (text_before url AfterQuery) ≡ Some (own_span url)
+pub own_host_span : (url : Parts) → IsValid url → has_authority url ≡ true → host_span (text_before url AfterQuery) ≡ Some (own_span url)
 own_host_span url valid some =
     let after = (split_at_sign url valid.head).after in
     let scheme = scheme_part-text url valid in
