@@ -1,27 +1,26 @@
 -- Where the serialization of a URL shows its scheme, its host and its fragment.
-use Rattle.std.proofs.Common.{◌≡◌, ◌≢◌, ℕ, ◌+◌, ◌-◌, ◌<◌, ◌≤◌, Bool, true, false, cond, not, ◌&&◌, ◌||◌, ◌==◌, ◌⊎◌, List, [], ◌∷◌, ◌++◌, length, get_or, take, drop, Option, Some, None, All, sym, refl, ap, ◌∙◌, subst, inl, inr, ⊎_elim, append_assoc, append-nil, arith, length-append}
+use Rattle.std.proofs.Common.{◌≡◌, ℕ, ◌+◌, ◌-◌, Bool, true, false, cond, ◌&&◌, ◌==◌, ◌⊎◌, List, [], ◌∷◌, ◌++◌, length, get_or, take, drop, Option, Some, None, All, sym, refl, ap, ◌∙◌, inl, inr, ⊎_elim, append_assoc, append-nil, arith, length-append}
 use Rattle.std.specs.Prelude.{is_some, unwrap_or, option_map, option_and_then, decimal, codes, nat_eq}
 use Rattle.std.specs.List.{concat, starts_with}
-use Rattle.std.proofs.lemmas.Bool.{cond-true, cond-false, cases_Bool}
+use Rattle.std.proofs.lemmas.Bool.{cond-false, cases_Bool}
 use Rattle.std.proofs.lemmas.Bool.Decides.{nat_tests}
 use Rattle.std.proofs.lemmas.List.Elements.{All-weaker}
-use Rattle.url.specs.declared.slicing.Position.TheVariants.{BeforeUsername, BeforeHost, AfterHost, AfterPort, AfterPath, AfterQuery}
-use Rattle.url.specs.declared.host.Host.{Host}
-use Rattle.url.specs.Input.{when, split_once, rsplit_once}
+use Rattle.url.specs.declared.slicing.Position.TheVariants.{BeforeUsername, BeforeHost, AfterHost, AfterPort, AfterQuery}
+use Rattle.url.specs.Input.{when, split_once}
 use Rattle.url.specs.Scheme.{IsScheme, is_scheme_byte}
 use Rattle.url.specs.Host.{host_text}
 use Rattle.url.specs.Parser.{host_len}
-use Rattle.url.specs.Parts.{Parts, kind_of, has_authority, host_or_empty, needs_guard, pieces, serialize, text_before, text_between, offset, IsValid}
+use Rattle.url.specs.Parts.{Parts, kind_of, has_authority, host_or_empty, pieces, serialize, text_before, text_between, offset, IsValid}
 use Rattle.url.proofs.InputLemmas.{IsNot, Passes, split_once_at, split_once_none}
 use Rattle.url.proofs.SchemeLemmas.{scheme_bytes}
 use Rattle.url.proofs.ValidLemmas.{hierarchical, base_from_authority}
 use Rattle.url.proofs.PathLemmas.{rooted}
-use Rattle.url.proofs.PiecesLemmas.{option_cases, concat-append, steps}
+use Rattle.url.proofs.PiecesLemmas.{concat-append, steps}
 use Rattle.url.proofs.LayoutLemmas.{bare_without_authority}
 use Rattle.url.proofs.SetterLemmas.{own_host}
 use Rattle.url.proofs.TextLemmas.{is_authority_byte, authority_bytes}
 use Rattle.url.proofs.HostRoundTrip.{host_len-host_text}
-use Rattle.url.proofs.RoundTrip.{split_fragment, split_query, split_at_sign, body_text}
+use Rattle.url.proofs.RoundTrip.{split_fragment, split_query, split_at_sign}
 use Rattle.dnr_spec.specs.declared.span.Span.{Span}
 use Rattle.dnr_spec.specs.UrlView.{without_fragment, scheme_part, body_part, authority_in, authority_of, host_and_port, host_at, host_span}
 
@@ -109,6 +108,7 @@ own_host_len url valid some = host_len-host_text (kind_of url) (host_or_empty ur
   where
     port : Option ℕ → List ℕ
     port o = when (is_some o) (codes ":") ++ (unwrap_or (option_map decimal o) [] ++ [])
+
     ends : (o : Option ℕ) → (port o ≡ []) ⊎ (get_or (port o) 0 0 ≡ 58)
     ends None = inl refl
     ends (Some n) = inr refl

@@ -1,10 +1,9 @@
 -- The view of a URL is made of the places of its parts.
-use Rattle.std.proofs.Common.{◌≡◌, ◌≢◌, ℕ, ◌+◌, ◌-◌, ◌<◌, ◌≤◌, Bool, true, false, cond, not, ◌&&◌, ◌||◌, ◌==◌, ◌⊎◌, List, [], ◌∷◌, ◌++◌, length, get_or, take, drop, Option, Some, None, IsAscii, sym, refl, ap, ◌∙◌, subst, inl, inr, ⊎_elim, append_assoc, append-nil, arith, length-append, lit≤}
-use Rattle.std.specs.Prelude.{Result, Ok, Err, IsTrue, is_some, unwrap_or, option_map, decimal, codes, slice_range, if◌then◌else◌}
+use Rattle.std.proofs.Common.{◌≡◌, ℕ, ◌-◌, ◌<◌, ◌≤◌, Bool, true, false, cond, not, ◌||◌, ◌==◌, ◌⊎◌, List, [], ◌∷◌, ◌++◌, length, get_or, drop, Option, Some, None, sym, refl, ap, ◌∙◌, inl, inr, ⊎_elim, append_assoc, append-nil, arith, length-append, lit≤, lt-ltb, le-ltb}
+use Rattle.std.specs.Prelude.{Result, Ok, Err, is_some, unwrap_or, option_map, decimal, codes, slice_range, if◌then◌else◌}
 use Rattle.std.specs.List.{concat}
-use Rattle.std.proofs.lemmas.Bool.{cond-false, cases_Bool, true≢false, both_ways, eq-eqb, or_left, or_right}
-use Rattle.std.proofs.lemmas.Bool.Decides.{nat_tests}
-use Rattle.std.proofs.lemmas.List.{get_or_at, get_or-append_right, get_or_append_left}
+use Rattle.std.proofs.lemmas.Bool.{cond-true, cond-false, cases_Bool, true≢false, both_ways, eq-eqb, or_left, or_right}
+use Rattle.std.proofs.lemmas.List.{get_or_at, get_or-append_right}
 use Rattle.url.specs.declared.slicing.Position.TheVariants.{BeforeHost, AfterHost, AfterPassword, AfterQuery}
 use Rattle.url.specs.Input.{when, is_empty}
 use Rattle.url.specs.Host.{host_text}
@@ -13,15 +12,14 @@ use Rattle.url.proofs.PiecesLemmas.{option_cases, concat-split, slice-upto, upto
 use Rattle.url.proofs.SetterLemmas.{no_credentials}
 use Rattle.url.proofs.ValidLemmas.{IsAscii-serialize}
 use Rattle.dnr_spec.specs.declared.scheme.Scheme.{Scheme}
-use Rattle.dnr_spec.specs.declared.span.Span.{Span}
 use Rattle.dnr_spec.specs.declared.view_refusal.ViewRefusal.{ViewRefusal}
-use Rattle.dnr_spec.specs.declared.view_refusal.ViewRefusal.TheVariants.{BadScheme, BadHost}
+use Rattle.dnr_spec.specs.declared.view_refusal.ViewRefusal.TheVariants.{UrlTooLong, BadScheme, BadHost}
 use Rattle.dnr_spec.specs.Scheme.{scheme_named}
 use Rattle.dnr_spec.specs.View.{View, IsView, is_host, begins_host, ends_host}
-use Rattle.dnr_spec.specs.UrlView.{without_fragment, scheme_part, host_span, if_short, with_host, with_scheme, view_of_full}
+use Rattle.dnr_spec.specs.UrlView.{max_url, without_fragment, host_span, if_short, with_host, with_scheme, view_of_full}
 use Rattle.dnr_top.proofs.HostPlace.{without_fragment-serialize, scheme_part-serialize, no_host_span, own_path, own_span, own_host_span}
 
-abbrev own_host_text : Parts → List ℕ
+abbrev pub own_host_text : Parts → List ℕ
 own_host_text url = text_between url BeforeHost AfterHost
 
 -- the view with this scheme, if its host is one
@@ -58,6 +56,36 @@ view_of_full-serialize url valid = ap (λ s. with_scheme (serialize url) (scheme
     by_scheme : (o : Option Scheme) → with_scheme (serialize url) o ≡ own_result url o
     by_scheme None = refl
     by_scheme (Some scheme) = with_own_host url valid scheme
+
+-- ---- what the code asks and is told
+
+pub scheme_told : (url : Parts) (name : List ℕ) (found answer : Option Scheme) → name ≡ url.scheme → found ≡ scheme_named name → found ≡ answer → scheme_named url.scheme ≡ answer
+scheme_told url name found answer own named told = ap scheme_named (sym own) ∙ sym named ∙ told
+
+pub host_told : (url : Parts) (host : List ℕ) (tested answer : Bool) → host ≡ own_host_text url → tested ≡ is_host host → tested ≡ answer → is_host (own_host_text url) ≡ answer
+host_told url host tested answer own named told = ap is_host (sym own) ∙ sym named ∙ told
+
+pub placed : (url : Parts) (scheme : Scheme) (full : List ℕ) (cut start end : ℕ) → full ≡ serialize url → cut ≡ offset url AfterQuery → start ≡ offset url BeforeHost → end ≡ offset url AfterHost
+    → record { full = full; cut = cut; scheme = scheme; host = record { start = start; end = end } } ≡ own_view url scheme
+placed url scheme full cut start end text fragment begin stop =
+    λ i. record { full = text i; cut = fragment i; scheme = scheme; host = record { start = begin i; end = stop i } }
+
+-- ---- each outcome
+
+pub refused_scheme : (url : Parts) → IsValid url → scheme_named url.scheme ≡ None → Err BadScheme ≡ view_of_full (serialize url)
+refused_scheme url valid none = sym (view_of_full-serialize url valid ∙ ap (own_result url) none)
+
+pub refused_host : (url : Parts) → IsValid url → (scheme : Scheme) → scheme_named url.scheme ≡ Some scheme → is_host (own_host_text url) ≡ false → Err BadHost ≡ view_of_full (serialize url)
+refused_host url valid scheme some other = sym (view_of_full-serialize url valid ∙ ap (own_result url) some ∙ cond-false _ _ _ other)
+
+at_length : (url : Parts) → IsValid url → (scheme : Scheme) → scheme_named url.scheme ≡ Some scheme → is_host (own_host_text url) ≡ true → view_of_full (serialize url) ≡ if_short (own_view url scheme)
+at_length url valid scheme some host = view_of_full-serialize url valid ∙ ap (own_result url) some ∙ cond-true _ _ _ host
+
+pub refused_length : (url : Parts) → IsValid url → (scheme : Scheme) → scheme_named url.scheme ≡ Some scheme → is_host (own_host_text url) ≡ true → max_url < length (serialize url) → Err UrlTooLong ≡ view_of_full (serialize url)
+refused_length url valid scheme some host long = sym (at_length url valid scheme some host ∙ cond-true _ _ _ (lt-ltb max_url (length (serialize url)) long))
+
+pub given_view : (url : Parts) → IsValid url → (scheme : Scheme) → scheme_named url.scheme ≡ Some scheme → is_host (own_host_text url) ≡ true → length (serialize url) ≤ max_url → Ok (own_view url scheme) ≡ view_of_full (serialize url)
+given_view url valid scheme some host short = sym (at_length url valid scheme some host ∙ cond-false _ _ _ (le-ltb max_url (length (serialize url)) short))
 
 -- ---- what every view keeps
 

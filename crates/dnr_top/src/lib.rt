@@ -1,11 +1,4 @@
-//! Reads what comes from outside: URLs.
+//! Reads what comes from outside.
 #![tactic(auto)]
 
-ghost use Rattle.std.specs.Prelude.{◌≡◌, ◌+◌, ◌<◌};
-
-pub fn bump(count: usize) -> usize
-    requires { count < 1000 }
-    ensures { result ≡ count + 1 }
-{
-    count + 1
-}
+pub mod url_view;
