@@ -248,7 +248,7 @@ mod tests {
         ];
         for (front, length, refusal) in rows {
             let mut text = String::from_str(rt.alloc(), front)?;
-            while text.len() < length {
+            for _ in front.len()..length {
                 text.push('x')?;
             }
             assert!(rt;
