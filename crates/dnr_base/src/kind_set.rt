@@ -1,5 +1,5 @@
 ghost use Rattle.std.specs.Prelude.{◌≡◌, ◌^◌, [], not, ◌&&◌, ◌||◌};
-ghost use Rattle.dnr_spec.specs.Kind.{all_kinds, place_of, same_kind, has_kind};
+ghost use Rattle.dnr_spec.specs.Kind.{all_kinds, default_kinds, place_of, same_kind, has_kind};
 ghost use Rattle.dnr_spec.specs.declared.kind.Kind.{Kind};
 ghost use Rattle.dnr_base.specs.KindSet.{kinds_of};
 
@@ -23,6 +23,13 @@ impl KindSet {
         ensures { kinds_of result ≡ all_kinds }
     {
         KindSet { bits: 0x7fff }
+    }
+
+    /// The types on which a rule holds that lists none: all but `main_frame`.
+    pub fn all_but_main_frame() -> KindSet
+        ensures { kinds_of result ≡ default_kinds }
+    {
+        KindSet { bits: 0x7ffe }
     }
 
     pub fn contains(&self, kind: Kind) -> bool

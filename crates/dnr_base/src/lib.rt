@@ -4,6 +4,7 @@
 mod copied;
 mod items;
 mod kind_set;
+mod request;
 mod text;
 mod view;
 
@@ -11,5 +12,6 @@ pub use copied::Copied;
 pub use dnr_spec::{Kind, NoMemory, Scheme, Span};
 pub use items::Items;
 pub use kind_set::KindSet;
+pub use request::Request;
 pub use text::Text;
 pub use view::View;

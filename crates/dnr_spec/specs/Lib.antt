@@ -16,3 +16,4 @@ pub mod Scan
 pub mod Output
 pub mod Words
 pub mod Out
+pub mod Examples

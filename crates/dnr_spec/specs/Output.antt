@@ -21,11 +21,16 @@ abbrev pub rule_field : Option RuleName → List ℕ
 rule_field None = []
 rule_field (Some rule) = codes ",\"rule\":" ++ rule_text rule
 
+-- how a request line of this number begins
+abbrev pub verdict_start : ℕ → ℕ → Outcome → List ℕ
+verdict_start line generation outcome =
+    codes "{\"line\":" ++ decimal line ++ codes ",\"generation\":" ++ decimal generation
+    ++ codes ",\"verdict\":\"" ++ outcome_name outcome ++ codes "\""
+
 -- what a request line of this number prints
 abbrev pub verdict_line : ℕ → ℕ → Verdict → List ℕ
 verdict_line line generation verdict =
-    codes "{\"line\":" ++ decimal line ++ codes ",\"generation\":" ++ decimal generation
-    ++ codes ",\"verdict\":\"" ++ outcome_name verdict.outcome ++ codes "\"" ++ rule_field verdict.rule ++ codes "}\n"
+    verdict_start line generation verdict.outcome ++ rule_field verdict.rule ++ codes "}\n"
 
 -- what a line prints that breaks the form
 abbrev pub bad_line : ℕ → List ℕ

@@ -1,1 +1,5 @@
+pub mod Rule
+pub mod RuleFile
+pub mod Output
+pub mod Words
 pub mod Gives

@@ -1,0 +1,98 @@
+// The lines that a command writes. Texts are written as JSON by `serde_json`.
+ghost use Rattle.std.specs.Prelude.{◌≡◌, ◌++◌, codes, decimal, OnOk, IfOk, option_map, string_bytes};
+ghost use Rattle.json.specs.Print.{quoted};
+ghost use Rattle.dnr_spec.specs.Output as spec;
+ghost use Rattle.dnr_top.specs.Output.{name_seen, verdict_seen};
+
+
+use dnr_spec::{NoMemory, Outcome};
+use serde_json::Value;
+use std::alloc::Global;
+
+/// A rule by the extension and the ruleset that it stands in.
+#[derive(Clone, Copy, Debug)]
+pub struct RuleName<'a> {
+    pub extension: &'a str,
+    pub set: &'a str,
+    pub id: u32,
+}
+
+/// What becomes of a request, and the rule that says so.
+#[derive(Clone, Copy, Debug)]
+pub struct Verdict<'a> {
+    pub outcome: Outcome,
+    pub rule: Option<RuleName<'a>>,
+}
+
+/// Appends what a request line of this number prints.
+pub fn write_verdict(
+    alloc: Global,
+    line: u32,
+    generation: u32,
+    verdict: &Verdict,
+    into: &mut String,
+) -> Result<(), NoMemory>
+    ensures { OnOk result (string_bytes into.new ≡ string_bytes into.old ++ spec.verdict_line line generation (verdict_seen verdict.now)) }
+{
+    write_start(line, generation, verdict.outcome, into)?;
+    write_rule(alloc, &verdict.rule, into)?;
+    into.push_str("}\n")?;
+    Ok(())
+}
+
+fn write_start(
+    line: u32,
+    generation: u32,
+    outcome: Outcome,
+    into: &mut String,
+) -> Result<(), NoMemory>
+    ensures { OnOk result (string_bytes into.new ≡ string_bytes into.old ++ spec.verdict_start line generation outcome) }
+{
+    let outcome = outcome_name(outcome);
+    write!(into, "{{\"line\":{line},\"generation\":{generation},\"verdict\":\"{outcome}\"")?;
+    Ok(())
+}
+
+// Appends the rule that decides, if there is one.
+fn write_rule(
+    alloc: Global,
+    rule: &Option<RuleName>,
+    into: &mut String,
+) -> Result<(), NoMemory>
+    ensures { OnOk result (string_bytes into.new ≡ string_bytes into.old ++ spec.rule_field (option_map name_seen rule.now)) }
+{
+    let Some(rule) = rule else {
+        return Ok(());
+    };
+    let extension = quoted_text(alloc, rule.extension)?;
+    let set = quoted_text(alloc, rule.set)?;
+    let id = rule.id;
+    write!(into, ",\"rule\":[{extension},{set},{id}]")?;
+    Ok(())
+}
+
+fn outcome_name(outcome: Outcome) -> &'static str
+    ensures { result.now ≡ spec.outcome_name outcome }
+{
+    match outcome {
+        Outcome::None => "none",
+        Outcome::Block => "block",
+        Outcome::Allow => "allow",
+    }
+}
+
+// The text as a JSON string, with its quotes.
+fn quoted_text(alloc: Global, text: &str) -> Result<String, NoMemory>
+    ensures { IfOk result (λ written. string_bytes written ≡ quoted text.now) }
+{
+    let text = Value::String(String::from_str(alloc, text)?);
+    Ok(text.to_string(alloc)?)
+}
+
+/// Appends what a line prints that is no request.
+pub fn write_bad(line: u32, into: &mut String) -> Result<(), NoMemory>
+    ensures { OnOk result (string_bytes into.new ≡ string_bytes into.old ++ spec.bad_line line) }
+{
+    write!(into, "{{\"line\":{line},\"bad\":\"not-yet-supported\"}}\n")?;
+    Ok(())
+}
