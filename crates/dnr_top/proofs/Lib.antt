@@ -1,2 +1,4 @@
 pub mod Trees
 pub mod RuleLists
+pub mod HostPlace
+pub mod UrlViews

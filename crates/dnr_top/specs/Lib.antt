@@ -2,3 +2,4 @@ pub mod Rule
 pub mod RuleFile
 pub mod Output
 pub mod Words
+pub mod Gives

@@ -6,4 +6,5 @@ mod output;
 mod rule;
 mod rule_file;
 mod scan;
+mod url_view;
 mod words;
