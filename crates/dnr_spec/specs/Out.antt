@@ -9,7 +9,7 @@ use Rattle.dnr_spec.specs.FileRefusal.{FileRefusal}
 use Rattle.dnr_spec.specs.RuleFile.{max_file, rules_of}
 use Rattle.dnr_spec.specs.Request.{Request}
 use Rattle.dnr_spec.specs.RequestLine.{request_of}
-use Rattle.dnr_spec.specs.State.{State}
+use Rattle.dnr_spec.specs.State.{Extension, State}
 use Rattle.dnr_spec.specs.Scan.{scan}
 use Rattle.dnr_spec.specs.Output.{verdict_line, bad_line, refusal_line}
 use Rattle.dnr_spec.specs.Faults.{Rose, Count}
@@ -20,11 +20,11 @@ abbrev pub Files : Type 0
 Files = List ℕ → Option (List ℕ)
 
 -- the extension `local` with the ruleset `rules`
+abbrev pub local : List Rule → Extension
+local rules = record { name = codes "local"; sets = record { id = codes "rules"; enabled = true; rules = rules } ∷ [] }
+
 abbrev pub opening : List Rule → State
-opening rules = record {
-  extensions = record { name = codes "local"; sets = record { id = codes "rules"; enabled = true; rules = rules } ∷ [] } ∷ [];
-  count = 0;
-}
+opening rules = record { extensions = local rules ∷ []; count = 0 }
 
 -- what a line that is not blank prints
 abbrev pub reply_to : State → ℕ → Option Request → List ℕ

@@ -13,8 +13,8 @@ abbrev pub request_keys : List (List ℕ)
 request_keys = codes "url" ∷ codes "type" ∷ []
 
 abbrev pub request_from : Option View → Option Kind → Option Request
-request_from None kind = None
-request_from (Some view) None = None
+request_from view None = None
+request_from None (Some kind) = None
 request_from (Some view) (Some kind) = Some (record { view = view; kind = kind })
 
 abbrev pub request_in : Data → Option Request

@@ -1,4 +1,6 @@
 pub mod Trees
+pub mod Order
+pub mod Scans
 pub mod RuleLists
 pub mod HostPlace
 pub mod UrlViews

@@ -1,5 +1,5 @@
 -- Steps along the members of an object.
-use Rattle.std.proofs.Common.{◌≡◌, ℕ, List, [], ◌∷◌, Bool, ◌||◌, ◌&&◌, map, refl, ap, sym, ◌∙◌, Bor, String, string_bytes, Option, Some, None, ⊎_elim}
+use Rattle.std.proofs.Common.{◌≡◌, ℕ, List, [], ◌∷◌, Bool, ◌||◌, ◌&&◌, map, refl, ap, sym, ◌∙◌, Bor, String, string_bytes, Some, None, ⊎_elim}
 use Rattle.std.specs.Str.{IsUtf8, is_utf8}
 use Rattle.std.proofs.lemmas.Str.{IsUtf8-from_is_utf8, is_utf8-from_IsUtf8}
 use Rattle.std.proofs.lemmas.Bool.{cases_Bool, cond-true, cond-false}
@@ -9,7 +9,7 @@ use Rattle.std.specs.List.{list_any}
 use Rattle.std.specs.Str.{bytes_eq}
 use Rattle.std.specs.declared.alloc.Global.{Global}
 use Rattle.serde_json.specs.declared.value.Value.{Value}
-use Rattle.serde_json.specs.View.{view, members_view}
+use Rattle.serde_json.specs.View.{members_view}
 use Rattle.dnr_spec.specs.Json.{tree_of, has_only}
 
 -- the keys that a slice of references shows
@@ -27,7 +27,7 @@ pub has_only_next : (keys : List (Bor (List ℕ))) (members rest : List (String 
 has_only_next keys members rest key value text among is same test =
     ap (λ ms. has_only (texts keys) (members_view ms)) is
     ∙ ap (λ b. b && has_only (texts keys) (members_view rest))
-      (ap (λ t. list_any (bytes_eq t) (texts keys)) (sym same) ∙ list_any-texts (bytes_eq text) keys ∙ sym test)
+    (ap (λ t. list_any (bytes_eq t) (texts keys)) (sym same) ∙ list_any-texts (bytes_eq text) keys ∙ sym test)
 
 -- text that is read is the tree of its bytes
 pub tree_of-read : (bytes : List ℕ) (d : Data) → IsUtf8 bytes → read bytes ≡ Some d → Some d ≡ tree_of bytes

@@ -1,5 +1,6 @@
 pub mod Rule
 pub mod RuleFile
+pub mod Scan
 pub mod Output
 pub mod Words
 pub mod Gives

@@ -1,5 +1,5 @@
 -- What the program's verdicts and refusals say.
-use Rattle.std.specs.Prelude.{Option, option_map}
+use Rattle.std.specs.Prelude.{option_map}
 use Rattle.dnr_spec.specs.Scan as spec
 use Rattle.dnr_top.specs.declared.output.RuleName.{RuleName}
 use Rattle.dnr_top.specs.declared.output.Verdict.{Verdict}

@@ -1,5 +1,5 @@
 -- What the reading of a rules file answers.
-use Rattle.std.specs.Prelude.{◌≡◌, ℕ, List, Result, Ok, Err}
+use Rattle.std.specs.Prelude.{◌≡◌, List, Result, Ok, Err}
 use Rattle.dnr_spec.specs.declared.rule_fault.RuleFault.{RuleFault}
 use Rattle.dnr_spec.specs.Rule as rule
 use Rattle.dnr_spec.specs.FileRefusal as spec

@@ -1,10 +1,11 @@
 //! The command `match`: from the words and the bytes of files to the bytes that are written.
 #![tactic(auto)]
 
-mod tree;
 mod output;
+mod request_line;
 mod rule;
 mod rule_file;
 mod scan;
+mod tree;
 mod url_view;
 mod words;

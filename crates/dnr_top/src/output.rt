@@ -5,7 +5,6 @@ ghost use Rattle.dnr_spec.specs.Output as spec;
 ghost use Rattle.dnr_top.specs.Output.{name_seen, verdict_seen};
 ghost use Rattle.dnr_top.specs.RuleFile.{refusal_seen};
 
-
 use crate::rule_file::FileRefusal;
 use dnr_spec::{NoMemory, Outcome, RuleFault};
 use serde_json::Value;
@@ -51,16 +50,15 @@ fn write_start(
     ensures { OnOk result (string_bytes into.new ≡ string_bytes into.old ++ spec.verdict_start line generation outcome) }
 {
     let outcome = outcome_name(outcome);
-    write!(into, "{{\"line\":{line},\"generation\":{generation},\"verdict\":\"{outcome}\"")?;
+    write!(
+        into,
+        "{{\"line\":{line},\"generation\":{generation},\"verdict\":\"{outcome}\""
+    )?;
     Ok(())
 }
 
 // Appends the rule that decides, if there is one.
-fn write_rule(
-    alloc: Global,
-    rule: &Option<RuleName>,
-    into: &mut String,
-) -> Result<(), NoMemory>
+fn write_rule(alloc: Global, rule: &Option<RuleName>, into: &mut String) -> Result<(), NoMemory>
     ensures { OnOk result (string_bytes into.new ≡ string_bytes into.old ++ spec.rule_field (option_map name_seen rule.now)) }
 {
     let Some(rule) = rule else {
@@ -122,7 +120,10 @@ fn write_cause(refusal: &FileRefusal, into: &mut String) -> Result<(), NoMemory>
         FileRefusal::BadJson => into.push_str("\"bad-json\"")?,
         FileRefusal::BadRule(place, fault) => {
             let path = fault_name(*fault);
-            write!(into, "\"not-yet-supported\",\"place\":{place},\"path\":\"{path}\"")?;
+            write!(
+                into,
+                "\"not-yet-supported\",\"place\":{place},\"path\":\"{path}\""
+            )?;
         }
     }
     Ok(())

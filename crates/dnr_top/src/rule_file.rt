@@ -8,8 +8,8 @@ ghost use Rattle.dnr_base.specs.KindSet.{kinds_of};
 ghost use Rattle.dnr_top.specs.Rule.{rules_seen, action_seen};
 ghost use Rattle.dnr_top.specs.RuleFile.{GivesRule, IsRefusalOf};
 
-use crate::tree::{is_object_of, number_of, read_tree};
 use crate::rule::{Action, Rule};
+use crate::tree::{is_object_of, number_of, read_tree};
 use dnr_base::KindSet;
 use dnr_spec::{NoMemory, RuleFault};
 use serde_json::Value;
