@@ -103,13 +103,10 @@ match_takes_two_file_names = (refl, refl, refl)
 pub two_files_are_served : TwoFilesAreServed
 unfolding url_on_literals serde_json_on_literals is_utf8
 two_files_are_served = record {
-  file = codes "[]";
-  held = refl;
-  short = omega arith;
   rules = [];
-  read = refl;
+  loaded = record { file = codes "[]"; held = refl; short = omega arith; read = refl };
   script = request_line (codes "script") ++ codes "\n";
-  started = refl;
+  held = refl;
   within = refl;
   output = refl;
 }

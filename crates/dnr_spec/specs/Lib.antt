@@ -15,6 +15,7 @@ pub mod State
 pub mod Precedence
 pub mod Scan
 pub mod Output
+pub mod Status
 pub mod Words
 pub mod Faults
 pub mod Out

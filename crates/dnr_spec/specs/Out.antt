@@ -40,42 +40,47 @@ abbrev pub replies : State → ℕ → List (List ℕ) → List ℕ
 replies state number [] = []
 replies state number (line ∷ lines) = reply state number line ++ replies state (number + 1) lines
 
--- the rules were read, and each line of the script was served
-pub record IsServed (files : Files) (task : Task) (written : List ℕ) : Type 0 where
+-- the file is short enough, and these are its rules
+pub record HoldsRules (files : Files) (name : List ℕ) (rules : List Rule) : Type 0 where
   pub file : List ℕ
-  pub held : files task.rules ≡ Some file
+  pub held : files name ≡ Some file
   pub short : length file ≤ max_file
-  pub rules : List Rule
   pub read : rules_of file ≡ Ok rules
+
+-- the file is short enough, and breaks its form so
+pub record BreaksForm (files : Files) (name : List ℕ) (refusal : FileRefusal) : Type 0 where
+  pub file : List ℕ
+  pub held : files name ≡ Some file
+  pub short : length file ≤ max_file
+  pub read : rules_of file ≡ Err refusal
+
+-- the file has more bytes than a rules file may have
+pub record IsTooLong (files : Files) (name : List ℕ) : Type 0 where
+  pub file : List ℕ
+  pub held : files name ≡ Some file
+  pub long : max_file < length file
+
+-- the rules were read, and each line of the script was answered
+pub record IsServed (files : Files) (task : Task) (written : List ℕ) : Type 0 where
+  pub rules : List Rule
+  pub loaded : HoldsRules files task.rules rules
   pub script : List ℕ
-  pub started : files task.script ≡ Some script
+  pub held : files task.script ≡ Some script
   pub within : is_within_limits script ≡ true
   pub output : written ≡ replies (opening rules) 1 (lines_of script)
 
 -- the rules file breaks the form
 pub record IsRefused (files : Files) (task : Task) (written : List ℕ) : Type 0 where
-  pub file : List ℕ
-  pub held : files task.rules ≡ Some file
-  pub short : length file ≤ max_file
   pub refusal : FileRefusal
-  pub read : rules_of file ≡ Err refusal
+  pub broken : BreaksForm files task.rules refusal
   pub output : written ≡ refusal_line task.rules refusal
-
--- the rules file has more bytes than a file may have
-pub record HasLongFile (files : Files) (task : Task) : Type 0 where
-  pub file : List ℕ
-  pub held : files task.rules ≡ Some file
-  pub long : max_file < length file
 
 -- the rules were read, and the script has a line that is too long, or too many lines
 pub record HasLongLine (files : Files) (task : Task) : Type 0 where
-  pub file : List ℕ
-  pub held : files task.rules ≡ Some file
-  pub short : length file ≤ max_file
   pub rules : List Rule
-  pub read : rules_of file ≡ Ok rules
+  pub loaded : HoldsRules files task.rules rules
   pub script : List ℕ
-  pub started : files task.script ≡ Some script
+  pub held : files task.script ≡ Some script
   pub beyond : is_within_limits script ≡ false
 
 -- what a status says of a task, where the faults of the shelf and of the sink were counted so
@@ -86,7 +91,7 @@ Ends files task shelf sink written status.Usage = ⊥
 Ends files task shelf sink written status.ReadFault = Rose shelf.before shelf.now
 Ends files task shelf sink written status.WriteFault = Rose sink.before sink.now
 Ends files task shelf sink written status.NoMemory = Unit {0}
-Ends files task shelf sink written status.FileTooLong = HasLongFile files task ⊎ HasLongLine files task
+Ends files task shelf sink written status.FileTooLong = IsTooLong files task.rules ⊎ HasLongLine files task
 
 -- words that say no command end with Usage alone, and write nothing
 abbrev pub EndsFor : Files → Count → Count → Option Task → Status → List ℕ → Type 0

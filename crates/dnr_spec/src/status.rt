@@ -1,3 +1,5 @@
+ghost use Rattle.std.specs.Prelude.{◌≡◌};
+
 /// How a command ended.
 #[derive(Clone, Copy, Debug, PartialEq, Eq)]
 pub enum Status {
@@ -15,4 +17,23 @@ pub enum Status {
     NoMemory,
     /// A file, or a line of a script, is longer than its limit, or a script has too many lines.
     FileTooLong,
+}
+
+impl Status {
+    ghost use Rattle.dnr_spec.specs.Status.{status_value};
+
+    /// The value that a process ends with.
+    pub fn value(self) -> u8
+        ensures { result ≡ status_value self }
+    {
+        match self {
+            Status::Done => 0,
+            Status::Refused => 1,
+            Status::Usage => 2,
+            Status::ReadFault => 3,
+            Status::WriteFault => 4,
+            Status::NoMemory => 5,
+            Status::FileTooLong => 6,
+        }
+    }
 }

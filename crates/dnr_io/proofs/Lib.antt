@@ -1,0 +1,6 @@
+pub mod Places
+pub mod Appended
+pub mod Window
+pub mod RawLines
+pub mod Pieces
+pub mod ReadSoFar

@@ -1,0 +1,9 @@
+use Rattle.std.proofs.Common.{◌≡◌, ◌≤◌, ◌++◌, List, ℕ, length, is_some}
+use Rattle.std.specs.Io.KnownBytes.{Appends}
+use Rattle.dnr_io.proofs.sink.write_all.Given as goal
+
+abbrev pub invariant-loop-rest : goal.invariant-loop-rest
+invariant-loop-rest g l = (sent : List ℕ) × Appends (g.K.Sink.taken l.fn.sink) (g.K.Sink.taken l.sink) sent × (l.fn.bytes ≡ sent ++ l.rest) × (is_some (g.K.Sink.taken l.sink) ≡ is_some (g.K.Sink.taken l.fn.sink)) × (g.K.Sink.faults l.fn.sink ≤ g.K.Sink.faults l.sink)
+
+abbrev pub decreases-loop-rest : goal.decreases-loop-rest
+decreases-loop-rest g l = length l.rest

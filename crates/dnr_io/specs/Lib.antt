@@ -1,0 +1,6 @@
+pub mod Faults
+pub mod Shelf
+pub mod Files
+pub mod Sink
+pub mod Ahead
+pub mod Lines

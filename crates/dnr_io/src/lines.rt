@@ -1,0 +1,130 @@
+ghost use Rattle.std.specs.Prelude.{◌≡◌, ◌+◌, ◌<◌, ◌≤◌, [], ◌↔◌, length, is_some, true, IfOk, OnOk, IfSome, IsErrOf, IsTrue, IsFalse};
+ghost use Rattle.std.specs.Io.KnownBytes.{IsAtEnd, prepend_known};
+ghost use Rattle.dnr_spec.specs.Lines.{max_line, max_lines, without_cr};
+ghost use Rattle.dnr_io.specs.Faults.{HasCauseOf};
+ghost use Rattle.dnr_io.specs.Lines.{ahead, GivesLine, IsBeyond, StartsTooLong};
+
+use crate::ahead::Ahead;
+use crate::{LineRefusal, NoMemory, Source};
+use std::alloc::Global;
+use std::marker::Model;
+
+/// The most bytes that a line has before its LF.
+pub const MAX_LINE: usize = 8_388_608;
+
+/// The most lines.
+pub const MAX_LINES: u32 = 4_294_967_295;
+
+/// The lines of a source, one after another.
+///
+/// A line ends at LF, and what stands after the last LF is a line where it is not empty. What is read
+/// ahead is kept, so all calls should be handed one source.
+#[derive(Drop)]
+pub struct Lines {
+    ahead: Ahead,
+    count: u32,
+    live: bool,
+}
+
+impl Model for Lines {
+    ghost use Rattle.dnr_io.specs.Lines.{Reading};
+
+    ghost Value = { Reading };
+
+    ghost view = { λ lines. record { pending = lines.ahead; count = lines.count; live = lines.live } };
+}
+
+impl Lines {
+    pub fn new(alloc: Global) -> Result<Lines, NoMemory>
+        ensures { IfOk result (λ lines. lines ≡ record { pending = []; count = 0; live = true }) }
+    {
+        let ahead = Ahead::new(alloc)?;
+        Ok(Lines {
+            ahead,
+            count: 0,
+            live: true,
+        })
+    }
+
+    /// Whether another line may be asked for: until a refusal or the end.
+    pub fn live(&self) -> bool
+        ensures { result ≡ self.now.live }
+    {
+        self.live
+    }
+
+    /// Puts the next line, without its LF and a CR before that, in place of what `line` has. `Ok(false)`
+    /// is the end, and leaves `line` empty.
+    ///
+    /// After a refusal `line` may have a part of the line.
+    pub fn next<S: Source>(
+        &mut self,
+        source: &mut S,
+        line: &mut Vec<u8>,
+    ) -> Result<bool, LineRefusal>
+        requires { IsTrue self.old.live }
+
+        ensures line { IfOk result (λ given. IsTrue given →
+            GivesLine (ahead self.old (S.left source.old)) (ahead self.new (S.left source.new)) line.new.items) }
+        ensures within { IfOk result (λ given. IsTrue given → length line.new.items ≤ max_line) }
+        ensures counted { IfOk result (λ given. IsTrue given →
+            (self.old.count < max_lines) × (self.new.count ≡ self.old.count + 1)) }
+        ensures end { IfOk result (λ given. IsFalse given →
+            IsAtEnd (ahead self.old (S.left source.old)) × IsAtEnd (ahead self.new (S.left source.new))
+            × (line.new.items ≡ [])) }
+        ensures too_long { IsErrOf result LineRefusal.LineTooLong →
+            IfSome (ahead self.old (S.left source.old)) (IsBeyond self.old.count) }
+        ensures live { IsTrue self.new.live ↔ (result ≡ Ok true) }
+
+        ensures told { is_some (S.left source.new) ≡ is_some (S.left source.old) }
+        ensures files { S.files source.new ≡ S.files source.old }
+        ensures cause { HasCauseOf LineRefusal.ReadFault (S.faults source.old) (S.faults source.new) result }
+    {
+        self.live = false;
+        line.clear();
+        if !self.ahead.look(source)? {
+            return Ok(false);
+        }
+        if self.count == MAX_LINES {
+            return Err(LineRefusal::LineTooLong);
+        }
+        take_line(&mut self.ahead, source, line)?;
+        self.count += 1;
+        self.live = true;
+        Ok(true)
+    }
+}
+
+// Takes the next line, of which a byte stands ahead, into an empty vector.
+fn take_line<S: Source>(
+    ahead: &mut Ahead,
+    source: &mut S,
+    line: &mut Vec<u8>,
+) -> Result<(), LineRefusal>
+    requires some { 0 < length ahead.old }
+    requires empty { line.old.items ≡ [] }
+    ensures line { OnOk result (GivesLine (prepend_known ahead.old (S.left source.old))
+        (prepend_known ahead.new (S.left source.new)) line.new.items) }
+    ensures within { OnOk result (length line.new.items ≤ max_line) }
+    ensures too_long { IsErrOf result LineRefusal.LineTooLong →
+        IfSome (prepend_known ahead.old (S.left source.old)) StartsTooLong }
+    ensures told { is_some (S.left source.new) ≡ is_some (S.left source.old) }
+    ensures files { S.files source.new ≡ S.files source.old }
+    ensures cause { HasCauseOf LineRefusal.ReadFault (S.faults source.old) (S.faults source.new) result }
+{
+    while ahead.look(source)? {
+        if ahead.move_to(line)? {
+            drop_cr(line);
+            break;
+        }
+    }
+    Ok(())
+}
+
+fn drop_cr(line: &mut Vec<u8>)
+    ensures { line.new.items ≡ without_cr line.old.items }
+{
+    if line.last() == Some(&b'\r') {
+        line.pop();
+    }
+}
