@@ -4,3 +4,4 @@ pub mod Scans
 pub mod RuleLists
 pub mod HostPlace
 pub mod UrlViews
+pub mod Runs

@@ -4,3 +4,5 @@ pub mod Scan
 pub mod Output
 pub mod Words
 pub mod Gives
+pub mod Run
+pub mod Load

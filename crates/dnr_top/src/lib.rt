@@ -4,6 +4,8 @@
 mod output;
 mod request_line;
 mod rule;
+mod load;
+mod run;
 mod rule_file;
 mod scan;
 mod tree;

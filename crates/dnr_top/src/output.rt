@@ -28,7 +28,7 @@ pub struct Verdict<'a> {
 /// Appends what a request line of this number prints.
 pub fn write_verdict(
     alloc: Global,
-    line: u32,
+    line: usize,
     generation: u32,
     verdict: &Verdict,
     into: &mut String,
@@ -42,7 +42,7 @@ pub fn write_verdict(
 }
 
 fn write_start(
-    line: u32,
+    line: usize,
     generation: u32,
     outcome: Outcome,
     into: &mut String,
@@ -90,7 +90,7 @@ fn quoted_text(alloc: Global, text: &str) -> Result<String, NoMemory>
 }
 
 /// Appends what a line prints that is no request.
-pub fn write_bad(line: u32, into: &mut String) -> Result<(), NoMemory>
+pub fn write_bad(line: usize, into: &mut String) -> Result<(), NoMemory>
     ensures { OnOk result (string_bytes into.new ≡ string_bytes into.old ++ spec.bad_line line) }
 {
     write!(into, "{{\"line\":{line},\"bad\":\"not-yet-supported\"}}\n")?;

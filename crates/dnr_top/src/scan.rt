@@ -17,6 +17,7 @@ use dnr_base::Request;
 use dnr_spec::Outcome;
 
 /// What becomes of a request, where these rules are the ruleset `rules` of the one extension `local`.
+#[tactic(auto, unfolding(dnr_spec::specs::Scan::scan))]
 pub fn verdict_of(rules: &[Rule], request: &Request) -> Verdict<'static>
     requires { HaveOwnIds (rules_seen rules.now) }
     ensures { verdict_seen result ≡ spec.scan (opening (rules_seen rules.now)) (request_seen request.now) }
