@@ -4,4 +4,5 @@ pub mod Scans
 pub mod RuleLists
 pub mod HostPlace
 pub mod UrlViews
-pub mod Runs
+pub mod Answered
+pub mod Ended

@@ -4,5 +4,6 @@ pub mod Scan
 pub mod Output
 pub mod Words
 pub mod Gives
-pub mod Run
+pub mod Answers
 pub mod Load
+pub mod Run

@@ -1,19 +1,19 @@
--- What a run reads and writes on the way.
-use Rattle.std.specs.Prelude.{◌≡◌, ℕ, List, ◌++◌, Option, Vec, map}
+-- What a run does.
+use Rattle.std.specs.Prelude.{ℕ, List, Option}
 use Rattle.std.specs.Io.KnownBytes.{Appends}
-use Rattle.std.specs.declared.alloc.Global.{Global}
+use Rattle.dnr_spec.specs.declared.status.Status.{Status}
+use Rattle.dnr_spec.specs.declared.status.Status.TheVariants.{Done, Refused, Usage, ReadFault, WriteFault, NoMemory, FileTooLong}
 
--- the lines that vectors hold
-abbrev pub lines_seen : List (Vec ℕ Global) → List (List ℕ)
-lines_seen lines = map (λ line. line.items) lines
+-- what was written is as it may be
+abbrev pub IsRun : Option (List ℕ) → Option (List ℕ) → (List ℕ → Type 0) → Type 0
+IsRun before now may_be = (written : List ℕ) × Appends before now written × may_be written
 
--- some bytes were written, and none was taken back
-pub record AppendsSome (before now : Option (List ℕ)) : Type 0 where
-  pub written : List ℕ
-  pub taken : Appends before now written
-
--- some first bytes of a text were written, and these are left
-pub record WritesFront (before now : Option (List ℕ)) (text left : List ℕ) : Type 0 where
-  pub sent : List ℕ
-  pub split : text ≡ sent ++ left
-  pub taken : Appends before now sent
+-- a file was refused, and that was written or could not be
+abbrev pub IsRefusalStatus : Status → Type 0
+IsRefusalStatus Done = ⊥
+IsRefusalStatus Refused = Unit {0}
+IsRefusalStatus Usage = ⊥
+IsRefusalStatus ReadFault = ⊥
+IsRefusalStatus WriteFault = Unit {0}
+IsRefusalStatus NoMemory = Unit {0}
+IsRefusalStatus FileTooLong = ⊥

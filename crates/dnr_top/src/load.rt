@@ -5,7 +5,7 @@ ghost use Rattle.dnr_spec.specs.Out.{HoldsRules};
 ghost use Rattle.dnr_spec.specs.RuleFile.{HaveOwnIds};
 ghost use Rattle.dnr_top.specs.Rule.{rules_seen};
 ghost use Rattle.dnr_top.specs.Load.{Refuses, HoldsLines, HoldsTooMuch};
-ghost use Rattle.dnr_top.specs.Run.{lines_seen};
+ghost use Rattle.dnr_top.specs.Answers.{lines_seen};
 
 use crate::rule::Rule;
 use crate::rule_file::{FileRefusal, RulesRefusal, read_rules};

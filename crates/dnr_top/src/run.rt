@@ -1,127 +1,96 @@
 // The commands: what is read, answered and written, in order.
-ghost use Rattle.std.specs.Prelude.{◌≡◌, ◌≢◌, ◌⊎◌, ◌++◌, ◌+◌, ◌↔◌, List, ℕ, [], None, map, IfOk, IfErr, IfSome, OnOk, OnErr, option_map, string_bytes, if◌then◌else◌};
+ghost use Rattle.std.specs.Prelude.{◌≡◌, ◌≢◌, ◌↔◌, ℕ, List, [], None, map, IfSome, OnOk, OnErr, string_bytes};
 ghost use Rattle.std.specs.Io.KnownBytes.{Appends};
-ghost use Rattle.dnr_io.specs.Faults.{Rose, HasCause, HasCauseOf};
-ghost use Rattle.dnr_spec.specs.Lines as lines;
-ghost use Rattle.dnr_spec.specs.Out.{Out, Ends, HoldsRules, opening, reply, reply_to, replies};
+ghost use Rattle.dnr_io.specs.Faults.{Rose, HasCauseOf};
+ghost use Rattle.dnr_spec.specs.declared.status.Status.TheVariants as status;
+ghost use Rattle.dnr_spec.specs.Out.{Out, Ends};
 ghost use Rattle.dnr_spec.specs.Output.{refusal_line};
-ghost use Rattle.dnr_spec.specs.RuleFile.{HaveOwnIds};
-ghost use Rattle.dnr_spec.specs.Words as spec;
-ghost use Rattle.dnr_base.specs.Request.{request_seen};
-ghost use Rattle.dnr_top.specs.Rule.{rules_seen};
+ghost use Rattle.dnr_spec.specs.Words.{task_of};
+ghost use Rattle.dnr_top.specs.Answers.{AppendsSome};
 ghost use Rattle.dnr_top.specs.RuleFile.{refusal_seen};
-ghost use Rattle.dnr_top.specs.Run.{lines_seen, AppendsSome, WritesFront};
-ghost use Rattle.dnr_top.specs.declared.run.WriteRefusal.TheVariants as refusal;
+ghost use Rattle.dnr_top.specs.Run.{IsRun, IsRefusalStatus};
+ghost use Rattle.dnr_top.specs.Words.{task_seen};
 
-use crate::output::{write_bad, write_verdict};
-use crate::request_line::read_request;
-use crate::rule::Rule;
-use crate::scan::verdict_of;
-use dnr_base::Request;
-use dnr_io::{Failed, Sink, write_all};
-use dnr_spec::NoMemory;
+use crate::answers::{WriteRefusal, answer_lines};
+use crate::load::{LoadRefusal, load_rules, load_script};
+use crate::output::write_refusal;
+use crate::rule_file::FileRefusal;
+use crate::words::{Task, read_words};
+use dnr_io::{LineRefusal, Shelf, Sink, Status, write_all};
 use std::alloc::Global;
 
-// How much text is kept before it is written.
-const PIECE: usize = 16_384;
+/// Runs the command that the words after the program's name say, over the files of the shelf, and writes
+/// its output to `out`.
+///
+/// `match RULES REQUESTS` reads the rules of the file RULES, and answers each request line of the file
+/// REQUESTS.
+pub fn run<F: Shelf, O: Sink>(alloc: Global, words: &[String], shelf: &mut F, out: &mut O) -> Status
+    ensures usage { (result ≡ Status.Usage) ↔ (task_of (map string_bytes words.now) ≡ None) }
+    ensures silent { result ≡ Status.Usage → O.taken out.new ≡ O.taken out.old }
 
+    // Where the shelf tells what its files hold, the status and what was written are allowed.
+    ensures allowed { IfSome (F.Source.files shelf.old) (λ files. (written : List ℕ) × Appends (O.taken out.old) (O.taken out.new) written
+        × Out (map string_bytes words.now) files
+        (record { before = F.Source.faults shelf.old; now = F.Source.faults shelf.new })
+        (record { before = O.faults out.old; now = O.faults out.new }) result written) }
 
-/// Why an output is not written whole.
-#[derive(Clone, Copy, Debug, PartialEq, Eq)]
-enum WriteRefusal {
-    /// The sink failed, and its count of faults rose.
-    Failed,
-    /// Memory ran out.
-    NoMemory,
-}
-
-impl From<Failed> for WriteRefusal {
-    ghost from_gives = { λ _ e. e ≡ refusal.Failed };
-
-    fn from(_: Failed) -> WriteRefusal {
-        WriteRefusal::Failed
+    // A fault is told only where it was counted, whatever the shelf tells.
+    ensures read_fault { result ≡ Status.ReadFault → Rose (F.Source.faults shelf.old) (F.Source.faults shelf.new) }
+    ensures write_fault { result ≡ Status.WriteFault → Rose (O.faults out.old) (O.faults out.new) }
+{
+    match read_words(words) {
+        Some(task) => match_requests(alloc, &task, shelf, out),
+        None => Status::Usage,
     }
 }
 
-impl From<NoMemory> for WriteRefusal {
-    ghost from_gives = { λ _ e. e ≡ refusal.NoMemory };
-
-    fn from(_: NoMemory) -> WriteRefusal {
-        WriteRefusal::NoMemory
-    }
-}
-
-// Answers the lines in order, and writes the answers in pieces of some kilobytes.
-fn answer_lines<O: Sink>(
+fn match_requests<F: Shelf, O: Sink>(
     alloc: Global,
-    rules: &[Rule],
-    lines: &[Vec<u8>],
+    task: &Task,
+    shelf: &mut F,
     out: &mut O,
-) -> Result<(), WriteRefusal>
-    requires { HaveOwnIds (rules_seen rules.now) }
-    ensures written { OnOk result (Appends (O.taken out.old) (O.taken out.new) (replies (opening (rules_seen rules.now)) 1 (lines_seen lines.now))) }
+) -> Status
+    ensures no_usage { result ≢ Status.Usage }
+    ensures allowed { IfSome (F.Source.files shelf.old) (λ files. IsRun (O.taken out.old) (O.taken out.new)
+        (λ written. Ends files (task_seen task.now)
+        (record { before = F.Source.faults shelf.old; now = F.Source.faults shelf.new })
+        (record { before = O.faults out.old; now = O.faults out.new }) written result)) }
+    ensures read_fault { result ≡ Status.ReadFault → Rose (F.Source.faults shelf.old) (F.Source.faults shelf.new) }
+    ensures write_fault { result ≡ Status.WriteFault → Rose (O.faults out.old) (O.faults out.new) }
+{
+    let rules = match load_rules(alloc, task.rules, shelf) {
+        Ok(rules) => rules,
+        Err(LoadRefusal::BadFile(refusal)) => return refuse(alloc, task.rules, &refusal, out),
+        Err(LoadRefusal::ReadFault) => return Status::ReadFault,
+        Err(LoadRefusal::FileTooLong) => return Status::FileTooLong,
+        Err(LoadRefusal::NoMemory) => return Status::NoMemory,
+    };
+    let lines = match load_script(alloc, task.script, shelf) {
+        Ok(lines) => lines,
+        Err(LineRefusal::ReadFault) => return Status::ReadFault,
+        Err(LineRefusal::LineTooLong) => return Status::FileTooLong,
+        Err(LineRefusal::NoMemory) => return Status::NoMemory,
+    };
+    match answer_lines(alloc, &rules, &lines, out) {
+        Ok(()) => Status::Done,
+        Err(WriteRefusal::Failed) => Status::WriteFault,
+        Err(WriteRefusal::NoMemory) => Status::NoMemory,
+    }
+}
+
+// Writes why a rules file is refused.
+fn refuse<O: Sink>(alloc: Global, name: &str, refusal: &FileRefusal, out: &mut O) -> Status
+    ensures written { result ≡ Status.Refused → Appends (O.taken out.old) (O.taken out.new) (refusal_line name.now (refusal_seen refusal.now)) }
     ensures part { AppendsSome (O.taken out.old) (O.taken out.new) }
-    ensures cause { HasCauseOf WriteRefusal.Failed (O.faults out.old) (O.faults out.new) result }
+    ensures only { IsRefusalStatus result }
+    ensures write_fault { result ≡ Status.WriteFault → Rose (O.faults out.old) (O.faults out.new) }
 {
     let mut text = String::new(alloc);
-    for (index, line) in lines.iter().enumerate() {
-        answer(alloc, rules, index + 1, line, &mut text)?;
-        write_if_long(out, &mut text)?;
+    if write_refusal(alloc, name, refusal, &mut text).is_err() {
+        return Status::NoMemory;
     }
-    write_all(out, text.as_bytes())?;
-    Ok(())
-}
-
-// Writes the text and empties it, where it is long enough for a piece.
-fn write_if_long<O: Sink>(out: &mut O, text: &mut String) -> Result<(), Failed>
-    ensures front { OnOk result (WritesFront (O.taken out.old) (O.taken out.new) (string_bytes text.old) (string_bytes text.new)) }
-    ensures part { AppendsSome (O.taken out.old) (O.taken out.new) }
-    ensures cause { HasCause (O.faults out.old) (O.faults out.new) result }
-{
-    if text.len() < PIECE {
-        return Ok(());
+    match write_all(out, text.as_bytes()) {
+        Ok(()) => Status::Refused,
+        Err(_) => Status::WriteFault,
     }
-    write_all(out, text.as_bytes())?;
-    text.clear();
-    Ok(())
-}
-
-// Appends what a line of this number prints: nothing where it is blank.
-fn answer(
-    alloc: Global,
-    rules: &[Rule],
-    number: usize,
-    line: &[u8],
-    into: &mut String,
-) -> Result<(), NoMemory>
-    requires { HaveOwnIds (rules_seen rules.now) }
-    ensures { OnOk result (string_bytes into.new ≡ string_bytes into.old ++ reply (opening (rules_seen rules.now)) number line.now) }
-{
-    if is_blank(line) {
-        return Ok(());
-    }
-    let request = read_request(alloc, line)?;
-    write_reply(alloc, rules, number, &request, into)
-}
-
-fn write_reply(
-    alloc: Global,
-    rules: &[Rule],
-    number: usize,
-    request: &Option<Request>,
-    into: &mut String,
-) -> Result<(), NoMemory>
-    requires { HaveOwnIds (rules_seen rules.now) }
-    ensures { OnOk result (string_bytes into.new ≡ string_bytes into.old ++ reply_to (opening (rules_seen rules.now)) number (option_map request_seen request.now)) }
-{
-    match request {
-        Some(request) => write_verdict(alloc, number, 0, &verdict_of(rules, request), into),
-        None => write_bad(number, into),
-    }
-}
-
-fn is_blank(line: &[u8]) -> bool
-    ensures { result ≡ lines.is_blank line.now }
-{
-    line.iter().all(|byte| *byte == b' ' || *byte == b'\t')
 }

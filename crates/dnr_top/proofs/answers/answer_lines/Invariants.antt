@@ -1,8 +1,8 @@
 use Rattle.std.proofs.Common.{◌≤◌, string_bytes}
 use Rattle.dnr_spec.specs.Out.{opening}
 use Rattle.dnr_top.specs.Rule.{rules_seen}
-use Rattle.dnr_top.proofs.Runs.{IsAnsweredSoFar}
-use Rattle.dnr_top.proofs.run.answer_lines.Given as goal
+use Rattle.dnr_top.proofs.Answered.{IsAnsweredSoFar}
+use Rattle.dnr_top.proofs.answers.answer_lines.Given as goal
 
 abbrev pub invariant-loop-index : goal.invariant-loop-index
 invariant-loop-index g l = record {

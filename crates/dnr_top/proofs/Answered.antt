@@ -6,7 +6,7 @@ use Rattle.std.proofs.lemmas.List.{drop_more, drop_all}
 use Rattle.dnr_io.specs.Sink.{AppendsPart}
 use Rattle.dnr_spec.specs.State.{State}
 use Rattle.dnr_spec.specs.Out.{reply, replies}
-use Rattle.dnr_top.specs.Run.{lines_seen, AppendsSome, WritesFront}
+use Rattle.dnr_top.specs.Answers.{lines_seen, AppendsSome, WritesFront}
 
 appends_append : (a b c : Option (List ℕ)) (xs ys : List ℕ) → Appends a b xs → Appends b c ys → Appends a c (xs ++ ys)
 appends_append None b c xs ys p q = tt
@@ -35,14 +35,14 @@ pub one_line_more : (before middle now : Option (List ℕ)) (state : State) (lin
 one_line_more before middle now state lines next line text grown left inside is so_far answered front =
     let after : List ℕ = replies state (next + 1 + 1) (lines_seen (drop (next + 1) lines)) in
     let rest : replies state (next + 1) (lines_seen (drop next lines)) ≡ reply state (next + 1) line.items ++ after =
-      ap (λ ls. replies state (next + 1) (lines_seen ls)) (drop_more lines next line inside ∙ ap (λ l. l ∷ drop (next + 1) lines) (sym is)) in
+    ap (λ ls. replies state (next + 1) (lines_seen ls)) (drop_more lines next line inside ∙ ap (λ l. l ∷ drop (next + 1) lines) (sym is)) in
     record {
       sent = so_far.sent ++ front.sent;
       taken = appends_append before middle now so_far.sent front.sent so_far.taken front.taken;
       same = so_far.same ∙ ap (λ l. (so_far.sent ++ text) ++ l) rest
           ∙ sym (append_assoc (so_far.sent ++ text) (reply state (next + 1) line.items) after)
           ∙ ap (λ l. l ++ after) (append_assoc so_far.sent text (reply state (next + 1) line.items)
-            ∙ ap (λ l. so_far.sent ++ l) (sym answered ∙ front.split) ∙ sym (append_assoc so_far.sent front.sent left));
+          ∙ ap (λ l. so_far.sent ++ l) (sym answered ∙ front.split) ∙ sym (append_assoc so_far.sent front.sent left));
     }
 
 -- all lines were answered, and what was kept was written

@@ -1,8 +1,8 @@
 use Rattle.std.proofs.Common.{arith, ap, ◌∙◌, ◌++◌, ◌+◌, string_bytes}
 use Rattle.dnr_spec.specs.Out.{opening, reply}
 use Rattle.dnr_top.specs.Rule.{rules_seen}
-use Rattle.dnr_top.proofs.Runs.{one_line_more, some_more, some_of_part}
-use Rattle.dnr_top.proofs.run.answer_lines.Goals as goal
+use Rattle.dnr_top.proofs.Answered.{one_line_more, some_more, some_of_part}
+use Rattle.dnr_top.proofs.answers.answer_lines.Goals as goal
 
 pub returns-in_err-write_if_long-clause-part : goal.returns-in_err-write_if_long-clause-part
 returns-in_err-write_if_long-clause-part g c =
