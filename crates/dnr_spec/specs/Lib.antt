@@ -6,6 +6,7 @@ pub mod UrlFilter
 pub mod Lines
 pub mod Json
 pub mod Rule
+pub mod FileRefusal
 pub mod RuleFile
 pub mod Request
 pub mod RequestLine
@@ -16,4 +17,6 @@ pub mod Scan
 pub mod Output
 pub mod Status
 pub mod Words
+pub mod Faults
 pub mod Out
+pub mod Examples

@@ -5,7 +5,7 @@ use Rattle.dnr_spec.specs.declared.outcome.Outcome.{Outcome}
 use Rattle.dnr_spec.specs.declared.outcome.Outcome.TheVariants as outcome
 use Rattle.dnr_spec.specs.declared.rule_fault.RuleFault.{RuleFault}
 use Rattle.dnr_spec.specs.declared.rule_fault.RuleFault.TheVariants as fault
-use Rattle.dnr_spec.specs.RuleFile.{FileRefusal, bad_json, bad_rule}
+use Rattle.dnr_spec.specs.FileRefusal.{FileRefusal, bad_json, bad_rule}
 use Rattle.dnr_spec.specs.Scan.{RuleName, Verdict}
 
 abbrev pub outcome_name : Outcome → List ℕ
@@ -21,11 +21,16 @@ abbrev pub rule_field : Option RuleName → List ℕ
 rule_field None = []
 rule_field (Some rule) = codes ",\"rule\":" ++ rule_text rule
 
+-- how a request line of this number begins
+abbrev pub verdict_start : ℕ → ℕ → Outcome → List ℕ
+verdict_start line generation outcome =
+    codes "{\"line\":" ++ (decimal line ++ (codes ",\"generation\":" ++ (decimal generation
+    ++ (codes ",\"verdict\":\"" ++ (outcome_name outcome ++ codes "\"")))))
+
 -- what a request line of this number prints
 abbrev pub verdict_line : ℕ → ℕ → Verdict → List ℕ
 verdict_line line generation verdict =
-    codes "{\"line\":" ++ decimal line ++ codes ",\"generation\":" ++ decimal generation
-    ++ codes ",\"verdict\":\"" ++ outcome_name verdict.outcome ++ codes "\"" ++ rule_field verdict.rule ++ codes "}\n"
+    verdict_start line generation verdict.outcome ++ rule_field verdict.rule ++ codes "}\n"
 
 -- what a line prints that breaks the form
 abbrev pub bad_line : ℕ → List ℕ
@@ -42,7 +47,7 @@ fault_name fault.Action = codes "action"
 abbrev pub refusal_fields : FileRefusal → List ℕ
 refusal_fields bad_json = codes "\"bad-json\""
 refusal_fields (bad_rule place fault) =
-    codes "\"not-yet-supported\",\"place\":" ++ decimal place ++ codes ",\"path\":\"" ++ fault_name fault ++ codes "\""
+    codes "\"not-yet-supported\",\"place\":" ++ (decimal place ++ (codes ",\"path\":\"" ++ (fault_name fault ++ codes "\"")))
 
 -- what a file prints that is refused
 abbrev pub refusal_line : List ℕ → FileRefusal → List ℕ

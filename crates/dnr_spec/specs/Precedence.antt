@@ -4,7 +4,7 @@ use Rattle.std.specs.List.{find, list_any}
 use Rattle.dnr_spec.specs.Rule.{Action, block, allow}
 use Rattle.dnr_spec.specs.State.{Live}
 
--- the order of the actions at equal priority
+-- the order of the actions at equal priority; 1 is for `allowAllRequests`
 abbrev pub action_place : Action → ℕ
 action_place allow = 0
 action_place block = 2
@@ -27,7 +27,7 @@ pub record Winner : Type 0 where
   pub extension : List ℕ
   pub live : Live
 
--- the order of the actions across extensions
+-- the order of the actions across extensions; 1 is for redirects
 abbrev pub class_of : Action → ℕ
 class_of block = 0
 class_of allow = 2

@@ -6,16 +6,15 @@ use Rattle.dnr_spec.specs.declared.kind.Kind.{Kind}
 use Rattle.dnr_spec.specs.Kind.{kind_named}
 use Rattle.dnr_spec.specs.View.{View}
 use Rattle.dnr_spec.specs.UrlView.{view_of}
-use Rattle.dnr_spec.specs.Json.{tree_of, text_at}
-use Rattle.dnr_spec.specs.RuleFile.{is_object_of}
+use Rattle.dnr_spec.specs.Json.{tree_of, text_at, is_object_of}
 use Rattle.dnr_spec.specs.Request.{Request}
 
 abbrev pub request_keys : List (List ℕ)
 request_keys = codes "url" ∷ codes "type" ∷ []
 
 abbrev pub request_from : Option View → Option Kind → Option Request
-request_from None kind = None
-request_from (Some view) None = None
+request_from view None = None
+request_from None (Some kind) = None
 request_from (Some view) (Some kind) = Some (record { view = view; kind = kind })
 
 abbrev pub request_in : Data → Option Request

@@ -1,15 +1,15 @@
 -- A rules file: a JSON list of rules, of which each has an id of its own. The first rule that breaks the
 -- form refuses the file.
-use Rattle.std.specs.Prelude.{ℕ, List, [], ◌∷◌, ◌++◌, length, codes, Bool, true, false, ◌==◌, ◌&&◌, nat_le, Option, Some, None, option_and_then, Result, Ok, Err, if◌then◌else◌}
-use Rattle.std.specs.Option.{option_map_or}
+use Rattle.std.specs.Prelude.{◌≡◌, ℕ, List, [], ◌∷◌, ◌++◌, length, codes, Bool, true, false, ◌==◌, ◌&&◌, nat_le, Option, Some, None, option_and_then, Result, Ok, Err, if◌then◌else◌}
 use Rattle.std.specs.List.{list_any}
 use Rattle.std.specs.Str.{bytes_eq}
 use Rattle.serde_json.specs.Data.{Data, Items, no_items, item}
-use Rattle.serde_json.specs.Find.{get, as_object, as_array}
+use Rattle.serde_json.specs.Find.{get, as_array}
 use Rattle.dnr_spec.specs.declared.rule_fault.RuleFault.{RuleFault}
 use Rattle.dnr_spec.specs.declared.rule_fault.RuleFault.TheVariants as fault
 use Rattle.dnr_spec.specs.Kind.{default_kinds}
-use Rattle.dnr_spec.specs.Json.{tree_of, whole_number, text_at, has_only}
+use Rattle.dnr_spec.specs.Json.{tree_of, whole_number, text_at, is_object_of}
+use Rattle.dnr_spec.specs.FileRefusal.{FileRefusal, bad_json, bad_rule}
 use Rattle.dnr_spec.specs.Rule.{Condition, Action, block, allow, Rule}
 
 -- the most bytes of a rules file
@@ -23,19 +23,15 @@ in_range n = if nat_le 1 n && nat_le n 2147483647 then Some n else None
 abbrev pub number_of : Data → Option ℕ
 number_of d = option_and_then in_range (whole_number d)
 
--- the object has no other keys than these
-abbrev pub is_object_of : List (List ℕ) → Data → Bool
-is_object_of keys d = option_map_or (has_only keys) (as_object d) false
-
 abbrev pub rule_keys : List (List ℕ)
 rule_keys = codes "id" ∷ codes "priority" ∷ codes "condition" ∷ codes "action" ∷ []
 
--- an id that no earlier rule has
-abbrev pub unless_taken : List Rule → ℕ → Option ℕ
-unless_taken earlier id = if list_any (λ rule. rule.id == id) earlier then None else Some id
+-- an id that is not taken by an earlier rule
+abbrev pub unless_taken : (ℕ → Bool) → ℕ → Option ℕ
+unless_taken is_taken id = if is_taken id then None else Some id
 
-abbrev pub id_in : List Rule → Data → Option ℕ
-id_in earlier d = option_and_then (unless_taken earlier) (option_and_then number_of (get (codes "id") d))
+abbrev pub id_in : (ℕ → Bool) → Data → Option ℕ
+id_in is_taken d = option_and_then (unless_taken is_taken) (option_and_then number_of (get (codes "id") d))
 
 -- 1 where there is none
 abbrev pub priority_from : Option Data → Option ℕ
@@ -62,16 +58,15 @@ rule_from true (Some id) (Some priority) (Some condition) None = Err fault.Actio
 rule_from true (Some id) (Some priority) (Some condition) (Some action) =
     Ok (record { id = id; priority = priority; condition = condition; action = action })
 
--- the rule that stands behind these
-abbrev pub read_rule : List Rule → Data → Result Rule RuleFault
-read_rule earlier d =
-    rule_from (is_object_of rule_keys d) (id_in earlier d) (priority_from (get (codes "priority") d))
+-- the rule of a tree, where these ids are taken
+abbrev pub read_rule : (ℕ → Bool) → Data → Result Rule RuleFault
+read_rule is_taken d =
+    rule_from (is_object_of rule_keys d) (id_in is_taken d) (priority_from (get (codes "priority") d))
     (option_and_then condition_from (get (codes "condition") d)) (option_and_then action_from (get (codes "action") d))
 
--- why a file is refused: at the place of a rule, counted from 0
-pub data FileRefusal : Type 0 where
-  bad_json : FileRefusal
-  bad_rule : ℕ → RuleFault → FileRefusal
+-- a rule of this id is among these
+abbrev pub has_id : List Rule → ℕ → Bool
+has_id rules id = list_any (λ rule. rule.id == id) rules
 
 -- goes on with the rule, or stops at its fault
 abbrev pub read_next : (Rule → Result (List Rule) FileRefusal) → ℕ → Result Rule RuleFault → Result (List Rule) FileRefusal
@@ -81,7 +76,7 @@ read_next go_on place (Err fault) = Err (bad_rule place fault)
 -- the rules of a list, behind those that were read
 abbrev pub read_from : List Rule → Items → Result (List Rule) FileRefusal
 read_from earlier no_items = Ok earlier
-read_from earlier (item d items) = read_next (λ rule. read_from (earlier ++ rule ∷ []) items) (length earlier) (read_rule earlier d)
+read_from earlier (item d items) = read_next (λ rule. read_from (earlier ++ rule ∷ []) items) (length earlier) (read_rule (has_id earlier) d)
 
 abbrev pub read_items : Option Items → Result (List Rule) FileRefusal
 read_items None = Err (bad_rule 0 fault.Rules)
@@ -94,3 +89,8 @@ read_tree (Some d) = read_items (as_array d)
 -- the rules of a file
 abbrev pub rules_of : List ℕ → Result (List Rule) FileRefusal
 rules_of bytes = read_tree (tree_of bytes)
+
+-- no two of the rules have one id
+abbrev pub HaveOwnIds : List Rule → Type 0
+HaveOwnIds [] = Unit {0}
+HaveOwnIds (rule ∷ rules) = (has_id rules rule.id ≡ false) × HaveOwnIds rules

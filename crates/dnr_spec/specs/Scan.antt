@@ -38,5 +38,5 @@ abbrev pub verdict_of : Option Winner → Verdict
 verdict_of None = record { outcome = outcome.None; rule = None }
 verdict_of (Some winner) = record { outcome = outcome_of winner.live.rule.action; rule = Some (record { extension = winner.extension; set = winner.live.set; id = winner.live.rule.id }) }
 
-abbrev pub scan : State → Request → Verdict
+unfoldable pub scan : State → Request → Verdict
 scan state request = verdict_of (deciding state request)

@@ -29,7 +29,7 @@ is_address_byte b = (nat_le 97 b && nat_le b 102) || (nat_le 48 b && nat_le b 57
 abbrev pub is_name : List ℕ → Bool
 is_name host = nat_le 1 (length host) && list_all is_name_byte host
 
--- an IPv6 address between brackets
+-- of the shape of an IPv6 address between brackets
 abbrev pub is_address : List ℕ → Bool
 is_address host =
     nat_le 2 (length host) && slice_index host 0 == 91 && slice_index host (length host - 1) == 93
@@ -47,7 +47,7 @@ begins_host b = b == 47 || b == 64
 abbrev pub ends_host : ℕ → Bool
 ends_host b = b == 58 || b == 47 || b == 63
 
--- what every view keeps
+-- the shape that every view keeps; which URL it shows is said where it is made
 pub record IsView (view : View) : Type 0 where
   pub ascii : IsAscii view.full
   pub first : 0 < view.host.start

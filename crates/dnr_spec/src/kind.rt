@@ -1,3 +1,6 @@
+ghost use Rattle.std.specs.Prelude.{◌≡◌, ◌<◌};
+ghost use Rattle.dnr_spec.specs.Kind.{place_of, name_of, kind_named};
+
 /// What a request is for: Chrome's `ResourceType`, in the order of its reference.
 #[derive(Clone, Copy, Debug, PartialEq, Eq, PartialOrd, Ord)]
 pub enum Kind {
@@ -16,4 +19,63 @@ pub enum Kind {
     WebTransport,
     WebBundle,
     Other,
+}
+
+impl Kind {
+    /// All of them, in the order of the reference.
+    pub const ALL: [Kind; 15] = [
+        Kind::MainFrame,
+        Kind::SubFrame,
+        Kind::Stylesheet,
+        Kind::Script,
+        Kind::Image,
+        Kind::Font,
+        Kind::Object,
+        Kind::XmlHttpRequest,
+        Kind::Ping,
+        Kind::CspReport,
+        Kind::Media,
+        Kind::WebSocket,
+        Kind::WebTransport,
+        Kind::WebBundle,
+        Kind::Other,
+    ];
+
+    /// Its place in the reference, from 0.
+    pub fn place(self) -> u32
+        ensures value { result ≡ place_of self }
+        ensures small { result < 15 }
+    {
+        self as u32
+    }
+
+    /// How the reference writes it.
+    pub fn name(self) -> &'static str
+        ensures { result.now ≡ name_of self }
+    {
+        match self {
+            Kind::MainFrame => "main_frame",
+            Kind::SubFrame => "sub_frame",
+            Kind::Stylesheet => "stylesheet",
+            Kind::Script => "script",
+            Kind::Image => "image",
+            Kind::Font => "font",
+            Kind::Object => "object",
+            Kind::XmlHttpRequest => "xmlhttprequest",
+            Kind::Ping => "ping",
+            Kind::CspReport => "csp_report",
+            Kind::Media => "media",
+            Kind::WebSocket => "websocket",
+            Kind::WebTransport => "webtransport",
+            Kind::WebBundle => "webbundle",
+            Kind::Other => "other",
+        }
+    }
+
+    /// The type of a name.
+    pub fn named(name: &str) -> Option<Kind>
+        ensures { result ≡ kind_named name.now }
+    {
+        Kind::ALL.iter().copied().find(|kind| kind.name() == name)
+    }
 }

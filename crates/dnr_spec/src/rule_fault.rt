@@ -9,8 +9,8 @@ pub enum RuleFault {
     Id,
     /// The priority is there and no whole number in range.
     Priority,
-    /// The condition is no object, or has a key that is not known.
+    /// The condition is missing or no object, or has a key that is not known.
     Condition,
-    /// The action is not one of those that are known.
+    /// The action is missing, or none of those that are known.
     Action,
 }

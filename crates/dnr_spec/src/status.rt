@@ -15,7 +15,7 @@ pub enum Status {
     WriteFault,
     /// Memory ran out.
     NoMemory,
-    /// A file, or a line of a script, is longer than its limit.
+    /// A file, or a line of a script, is longer than its limit, or a script has too many lines.
     FileTooLong,
 }
 

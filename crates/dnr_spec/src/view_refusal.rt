@@ -1,4 +1,5 @@
-/// Why a text is no URL that the engine decides.
+/// Why a text is no URL that the engine decides. The length of the text is tested first, then in this
+/// order what the text holds, and last the length of the serialization.
 #[derive(Clone, Copy, Debug, PartialEq, Eq)]
 pub enum ViewRefusal {
     /// The text, or else its serialization, is longer than 65,536 bytes.

@@ -1,0 +1,119 @@
+-- What the bits of a set say of its types.
+use Rattle.std.proofs.Common.{◌≡◌, ◌≢◌, ℕ, ◌^◌, ◌-◌, ◌≤◌, ◌<◌, ◌+◌, List, [], ◌∷◌, Bool, true, false, cond, not, ◌&&◌, ◌||◌, ◌==◌, refl, sym, ap, ◌∙◌, subst, ⊎_elim, filter, arith, eqb→eq, eq-eqb, ne_eqb, lit<}
+use Rattle.std.specs.Prelude.{bit_and, bit_or}
+use Rattle.std.specs.List.{list_any}
+use Rattle.std.proofs.lemmas.Bool.{cases_Bool, cond-true, cond-false}
+use Rattle.std.proofs.lemmas.Bool.Decides.{nat_tests}
+use Rattle.std.proofs.lemmas.Nat.{and_or_self, and_or_apart, pow_apart, pow_pos}
+use Rattle.std.proofs.lemmas.Grind.{and-not_self, and_not_apart}
+use Rattle.std.proofs.Math.Nat.{pow-le-pow_right}
+use Rattle.dnr_spec.specs.declared.kind.Kind.{Kind}
+use Rattle.dnr_spec.specs.declared.kind.Kind.TheVariants.{MainFrame, SubFrame, Stylesheet, Script, Image, Font, Object, XmlHttpRequest, Ping, CspReport, Media, WebSocket, WebTransport, WebBundle, Other}
+use Rattle.dnr_spec.specs.Kind.{all_kinds, place_of, same_kind, has_kind}
+use Rattle.dnr_base.specs.KindSet.{has_bit, kinds_of}
+use Rattle.dnr_base.specs.declared.kind_set.KindSet.{KindSet}
+
+-- each type is one of all
+has_kind-all_kinds : (kind : Kind) → has_kind all_kinds kind ≡ true
+has_kind-all_kinds MainFrame = refl
+has_kind-all_kinds SubFrame = refl
+has_kind-all_kinds Stylesheet = refl
+has_kind-all_kinds Script = refl
+has_kind-all_kinds Image = refl
+has_kind-all_kinds Font = refl
+has_kind-all_kinds Object = refl
+has_kind-all_kinds XmlHttpRequest = refl
+has_kind-all_kinds Ping = refl
+has_kind-all_kinds CspReport = refl
+has_kind-all_kinds Media = refl
+has_kind-all_kinds WebSocket = refl
+has_kind-all_kinds WebTransport = refl
+has_kind-all_kinds WebBundle = refl
+has_kind-all_kinds Other = refl
+
+-- types of one place have one bit
+same_bit : (bits : ℕ) (a b : Kind) → same_kind a b ≡ true → has_bit bits b ≡ has_bit bits a
+same_bit bits a b same = ap (λ place. not (bit_and bits (2 ^ place) == 0)) (sym (let e : place_of a ≡ place_of b = grind (arith, nat_tests) in e))
+
+-- the truth table of one more type: s, it is the type sought; b, its bit is set; k, the bit of the type
+-- sought is set; r, the type sought is among the others
+one_more : (s b k r : Bool) → (s ≡ true → b ≡ k) → cond b (s || (r && k)) (r && k) ≡ ((s || r) && k)
+one_more true true true r h = refl
+one_more true true false r h = h refl
+one_more true false true true h = refl
+one_more true false true false h = h refl
+one_more true false false true h = refl
+one_more true false false false h = refl
+one_more false true k r h = refl
+one_more false false k r h = refl
+
+spread : (b s : Bool) (kind first : Kind) (kinds : List Kind) → same_kind kind first ≡ s → has_kind (cond b (first ∷ kinds) kinds) kind ≡ cond b (s || has_kind kinds kind) (has_kind kinds kind)
+spread true s kind first kinds e = ap (λ t. t || has_kind kinds kind) e
+spread false s kind first kinds e = refl
+
+has_kind-filter : (bits : ℕ) (kinds : List Kind) (kind : Kind) → has_kind (filter (has_bit bits) kinds) kind ≡ (has_kind kinds kind && has_bit bits kind)
+has_kind-filter bits [] kind = refl
+has_kind-filter bits (first ∷ kinds) kind =
+    spread (has_bit bits first) (same_kind kind first) kind first (filter (has_bit bits) kinds) refl
+    ∙ ap (λ r. cond (has_bit bits first) (same_kind kind first || r) r) (has_kind-filter bits kinds kind)
+    ∙ one_more (same_kind kind first) (has_bit bits first) (has_bit bits kind) (has_kind kinds kind) (same_bit bits kind first)
+
+-- a type is in the set where its bit is set
+pub has_kind-kinds_of : (set : KindSet) (kind : Kind) → has_kind (kinds_of set) kind ≡ has_bit set.bits kind
+unfolding kinds_of
+has_kind-kinds_of set kind = has_kind-filter set.bits all_kinds kind ∙ ap (λ b. b && has_bit set.bits kind) (has_kind-all_kinds kind)
+
+pow_nonzero : (n : ℕ) → 2 ^ n ≢ 0
+pow_nonzero n = let positive = pow_pos n in omega arith
+
+pow_small : (n : ℕ) → n < 16 → 2 ^ n ≤ 65535
+pow_small n small =
+    let low : n ≤ 15 = omega arith in
+    let most : 2 ^ n ≤ 2 ^ 15 = pow-le-pow_right {n = 2} (lit< tt) low in
+    omega arith
+
+set_bit : (bits : ℕ) (n m : ℕ) (same : Bool) → (n == m) ≡ same → not (bit_and (bit_or bits (2 ^ n)) (2 ^ m) == 0) ≡ (same || not (bit_and bits (2 ^ m) == 0))
+set_bit bits n m true same =
+    let e : n ≡ m = grind (arith, nat_tests) in
+    subst (λ k. not (bit_and (bit_or bits (2 ^ n)) (2 ^ k) == 0) ≡ true) e (ap (λ v. not (v == 0)) (and_or_self (2 ^ n) bits) ∙ ap not (ne_eqb (2 ^ n) 0 (pow_nonzero n)))
+set_bit bits n m false apart =
+    let ne : n ≢ m = grind (arith, nat_tests) in
+    ap (λ v. not (v == 0)) (and_or_apart (2 ^ m) bits (2 ^ n) (pow_apart n m ne))
+
+clear_bit : (bits : ℕ) (n m : ℕ) (same : Bool) → (n == m) ≡ same → n < 16 → m < 16 → not (bit_and (bit_and bits (65535 - 2 ^ n)) (2 ^ m) == 0) ≡ (not same && not (bit_and bits (2 ^ m) == 0))
+clear_bit bits n m true same n_small m_small =
+    let e : m ≡ n = grind (arith, nat_tests) in
+    ap (λ v. not (v == 0)) (and-not_self bits 65535 (2 ^ n) (2 ^ m) refl (pow_small n n_small) (ap (λ k. 2 ^ k) e))
+clear_bit bits n m false apart n_small m_small =
+    let ne : n ≢ m = grind (arith, nat_tests) in
+    ap (λ v. not (v == 0)) (and_not_apart bits 65535 (2 ^ n) (2 ^ m) refl (pow_small n n_small) (pow_small m m_small) (pow_apart n m ne))
+
+place_small : (kind : Kind) → place_of kind < 16
+place_small MainFrame = lit< tt
+place_small SubFrame = lit< tt
+place_small Stylesheet = lit< tt
+place_small Script = lit< tt
+place_small Image = lit< tt
+place_small Font = lit< tt
+place_small Object = lit< tt
+place_small XmlHttpRequest = lit< tt
+place_small Ping = lit< tt
+place_small CspReport = lit< tt
+place_small Media = lit< tt
+place_small WebSocket = lit< tt
+place_small WebTransport = lit< tt
+place_small WebBundle = lit< tt
+place_small Other = lit< tt
+
+-- with the bit of a type the set has the type, and the others as before
+pub has_kind-insert : (old new : KindSet) (kind other : Kind) → new.bits ≡ bit_or old.bits (2 ^ place_of kind) → has_kind (kinds_of new) other ≡ (same_kind kind other || has_kind (kinds_of old) other)
+has_kind-insert old new kind other e =
+    has_kind-kinds_of new other ∙ ap (λ bits. has_bit bits other) e ∙ set_bit old.bits (place_of kind) (place_of other) (same_kind kind other) refl
+    ∙ ap (λ b. same_kind kind other || b) (sym (has_kind-kinds_of old other))
+
+-- without the bit of a type the set has the others as before, and not the type
+pub has_kind-remove : (old new : KindSet) (kind other : Kind) → new.bits ≡ bit_and old.bits (65535 - 2 ^ place_of kind) → has_kind (kinds_of new) other ≡ (not (same_kind kind other) && has_kind (kinds_of old) other)
+has_kind-remove old new kind other e =
+    has_kind-kinds_of new other ∙ ap (λ bits. has_bit bits other) e
+    ∙ clear_bit old.bits (place_of kind) (place_of other) (same_kind kind other) refl (place_small kind) (place_small other)
+    ∙ ap (λ b. not (same_kind kind other) && b) (sym (has_kind-kinds_of old other))

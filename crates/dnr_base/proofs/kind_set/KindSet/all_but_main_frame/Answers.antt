@@ -1,0 +1,7 @@
+use Rattle.std.proofs.Common.{refl}
+use Rattle.dnr_base.specs.KindSet.{kinds_of}
+use Rattle.dnr_base.proofs.kind_set.KindSet.all_but_main_frame.Goals as goal
+
+pub returns : goal.returns
+unfolding kinds_of
+returns c = refl

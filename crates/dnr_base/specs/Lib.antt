@@ -1,0 +1,2 @@
+pub mod KindSet
+pub mod Request

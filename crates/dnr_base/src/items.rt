@@ -1,0 +1,46 @@
+ghost use Rattle.std.specs.Prelude.{◌≡◌, List, IfOk};
+
+use crate::Copied;
+use dnr_spec::NoMemory;
+use std::alloc::Global;
+use std::marker::Model;
+
+/// A list that its owner keeps and lends. A clause sees it as the list of its items.
+#[derive(Debug, Drop)]
+pub struct Items<T> {
+    items: Vec<T>,
+}
+
+impl<T> Model for Items<T> {
+    ghost Value = { List T };
+
+    ghost view = { λ s. s.items.items };
+}
+
+impl<T> Items<T> {
+    /// Takes the vector as it is.
+    pub fn build(items: Vec<T>) -> Items<T>
+        ensures { result ≡ items.items }
+    {
+        Items { items }
+    }
+
+    pub fn as_slice(&self) -> &[T]
+        ensures { result.now ≡ self.now }
+    {
+        self.items.as_slice()
+    }
+}
+
+impl<T: Copied + Drop> Items<T> {
+    /// A list of equal items.
+    pub fn copy(&self, alloc: Global) -> Result<Items<T>, NoMemory>
+        ensures { IfOk result (λ copy. copy ≡ self.now) }
+    {
+        let mut items = Vec::with_capacity(alloc, self.items.len())?;
+        for item in self.items.iter() {
+            items.push(item.copied(alloc)?)?;
+        }
+        Ok(Items { items })
+    }
+}

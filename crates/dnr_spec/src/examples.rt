@@ -1,0 +1,166 @@
+//! Examples of the definitions. Each is stated in `specs/Examples.antt` and computed from the definitions
+//! by the prover; the functions do nothing.
+
+ghost use Rattle.dnr_spec.specs.Examples.{NoRulesDecideNothing, MainFrameIsLeftAlone, AllowPrevailsAtEqualPriority, GreaterPriorityPrevails, SmallerIdPrevails, BlankLinesCount, CrAloneIsNoBlankLine, BrokenLinesAreBad, NullIsPresent, FractionIsNoId, LastValueOfAKeyCounts, SecondOfEqualIdsIsAtFault, FirstRuleAtFaultIsNamed, NestingHasALimit, HostStandsInTheAuthority, HostIsInAscii, PathIsNoHost, EachRefusalOfAUrl, SeparatorFitsTheEnd, DomainAnchorStaysInTheHost, AnchorsAlone, BlockPrevailsAcrossExtensions, NewerExtensionPrevails, EarlierRulesetPrevails, MatchTakesTwoFileNames, TwoFilesAreServed, UsageIsForBadWords};
+
+/// Without rules a request goes on.
+#[tactic(auto, using(crate::proofs::Computed::no_rules_decide_nothing))]
+pub fn no_rules_decide_nothing()
+    ensures { NoRulesDecideNothing }
+{}
+
+/// A rule that lists no types holds on a script, and not on a `main_frame`.
+#[tactic(auto, using(crate::proofs::Computed::main_frame_is_left_alone))]
+pub fn main_frame_is_left_alone()
+    ensures { MainFrameIsLeftAlone }
+{}
+
+/// At equal priority `allow` prevails over `block`, whatever the ids.
+#[tactic(auto, using(crate::proofs::Computed::allow_prevails_at_equal_priority))]
+pub fn allow_prevails_at_equal_priority()
+    ensures { AllowPrevailsAtEqualPriority }
+{}
+
+/// A greater priority prevails whatever the action; an absent one is 1.
+#[tactic(auto, using(crate::proofs::Computed::greater_priority_prevails))]
+pub fn greater_priority_prevails()
+    ensures { GreaterPriorityPrevails }
+{}
+
+/// Of rules that are equal otherwise the one of the smaller id prevails, wherever it stands.
+#[tactic(auto, using(crate::proofs::Computed::smaller_id_prevails))]
+pub fn smaller_id_prevails()
+    ensures { SmallerIdPrevails }
+{}
+
+/// A blank line prints nothing and is counted; a CR before the LF is dropped; a last line needs no LF.
+#[tactic(auto, using(crate::proofs::Computed::blank_lines_count))]
+pub fn blank_lines_count()
+    ensures { BlankLinesCount }
+{}
+
+/// One CR is dropped, and only before an LF: a CR that is left makes a line that is not blank.
+#[tactic(auto, using(crate::proofs::Computed::cr_alone_is_no_blank_line))]
+pub fn cr_alone_is_no_blank_line()
+    ensures { CrAloneIsNoBlankLine }
+{}
+
+/// No JSON, another key, a type or a scheme that is not known: each is a bad line, and the next is served.
+#[tactic(auto, using(crate::proofs::Computed::broken_lines_are_bad))]
+pub fn broken_lines_are_bad()
+    ensures { BrokenLinesAreBad }
+{}
+
+/// A priority that is null is not an absent one.
+#[tactic(auto, using(crate::proofs::Computed::null_is_present))]
+pub fn null_is_present()
+    ensures { NullIsPresent }
+{}
+
+/// `1.0` is no whole number.
+#[tactic(auto, using(crate::proofs::Computed::fraction_is_no_id))]
+pub fn fraction_is_no_id()
+    ensures { FractionIsNoId }
+{}
+
+/// Of a repeated key the last value counts.
+#[tactic(auto, using(crate::proofs::Computed::last_value_of_a_key_counts))]
+pub fn last_value_of_a_key_counts()
+    ensures { LastValueOfAKeyCounts }
+{}
+
+/// The second rule of an id is at fault, by its id before its other fields.
+#[tactic(auto, using(crate::proofs::Computed::second_of_equal_ids_is_at_fault))]
+pub fn second_of_equal_ids_is_at_fault()
+    ensures { SecondOfEqualIdsIsAtFault }
+{}
+
+/// The first rule at fault is named, by the path of its first fault.
+#[tactic(auto, using(crate::proofs::Computed::first_rule_at_fault_is_named))]
+pub fn first_rule_at_fault_is_named()
+    ensures { FirstRuleAtFaultIsNamed }
+{}
+
+/// 127 nestings are read, and 128 are no JSON.
+#[tactic(auto, using(crate::proofs::Computed::nesting_has_a_limit))]
+pub fn nesting_has_a_limit()
+    ensures { NestingHasALimit }
+{}
+
+/// The host has no user information and no port; the text has no fragment.
+#[tactic(auto, using(crate::proofs::Computed::host_stands_in_the_authority))]
+pub fn host_stands_in_the_authority()
+    ensures { HostStandsInTheAuthority }
+{}
+
+/// The text is that of the serialization, in which a host is in punycode.
+#[tactic(auto, using(crate::proofs::Computed::host_is_in_ascii))]
+pub fn host_is_in_ascii()
+    ensures { HostIsInAscii }
+{}
+
+/// `://` later than after the scheme begins no host.
+#[tactic(auto, using(crate::proofs::Computed::path_is_no_host))]
+pub fn path_is_no_host()
+    ensures { PathIsNoHost }
+{}
+
+/// No URL, a scheme that is not decided, and a host with another character.
+#[tactic(auto, using(crate::proofs::Computed::each_refusal_of_a_url))]
+pub fn each_refusal_of_a_url()
+    ensures { EachRefusalOfAUrl }
+{}
+
+/// `^` fits the end of the text, takes nothing there, and `^`, `*` or an end anchor may follow.
+#[tactic(auto, using(crate::proofs::Computed::separator_fits_the_end))]
+pub fn separator_fits_the_end()
+    ensures { SeparatorFitsTheEnd }
+{}
+
+/// `||` fits at the host and behind each of its dots, and nowhere else.
+#[tactic(auto, using(crate::proofs::Computed::domain_anchor_stays_in_the_host))]
+pub fn domain_anchor_stays_in_the_host()
+    ensures { DomainAnchorStaysInTheHost }
+{}
+
+/// `|` and `||` alone fit; of `|||` the last is the end anchor, and no host ends a URL.
+#[tactic(auto, using(crate::proofs::Computed::anchors_alone))]
+pub fn anchors_alone()
+    ensures { AnchorsAlone }
+{}
+
+/// Across extensions `block` prevails, whatever the priorities and which is newer.
+#[tactic(auto, using(crate::proofs::Computed::block_prevails_across_extensions))]
+pub fn block_prevails_across_extensions()
+    ensures { BlockPrevailsAcrossExtensions }
+{}
+
+/// Of two that block the newer is named.
+#[tactic(auto, using(crate::proofs::Computed::newer_extension_prevails))]
+pub fn newer_extension_prevails()
+    ensures { NewerExtensionPrevails }
+{}
+
+/// A ruleset that is not enabled says nothing; of the others the earlier goes before the smaller id.
+#[tactic(auto, using(crate::proofs::Computed::earlier_ruleset_prevails))]
+pub fn earlier_ruleset_prevails()
+    ensures { EarlierRulesetPrevails }
+{}
+
+/// `match` takes two names of files, and a name does not begin with `-`.
+#[tactic(auto, using(crate::proofs::Computed::match_takes_two_file_names))]
+pub fn match_takes_two_file_names()
+    ensures { MatchTakesTwoFileNames }
+{}
+
+/// The two files are served, with the one line that says `none`.
+#[tactic(auto, using(crate::proofs::Computed::two_files_are_served))]
+pub fn two_files_are_served()
+    ensures { TwoFilesAreServed }
+{}
+
+/// A command without its files ends with Usage, and one with them never does.
+#[tactic(auto, using(crate::proofs::Computed::usage_is_for_bad_words))]
+pub fn usage_is_for_bad_words()
+    ensures { UsageIsForBadWords }
+{}

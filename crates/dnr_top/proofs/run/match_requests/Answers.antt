@@ -1,0 +1,17 @@
+use Rattle.std.proofs.Common.{ap, Err}
+use Rattle.dnr_top.specs.RuleFile.{refusal_seen}
+use Rattle.dnr_top.specs.Words.{task_seen}
+use Rattle.dnr_top.specs.Rule.{rules_seen}
+use Rattle.dnr_top.proofs.Ended.{refused_run, long_line_run}
+use Rattle.dnr_top.proofs.run.match_requests.Goals as goal
+
+pub returns-in-Err-BadFile-clause-allowed : goal.returns-in-Err-BadFile-clause-allowed
+returns-in-Err-BadFile-clause-allowed g c =
+    refused_run (g.F.Source.files c.args.shelf.now) (task_seen c.args.task.now) (g.F.Source.faults c.args.shelf.now) (g.F.Source.faults c.load_rules.new.shelf) (g.O.Sink.faults c.args.out.now) (g.O.Sink.faults c.refuse.new.out)
+    (g.O.Sink.taken c.args.out.now) (g.O.Sink.taken c.refuse.new.out) (refusal_seen c.in-Err-BadFile.refusal) c.refuse.result
+    (rw c.in-Err-BadFile.field-0-is at c.in-Err-BadFile.ensures.refused) c.refuse.ensures.written c.refuse.ensures.part c.refuse.ensures.only c.refuse.ensures.write_fault
+
+pub returns-in-Err-LineTooLong-clause-allowed : goal.returns-in-Err-LineTooLong-clause-allowed
+returns-in-Err-LineTooLong-clause-allowed g c =
+    long_line_run (g.F.Source.files c.args.shelf.now) (g.F.Source.files c.load_rules.new.shelf) (task_seen c.args.task.now) (g.F.Source.faults c.args.shelf.now) (g.F.Source.faults c.load_script.new.shelf) (g.O.Sink.faults c.args.out.now) (g.O.Sink.faults c.args.out.now)
+    (g.O.Sink.taken c.args.out.now) (rules_seen c.in-Ok.rules.items) c.in-Ok.ensures.files c.in-Ok.ensures.ok (c.in-Err-LineTooLong.ensures.too_long (ap Err c.in-Err-LineTooLong.field-0-is))

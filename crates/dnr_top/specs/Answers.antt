@@ -1,0 +1,19 @@
+-- What a run reads and writes on the way.
+use Rattle.std.specs.Prelude.{◌≡◌, ℕ, List, ◌++◌, Option, Vec, map}
+use Rattle.std.specs.Io.KnownBytes.{Appends}
+use Rattle.std.specs.declared.alloc.Global.{Global}
+
+-- the lines that vectors hold
+abbrev pub lines_seen : List (Vec ℕ Global) → List (List ℕ)
+lines_seen lines = map (λ line. line.items) lines
+
+-- some bytes were written, and none was taken back
+pub record AppendsSome (before now : Option (List ℕ)) : Type 0 where
+  pub written : List ℕ
+  pub taken : Appends before now written
+
+-- some first bytes of a text were written, and these are left
+pub record WritesFront (before now : Option (List ℕ)) (text left : List ℕ) : Type 0 where
+  pub sent : List ℕ
+  pub split : text ≡ sent ++ left
+  pub taken : Appends before now sent

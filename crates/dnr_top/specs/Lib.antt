@@ -1,0 +1,9 @@
+pub mod Rule
+pub mod RuleFile
+pub mod Scan
+pub mod Output
+pub mod Words
+pub mod Gives
+pub mod Answers
+pub mod Load
+pub mod Run

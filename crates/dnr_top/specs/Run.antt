@@ -1,0 +1,19 @@
+-- What a run does.
+use Rattle.std.specs.Prelude.{ℕ, List, Option}
+use Rattle.std.specs.Io.KnownBytes.{Appends}
+use Rattle.dnr_spec.specs.declared.status.Status.{Status}
+use Rattle.dnr_spec.specs.declared.status.Status.TheVariants.{Done, Refused, Usage, ReadFault, WriteFault, NoMemory, FileTooLong}
+
+-- what was written is as it may be
+abbrev pub IsRun : Option (List ℕ) → Option (List ℕ) → (List ℕ → Type 0) → Type 0
+IsRun before now may_be = (written : List ℕ) × Appends before now written × may_be written
+
+-- a file was refused, and that was written or could not be
+abbrev pub IsRefusalStatus : Status → Type 0
+IsRefusalStatus Done = ⊥
+IsRefusalStatus Refused = Unit {0}
+IsRefusalStatus Usage = ⊥
+IsRefusalStatus ReadFault = ⊥
+IsRefusalStatus WriteFault = Unit {0}
+IsRefusalStatus NoMemory = Unit {0}
+IsRefusalStatus FileTooLong = ⊥

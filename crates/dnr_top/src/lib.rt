@@ -1,0 +1,14 @@
+//! The command `match`: from the words and the bytes of files to the bytes that are written.
+#![tactic(auto)]
+
+mod answers;
+mod load;
+mod output;
+mod request_line;
+mod rule;
+mod rule_file;
+mod run;
+mod scan;
+mod tree;
+mod url_view;
+mod words;

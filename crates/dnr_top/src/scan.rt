@@ -1,0 +1,99 @@
+// Which rule decides a request: Chrome's reference, "Rule prioritization".
+ghost use Rattle.std.specs.Prelude.{◌≡◌, if◌then◌else◌, option_map};
+ghost use Rattle.dnr_spec.specs.Holds as held;
+ghost use Rattle.dnr_spec.specs.Out.{local, opening};
+ghost use Rattle.dnr_spec.specs.Precedence as order;
+ghost use Rattle.dnr_spec.specs.Request.{own_part};
+ghost use Rattle.dnr_spec.specs.RuleFile.{HaveOwnIds};
+ghost use Rattle.dnr_spec.specs.Scan as spec;
+ghost use Rattle.dnr_base.specs.Request.{request_seen};
+ghost use Rattle.dnr_top.specs.Rule.{action_seen, rule_seen, rules_seen};
+ghost use Rattle.dnr_top.specs.Scan.{live_seen, best_of, stronger_of};
+ghost use Rattle.dnr_top.specs.Output.{verdict_seen};
+
+use crate::output::{RuleName, Verdict};
+use crate::rule::{Action, Rule};
+use dnr_base::Request;
+use dnr_spec::Outcome;
+
+/// What becomes of a request, where these rules are the ruleset `rules` of the one extension `local`.
+#[tactic(auto, unfolding(dnr_spec::specs::Scan::scan))]
+pub fn verdict_of(rules: &[Rule], request: &Request) -> Verdict<'static>
+    requires { HaveOwnIds (rules_seen rules.now) }
+    ensures { verdict_seen result ≡ spec.scan (opening (rules_seen rules.now)) (request_seen request.now) }
+{
+    match deciding_rule(rules, request) {
+        None => Verdict {
+            outcome: Outcome::None,
+            rule: None,
+        },
+        Some(rule) => Verdict {
+            outcome: outcome_of(rule.action),
+            rule: Some(RuleName {
+                extension: "local",
+                set: "rules",
+                id: rule.id,
+            }),
+        },
+    }
+}
+
+fn outcome_of(action: Action) -> Outcome
+    ensures { result ≡ spec.outcome_of (action_seen action) }
+{
+    match action {
+        Action::Block => Outcome::Block,
+        Action::Allow => Outcome::Allow,
+    }
+}
+
+// Of the rules that hold, the one that no other beats. It walks once and keeps the best so far.
+fn deciding_rule<'a>(rules: &'a [Rule], request: &Request) -> Option<&'a Rule>
+    requires { HaveOwnIds (rules_seen rules.now) }
+    ensures { best_of result ≡ order.inside (spec.candidates (local (rules_seen rules.now)) (request_seen request.now)) }
+{
+    let mut best = None;
+    for rule in rules {
+        best = stronger(best, rule, request);
+    }
+    best
+}
+
+// The best so far and one rule more.
+fn stronger<'a>(best: Option<&'a Rule>, rule: &'a Rule, request: &Request) -> Option<&'a Rule>
+    ensures { best_of result ≡ stronger_of (best_of best.entry) (live_seen rule.now) (held.holds (rule_seen rule.now) (own_part (request_seen request.now))) }
+{
+    if !holds(rule, request) {
+        return best;
+    }
+    match best {
+        Some(best) => Some(winner(rule, best)),
+        None => Some(rule),
+    }
+}
+
+fn winner<'a>(rule: &'a Rule, best: &'a Rule) -> &'a Rule
+    ensures { live_seen result.now ≡ (if order.beats (live_seen rule.now) (live_seen best.now) then live_seen rule.now else live_seen best.now) }
+{
+    if beats(rule, best) { rule } else { best }
+}
+
+// Greater priority first, then `allow`, then the smaller id.
+fn beats(rule: &Rule, other: &Rule) -> bool
+    ensures { result ≡ order.beats (live_seen rule.now) (live_seen other.now) }
+{
+    if rule.priority != other.priority {
+        return rule.priority > other.priority;
+    }
+    if rule.action != other.action {
+        return rule.action == Action::Allow;
+    }
+    rule.id < other.id
+}
+
+// Whether the rule's condition holds on the request.
+fn holds(rule: &Rule, request: &Request) -> bool
+    ensures { result ≡ held.holds (rule_seen rule.now) (own_part (request_seen request.now)) }
+{
+    rule.kinds.contains(request.kind)
+}
