@@ -1,0 +1,6 @@
+pub mod Anchor
+pub mod Labels
+pub mod Read
+pub mod Refused
+pub mod Stops
+pub mod Told
