@@ -1,3 +1,4 @@
-pub mod Pieces
 pub mod Domains
 pub mod Filters
+pub mod Pieces
+pub mod Skipped

@@ -19,7 +19,7 @@ or_false false b h g = g
 
 -- ---- a byte of the pattern and a byte of the text
 
-one_more : (ends fold : Bool) (c x : ℕ) (pattern v : List ℕ) → c ≢ 42 → fits_at ends fold (c ∷ pattern) (x ∷ v) ≡ (takes fold c x && fits_at ends fold pattern v)
+pub one_more : (ends fold : Bool) (c x : ℕ) (pattern v : List ℕ) → c ≢ 42 → fits_at ends fold (c ∷ pattern) (x ∷ v) ≡ (takes fold c x && fits_at ends fold pattern v)
 one_more ends fold c x pattern v other =
     cond-false (c == 42) (some_end (fits_at ends fold pattern) (x ∷ v)) _ (ne_eqb c 42 other)
     ∙ ⊎_elim
@@ -70,10 +70,10 @@ before q v (suc n) h = before q v n (tail_more q v n h)
 
 -- ---- a piece without a star
 
-next_fits : (ends fold : Bool) (c x : ℕ) (pattern v : List ℕ) → c ≢ 42 → fits_at ends fold (c ∷ pattern) (x ∷ v) ≡ true → fits_at ends fold pattern v ≡ true
+pub next_fits : (ends fold : Bool) (c x : ℕ) (pattern v : List ℕ) → c ≢ 42 → fits_at ends fold (c ∷ pattern) (x ∷ v) ≡ true → fits_at ends fold pattern v ≡ true
 next_fits ends fold c x pattern v other h = (and_parts (takes fold c x) _ (sym (one_more ends fold c x pattern v other) ∙ h)).1
 
-next_fits_end : (ends fold : Bool) (c : ℕ) (pattern : List ℕ) → c ≢ 42 → fits_at ends fold (c ∷ pattern) [] ≡ true → fits_at ends fold pattern [] ≡ true
+pub next_fits_end : (ends fold : Bool) (c : ℕ) (pattern : List ℕ) → c ≢ 42 → fits_at ends fold (c ∷ pattern) [] ≡ true → fits_at ends fold pattern [] ≡ true
 next_fits_end ends fold c pattern other h =
     let one = sym (cond-false (c == 42) (fits_at ends fold pattern []) _ (ne_eqb c 42 other)) ∙ h in
     ⊎_elim

@@ -8,6 +8,7 @@
 mod anchor;
 mod pattern;
 mod places;
+mod sought;
 mod walks;
 
 pub use dnr_spec::{PatternRefusal, Span};

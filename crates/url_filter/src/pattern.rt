@@ -5,6 +5,7 @@ ghost use Rattle.url_filter.specs.Told.{Tells};
 
 use crate::anchor::{Anchor, anchor_of};
 use crate::places::{place, place_behind_star, place_in_domain};
+use crate::sought::sought_in;
 use crate::walks::{Stop, walk};
 use dnr_spec::{NoMemory, PatternRefusal, Span};
 use std::alloc::Global;
@@ -19,6 +20,7 @@ pub struct Pattern {
     text: String,
     anchor: Anchor,
     ends: bool,
+    sought: Option<usize>,
 }
 
 impl Model for Pattern {
@@ -30,7 +32,7 @@ impl Model for Pattern {
 
     ghost use Rattle.url_filter.specs.Read.{IsRead};
 
-    ghost invariant = { λ p. IsRead (string_bytes p.text) p.anchor p.ends };
+    ghost invariant = { λ p. IsRead (string_bytes p.text) p.anchor p.ends p.sought };
 }
 
 impl Pattern {
@@ -65,9 +67,19 @@ impl Pattern {
         ensures { IfOk result (λ pattern. pattern ≡ text.now) }
     {
         let anchor = anchor_of(text.as_bytes());
-        let ends = text.as_bytes()[anchor.width()..].last() == Some(&b'|');
+        let rest = &text.as_bytes()[anchor.width()..];
+        let (body, ends) = match rest.split_last() {
+            Some((b'|', body)) => (body, true),
+            _ => (rest, false),
+        };
+        let sought = sought_in(body);
         let text = String::from_str(alloc, text)?;
-        Ok(Pattern { text, anchor, ends })
+        Ok(Pattern {
+            text,
+            anchor,
+            ends,
+            sought,
+        })
     }
 
     /// The text that was read.
@@ -90,6 +102,7 @@ impl Pattern {
             text,
             anchor: self.anchor,
             ends: self.ends,
+            sought: self.sought,
         })
     }
 
@@ -116,7 +129,7 @@ impl Pattern {
     {
         let (ends, body) = (self.ends(), self.body());
         match self.anchor {
-            Anchor::Anywhere => place(ends, fold, body, text),
+            Anchor::Anywhere => place(ends, fold, body, self.sought, text),
             Anchor::Begin => walk(ends, fold, body, text),
             Anchor::Domain => place_in_domain(ends, fold, body, text, host),
         }

@@ -1,18 +1,29 @@
-ghost use Rattle.std.specs.Prelude.{◌≡◌, ◌<◌, ◌≤◌, length};
+ghost use Rattle.std.specs.Prelude.{◌≡◌, ◌<◌, ◌≤◌, IfSome, length};
 ghost use Rattle.dnr_spec.specs.UrlFilter.{domain, fits_at, fits_from, some_end};
 ghost use Rattle.url_filter.specs.Labels.{IsNextLabel};
+ghost use Rattle.url_filter.specs.Sought.{IsSought};
 ghost use Rattle.url_filter.specs.Told.{Tells, IsShorter};
 
+use crate::sought::{skip, sought_in};
 use crate::walks::{Stop, walk};
 use dnr_spec::Span;
 
-/// Walks from the first place of the text on where it does not fail.
-pub fn place<'a>(ends: bool, fold: bool, pattern: &'a [u8], text: &'a [u8]) -> Stop<'a>
+/// Walks from the first place of the text on where it does not fail, with the byte at `sought` as
+/// a guide to these places.
+pub fn place<'a>(
+    ends: bool,
+    fold: bool,
+    pattern: &'a [u8],
+    sought: Option<usize>,
+    text: &'a [u8],
+) -> Stop<'a>
+    requires { IfSome sought (IsSought pattern.now) }
     ensures told { Tells ends fold (some_end (fits_at ends fold pattern.now) text.now) result }
     ensures shorter { IsShorter pattern.now result }
 {
     let mut rest = text;
     loop {
+        rest = skip(fold, pattern, sought, rest);
         match walk(ends, fold, pattern, rest) {
             Stop::Fails => {}
             stop => return stop,
@@ -30,7 +41,7 @@ pub fn place_behind_star(ends: bool, fold: bool, pattern: &[u8], text: &[u8]) ->
 {
     let (mut pattern, mut rest) = (pattern, text);
     loop {
-        match place(ends, fold, pattern, rest) {
+        match place(ends, fold, pattern, sought_in(pattern), rest) {
             Stop::Fits => return true,
             Stop::Fails => return false,
             Stop::Star(behind, left) => {

@@ -1,0 +1,62 @@
+//! The search for the places at which a pattern may fit, by one of its bytes.
+ghost use Rattle.std.specs.Prelude.{IfSome, length};
+ghost use Rattle.memchr.specs.Find.{IsFirst};
+ghost use Rattle.url_filter.specs.Sought.{IsSought, Skips, Stands};
+
+use memchr::{memchr, memchr2};
+
+// How common a byte is in URLs, by a guess. It decides how fast a search is, and no answer.
+fn commonness(byte: u8) -> u8 {
+    match byte.to_ascii_lowercase() {
+        b'/' | b'.' | b'e' | b't' | b'a' | b'o' | b'i' | b's' | b'c' | b'm' | b'n' | b'r' => 3,
+        b'h' | b'p' | b'w' | b'd' | b'l' | b'u' | b':' | b'g' | b'b' | b'0'..=b'9' => 2,
+        b'f' | b'y' | b'v' | b'k' | b'-' | b'_' | b'=' | b'&' | b'?' | b'%' => 1,
+        _ => 0,
+    }
+}
+
+/// Where the byte of the pattern's first piece stands that is the least common.
+pub fn sought_in(pattern: &[u8]) -> Option<usize>
+    ensures { IfSome result (IsSought pattern.now) }
+{
+    let mut sought = None;
+    let mut least = u8::MAX;
+    for (i, &byte) in pattern.iter().enumerate() {
+        if byte == b'*' {
+            break;
+        }
+        if byte != b'^' && commonness(byte) < least {
+            least = commonness(byte);
+            sought = Some(i);
+        }
+    }
+    sought
+}
+
+// The first place of the byte in the text, in both cases of a letter where the filter folds.
+fn place_of_byte(fold: bool, byte: u8, text: &[u8]) -> Option<usize>
+    ensures { IsFirst (Stands fold byte text.now) 0 (length text.now) result }
+{
+    if fold && byte.is_ascii_alphabetic() {
+        memchr2(byte.to_ascii_lowercase(), byte.to_ascii_uppercase(), text)
+    } else {
+        memchr(byte, text)
+    }
+}
+
+/// What is left of the text from the first place on at which the sought byte allows the pattern.
+pub fn skip<'a>(fold: bool, pattern: &[u8], sought: Option<usize>, text: &'a [u8]) -> &'a [u8]
+    requires { IfSome sought (IsSought pattern.now) }
+    ensures { Skips fold pattern.now text.now result.now }
+{
+    let Some(offset) = sought else {
+        return text;
+    };
+    if text.len() < offset {
+        return &[];
+    }
+    match place_of_byte(fold, pattern[offset], &text[offset..]) {
+        Some(place) => &text[place..],
+        None => &[],
+    }
+}
