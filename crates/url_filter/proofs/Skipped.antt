@@ -1,11 +1,12 @@
 -- Where a byte of the pattern's first piece does not stand, the pattern does not fit.
 use Rattle.std.proofs.Common.{◌≡◌, ◌≢◌, ◌<◌, ◌≤◌, ◌+◌, ◌-◌, ℕ, zero, suc, List, [], ◌∷◌, length, drop, take, get_or, Bool, true, false, cond, ◌||◌, ◌&&◌, ◌==◌, refl, sym, ap, ◌∙◌, subst, ⊎_elim, arith, ne_eqb, Some, None}
+use Rattle.std.specs.Prelude.{IsTrue, not}
 use Rattle.std.proofs.lemmas.Bool.{cases_Bool, cond-true, cond-false, and_parts, true≢false}
 use Rattle.std.proofs.lemmas.List.{get_or-drop, length-drop}
 use Rattle.std.proofs.Math.Seq.{drop-length}
 use Rattle.memchr.specs.Find.{IsFirst, Nowhere}
 use Rattle.dnr_spec.specs.UrlFilter.{fits_at, some_end, is_separator, is_same}
-use Rattle.url_filter.specs.Sought.{IsSought, Skips, Stands}
+use Rattle.url_filter.specs.Sought.{IsSought, NeverFits, Skips, Stands}
 use Rattle.url_filter.specs.Stops.{HasNoStar, takes}
 use Rattle.url_filter.proofs.Domains.{tail_slice}
 use Rattle.url_filter.proofs.Pieces.{next_fits, next_fits_end, one_more}
@@ -50,6 +51,15 @@ stands ends fold (suc o) (c ∷ p) (x ∷ v) within plain literal h =
     let less : o < length v = found.0 in
     (omega arith, found.1)
 
+pub fails_here : (fold : Bool) (p text : List ℕ) (o : ℕ) → IsSought p o → (o < length text → ¬ Stands fold (get_or p o 0) text o) → NeverFits fold p text
+fails_here fold p text o sought absent ends =
+    ⊎_elim
+    (λ yes.
+    let found = stands ends fold o p text sought.within (λ i less. sought.plain i (omega arith)) sought.literal yes in
+    absurd (absent found.0 found.1))
+    (λ none. none)
+    (cases_Bool (fits_at ends fold p text))
+
 fails_without : (ends fold : Bool) (p text : List ℕ) (o k : ℕ) → IsSought p o → (o + k < length text → ¬ Stands fold (get_or p o 0) (drop o text) k) → fits_at ends fold p (drop k text) ≡ false
 fails_without ends fold p text o k sought absent =
     ⊎_elim
@@ -83,3 +93,7 @@ pub skips_none : (fold : Bool) (p text : List ℕ) (o : ℕ) → IsSought p o �
 skips_none fold p text o sought nowhere =
     let e = length-drop o text in
     skips_all fold p text o sought (λ k inside. nowhere k (omega arith) (omega (arith, e)))
+
+pub not_both : (b : Bool) → IsTrue (not b) → ¬ (b ≡ true)
+not_both true h e = absurd (true≢false (sym h))
+not_both false h e = absurd (true≢false (sym e))

@@ -1,5 +1,5 @@
 -- The byte of a pattern by which its places in a text are found.
-use Rattle.std.specs.Prelude.{◌≡◌, ◌≢◌, ℕ, ◌+◌, ◌<◌, ◌≤◌, List, length, slice_index, Bool, true}
+use Rattle.std.specs.Prelude.{◌≡◌, ◌≢◌, ℕ, ◌+◌, ◌<◌, ◌≤◌, List, length, slice_index, Bool, true, false}
 use Rattle.dnr_spec.specs.UrlFilter.{fits_at, is_same, some_end}
 use Rattle.url_filter.specs.Stops.{HasNoStar}
 
@@ -17,3 +17,7 @@ Stands fold byte text place = is_same fold (slice_index text place) byte ≡ tru
 pub record Skips (fold : Bool) (pattern text rest : List ℕ) : Type 0 where
   pub shorter : length rest ≤ length text
   pub same : (ends : Bool) → some_end (fits_at ends fold pattern) text ≡ some_end (fits_at ends fold pattern) rest
+
+-- the pattern fits no beginning of this text
+abbrev pub NeverFits : Bool → List ℕ → List ℕ → Type 0
+NeverFits fold pattern text = (ends : Bool) → fits_at ends fold pattern text ≡ false

@@ -4,9 +4,9 @@ ghost use Rattle.url_filter.specs.Refused.{IsRefused};
 ghost use Rattle.url_filter.specs.Told.{Tells};
 
 use crate::anchor::{Anchor, anchor_of};
-use crate::places::{place, place_behind_star, place_in_domain};
+use crate::places::{guided_walk, place, place_behind_star, place_in_domain};
 use crate::sought::sought_in;
-use crate::walks::{Stop, walk};
+use crate::walks::Stop;
 use dnr_spec::{NoMemory, PatternRefusal, Span};
 use std::alloc::Global;
 use std::marker::Model;
@@ -20,7 +20,7 @@ pub struct Pattern {
     text: String,
     anchor: Anchor,
     ends: bool,
-    sought: Option<usize>,
+    sought: Option<u16>,
 }
 
 impl Model for Pattern {
@@ -130,8 +130,8 @@ impl Pattern {
         let (ends, body) = (self.ends(), self.body());
         match self.anchor {
             Anchor::Anywhere => place(ends, fold, body, self.sought, text),
-            Anchor::Begin => walk(ends, fold, body, text),
-            Anchor::Domain => place_in_domain(ends, fold, body, text, host),
+            Anchor::Begin => guided_walk(ends, fold, body, self.sought, text),
+            Anchor::Domain => place_in_domain(ends, fold, body, self.sought, text, host),
         }
     }
 

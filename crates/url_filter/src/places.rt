@@ -2,11 +2,29 @@ ghost use Rattle.std.specs.Prelude.{◌≡◌, ◌<◌, ◌≤◌, IfSome, lengt
 ghost use Rattle.dnr_spec.specs.UrlFilter.{domain, fits_at, fits_from, some_end};
 ghost use Rattle.url_filter.specs.Labels.{IsNextLabel};
 ghost use Rattle.url_filter.specs.Sought.{IsSought};
-ghost use Rattle.url_filter.specs.Told.{Tells, IsShorter};
+ghost use Rattle.url_filter.specs.Told.{IsShorter, Tells, WalkTells};
 
-use crate::sought::{skip, sought_in};
+use crate::sought::{is_ruled_out, skip, sought_in};
 use crate::walks::{Stop, walk};
 use dnr_spec::Span;
+
+/// Walks from the beginning of the text, if the byte at `sought` stands where it must.
+pub fn guided_walk<'a>(
+    ends: bool,
+    fold: bool,
+    pattern: &'a [u8],
+    sought: Option<u16>,
+    text: &'a [u8],
+) -> Stop<'a>
+    requires { IfSome sought (IsSought pattern.now) }
+    ensures { WalkTells ends fold pattern.now text.now result }
+{
+    if is_ruled_out(fold, pattern, sought, text) {
+        Stop::Fails
+    } else {
+        walk(ends, fold, pattern, text)
+    }
+}
 
 /// Walks from the first place of the text on where it does not fail, with the byte at `sought` as
 /// a guide to these places.
@@ -14,7 +32,7 @@ pub fn place<'a>(
     ends: bool,
     fold: bool,
     pattern: &'a [u8],
-    sought: Option<usize>,
+    sought: Option<u16>,
     text: &'a [u8],
 ) -> Stop<'a>
     requires { IfSome sought (IsSought pattern.now) }
@@ -71,15 +89,17 @@ pub fn place_in_domain<'a>(
     ends: bool,
     fold: bool,
     pattern: &'a [u8],
+    sought: Option<u16>,
     text: &'a [u8],
     host: Span,
 ) -> Stop<'a>
-    requires { host.end ≤ length text.now }
+    requires within { host.end ≤ length text.now }
+    requires sought { IfSome sought (IsSought pattern.now) }
     ensures { Tells ends fold (fits_from domain ends fold pattern.now text.now host) result }
 {
     let mut place = host.start;
     while place < host.end {
-        match walk(ends, fold, pattern, &text[place..]) {
+        match guided_walk(ends, fold, pattern, sought, &text[place..]) {
             Stop::Fails => {}
             stop => return stop,
         }

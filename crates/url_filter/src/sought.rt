@@ -1,8 +1,9 @@
 //! The search for the places at which a pattern may fit, by one of its bytes.
-ghost use Rattle.std.specs.Prelude.{IfSome, length};
+ghost use Rattle.std.specs.Prelude.{IfSome, IsTrue, length};
 ghost use Rattle.memchr.specs.Find.{IsFirst};
-ghost use Rattle.url_filter.specs.Sought.{IsSought, Skips, Stands};
+ghost use Rattle.url_filter.specs.Sought.{IsSought, NeverFits, Skips, Stands};
 
+use crate::walks::is_same;
 use memchr::{memchr, memchr2};
 
 // How common a byte is in URLs, by a guess. It decides how fast a search is, and no answer.
@@ -16,7 +17,7 @@ fn commonness(byte: u8) -> u8 {
 }
 
 /// Where the byte of the pattern's first piece stands that is the least common.
-pub fn sought_in(pattern: &[u8]) -> Option<usize>
+pub fn sought_in(pattern: &[u8]) -> Option<u16>
     ensures { IfSome result (IsSought pattern.now) }
 {
     let mut sought = None;
@@ -27,10 +28,21 @@ pub fn sought_in(pattern: &[u8]) -> Option<usize>
         }
         if byte != b'^' && commonness(byte) < least {
             least = commonness(byte);
-            sought = Some(i);
+            sought = u16::try_from(i).ok();
         }
     }
     sought
+}
+
+/// Whether the sought byte rules out that the pattern fits from the beginning of the text on.
+pub fn is_ruled_out(fold: bool, pattern: &[u8], sought: Option<u16>, text: &[u8]) -> bool
+    requires { IfSome sought (IsSought pattern.now) }
+    ensures { IsTrue result → NeverFits fold pattern.now text.now }
+{
+    let Some(offset) = sought.map(usize::from) else {
+        return false;
+    };
+    text.len() <= offset || !is_same(fold, text[offset], pattern[offset])
 }
 
 // The first place of the byte in the text, in both cases of a letter where the filter folds.
@@ -45,11 +57,11 @@ fn place_of_byte(fold: bool, byte: u8, text: &[u8]) -> Option<usize>
 }
 
 /// What is left of the text from the first place on at which the sought byte allows the pattern.
-pub fn skip<'a>(fold: bool, pattern: &[u8], sought: Option<usize>, text: &'a [u8]) -> &'a [u8]
+pub fn skip<'a>(fold: bool, pattern: &[u8], sought: Option<u16>, text: &'a [u8]) -> &'a [u8]
     requires { IfSome sought (IsSought pattern.now) }
     ensures { Skips fold pattern.now text.now result.now }
 {
-    let Some(offset) = sought else {
+    let Some(offset) = sought.map(usize::from) else {
         return text;
     };
     if text.len() < offset {

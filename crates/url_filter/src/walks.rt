@@ -20,8 +20,8 @@ fn is_separator(byte: u8) -> bool
     !(byte.is_ascii_alphanumeric() || matches!(byte, b'_' | b'-' | b'.' | b'%'))
 }
 
-// Whether two bytes are one, in both cases of a letter where the filter folds.
-fn is_same(fold: bool, byte: u8, wanted: u8) -> bool
+/// Whether two bytes are one, in both cases of a letter where the filter folds.
+pub fn is_same(fold: bool, byte: u8, wanted: u8) -> bool
     ensures { result ≡ spec.is_same fold byte wanted }
 {
     if fold {

@@ -6,9 +6,9 @@ use Rattle.url_filter.proofs.places.place_in_domain.Goals as goal
 
 pub returns-in_default : goal.returns-in_default
 returns-in_default c =
-    let told : WalkTells c.args.ends c.args.fold c.args.pattern.now (drop c.loop-place.place c.args.text.now) c.walk.result =
-    subst (λ (t : List ℕ). WalkTells c.args.ends c.args.fold c.args.pattern.now t c.walk.result) (tail_slice c.args.text.now c.loop-place.place) c.walk.ensures in
-    domain_tells c.args.ends c.args.fold c.args.pattern.now c.args.text.now c.args.host c.loop-place.place c.walk.result c.loop-place.invariant.none (c.loop-place.invariant.begins c.loop-place-test.true) c.loop-place-test.true told c.in_default.not-Fails
+    let told : WalkTells c.args.ends c.args.fold c.args.pattern.now (drop c.loop-place.place c.args.text.now) c.guided_walk.result =
+    subst (λ (t : List ℕ). WalkTells c.args.ends c.args.fold c.args.pattern.now t c.guided_walk.result) (tail_slice c.args.text.now c.loop-place.place) c.guided_walk.ensures in
+    domain_tells c.args.ends c.args.fold c.args.pattern.now c.args.text.now c.args.host c.loop-place.place c.guided_walk.result c.loop-place.invariant.none (c.loop-place.invariant.begins c.loop-place-test.true) c.loop-place-test.true told c.in_default.not-Fails
 
 pub loop-place-preserved : goal.loop-place-preserved
 loop-place-preserved c =

@@ -13,4 +13,4 @@ pub returns-in-Begin : goal.returns-in-Begin
 returns-in-Begin c =
     let anchored : spec.anchor_of c.args.self.now ≡ spec.begin = search rules in
     rw (fits_by c.args.self.now c.args.text.now c.args.host c.args.fold _ anchored, ← c.ends-ends.ensures, ← c.body-body.ensures)
-    (begin_tells c.ends-ends.result c.args.fold c.body-body.result.now c.args.text.now c.walk.result c.walk.ensures)
+    (begin_tells c.ends-ends.result c.args.fold c.body-body.result.now c.args.text.now c.guided_walk.result c.guided_walk.ensures)
