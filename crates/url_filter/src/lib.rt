@@ -9,6 +9,8 @@ mod anchor;
 mod pattern;
 mod places;
 mod sought;
+#[cfg(test)]
+mod tests;
 mod walks;
 
 pub use dnr_spec::{PatternRefusal, Span};
