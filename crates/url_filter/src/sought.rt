@@ -6,12 +6,15 @@ ghost use Rattle.url_filter.specs.Sought.{IsSought, NeverFits, Skips, Stands};
 use crate::walks::is_same;
 use memchr::{memchr, memchr2};
 
-// How common a byte is in URLs, by a guess. It decides how fast a search is, and no answer.
+// How common a byte is in URLs, by a guess: those of `https://` stand in each, then letters go by how
+// often words have them. It decides how fast a search is, and no answer.
 fn commonness(byte: u8) -> u8 {
     match byte.to_ascii_lowercase() {
-        b'/' | b'.' | b'e' | b't' | b'a' | b'o' | b'i' | b's' | b'c' | b'm' | b'n' | b'r' => 3,
-        b'h' | b'p' | b'w' | b'd' | b'l' | b'u' | b':' | b'g' | b'b' | b'0'..=b'9' => 2,
-        b'f' | b'y' | b'v' | b'k' | b'-' | b'_' | b'=' | b'&' | b'?' | b'%' => 1,
+        b'h' | b't' | b'p' | b's' | b':' | b'/' | b'.' => 5,
+        b'e' | b'a' | b'o' | b'i' | b'c' | b'm' | b'n' | b'r' | b'w' => 4,
+        b'l' | b'd' | b'g' | b'u' | b'b' | b'-' | b'0' | b'1' | b'2' => 3,
+        b'f' | b'y' | b'v' | b'k' | b'=' | b'_' | b'&' | b'?' | b'%' | b'3'..=b'9' => 2,
+        b'x' | b'j' => 1,
         _ => 0,
     }
 }
