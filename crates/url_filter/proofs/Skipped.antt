@@ -1,12 +1,10 @@
 -- Where a byte of the pattern's first piece does not stand, the pattern does not fit.
-use Rattle.std.proofs.Common.{◌≡◌, ◌≢◌, ◌<◌, ◌≤◌, ◌+◌, ◌-◌, ℕ, zero, suc, List, [], ◌∷◌, length, drop, take, get_or, Bool, true, false, cond, ◌||◌, ◌&&◌, ◌==◌, refl, sym, ap, ◌∙◌, subst, ⊎_elim, arith, ne_eqb, Some, None}
+use Rattle.std.proofs.Common.{◌≡◌, ◌≢◌, ◌<◌, ◌≤◌, ◌+◌, ◌-◌, ℕ, zero, suc, List, [], ◌∷◌, length, drop, take, get_or, Bool, true, false, ◌||◌, ◌==◌, refl, sym, ap, ◌∙◌, subst, ⊎_elim, arith, ne_eqb}
 use Rattle.std.specs.Prelude.{IsTrue, not}
-use Rattle.std.proofs.lemmas.Bool.{cases_Bool, cond-true, cond-false, and_parts, true≢false}
+use Rattle.std.proofs.lemmas.Bool.{cases_Bool, cond-false, and_parts, true≢false}
 use Rattle.std.proofs.lemmas.List.{get_or-drop, length-drop}
-use Rattle.std.proofs.Math.Seq.{drop-length}
-use Rattle.memchr.specs.Find.{IsFirst, Nowhere}
 use Rattle.dnr_spec.specs.UrlFilter.{fits_at, some_end, is_separator, is_same}
-use Rattle.url_filter.specs.Sought.{IsSought, NeverFits, Skips, Stands}
+use Rattle.url_filter.specs.Sought.{IsSought, NeverFits, Stands}
 use Rattle.url_filter.specs.Stops.{HasNoStar, takes}
 use Rattle.url_filter.proofs.Domains.{tail_slice}
 use Rattle.url_filter.proofs.Pieces.{next_fits, next_fits_end, one_more}
@@ -23,7 +21,7 @@ pub step_tail : (q : List ℕ → Bool) (u : List ℕ) → 1 ≤ length u → q 
 step_tail q [] some fails = absurd (omega arith)
 step_tail q (y ∷ v) some fails = step_on q (y ∷ v) v y refl fails ∙ sym (ap (some_end q) (tail_slice (y ∷ v) 1))
 
-skip_to : (q : List ℕ → Bool) (text : List ℕ) (n : ℕ) → n ≤ length text → ((k : ℕ) → k < n → q (drop k text) ≡ false) → some_end q text ≡ some_end q (drop n text)
+pub skip_to : (q : List ℕ → Bool) (text : List ℕ) (n : ℕ) → n ≤ length text → ((k : ℕ) → k < n → q (drop k text) ≡ false) → some_end q text ≡ some_end q (drop n text)
 skip_to q text zero within fails = refl
 skip_to q [] (suc n) within fails = absurd (omega arith)
 skip_to q (y ∷ v) (suc n) within fails = step_on q (y ∷ v) v y refl (fails zero (omega arith)) ∙ skip_to q v n (omega arith) (λ k less. fails (suc k) (omega arith))
@@ -60,7 +58,7 @@ fails_here fold p text o sought absent ends =
     (λ none. none)
     (cases_Bool (fits_at ends fold p text))
 
-fails_without : (ends fold : Bool) (p text : List ℕ) (o k : ℕ) → IsSought p o → (o + k < length text → ¬ Stands fold (get_or p o 0) (drop o text) k) → fits_at ends fold p (drop k text) ≡ false
+pub fails_without : (ends fold : Bool) (p text : List ℕ) (o k : ℕ) → IsSought p o → (o + k < length text → ¬ Stands fold (get_or p o 0) (drop o text) k) → fits_at ends fold p (drop k text) ≡ false
 fails_without ends fold p text o k sought absent =
     ⊎_elim
     (λ yes.
@@ -71,28 +69,6 @@ fails_without ends fold p text o k sought absent =
     absurd (absent (omega arith) (subst (λ (b : ℕ). is_same fold b (get_or p o 0) ≡ true) same found.1)))
     (λ none. none)
     (cases_Bool (fits_at ends fold p (drop k text)))
-
--- ---- what a skip tells
-
-pub skips_to : (fold : Bool) (p text : List ℕ) (o n : ℕ) → IsSought p o → n ≤ length text → ((k : ℕ) → k < n → o + k < length text → ¬ Stands fold (get_or p o 0) (drop o text) k) → Skips fold p text (drop n text)
-skips_to fold p text o n sought within absent = record {
-  shorter = let e = length-drop n text in omega (arith, e);
-  same = λ ends. skip_to (fits_at ends fold p) text n within (λ k less. fails_without ends fold p text o k sought (absent k less));
-}
-
-pub skips_all : (fold : Bool) (p text : List ℕ) (o : ℕ) → IsSought p o → ((k : ℕ) → o + k < length text → ¬ Stands fold (get_or p o 0) (drop o text) k) → Skips fold p text []
-skips_all fold p text o sought absent =
-    subst (λ (rest : List ℕ). Skips fold p text rest) (drop-length text) (skips_to fold p text o (length text) sought (omega arith) (λ k less. absent k))
-
-pub skips_some : (fold : Bool) (p text : List ℕ) (o place : ℕ) → IsSought p o → o ≤ length text → IsFirst (Stands fold (get_or p o 0) (drop o text)) 0 (length (drop o text)) (Some place) → Skips fold p text (drop place text)
-skips_some fold p text o place sought within found =
-    let less : place < length text - o = subst (λ (n : ℕ). place < n) (length-drop o text) found.0.high in
-    skips_to fold p text o place sought (omega arith) (λ k before inside. found.0.before k (omega arith) before)
-
-pub skips_none : (fold : Bool) (p text : List ℕ) (o : ℕ) → IsSought p o → IsFirst (Stands fold (get_or p o 0) (drop o text)) 0 (length (drop o text)) None → Skips fold p text []
-skips_none fold p text o sought nowhere =
-    let e = length-drop o text in
-    skips_all fold p text o sought (λ k inside. nowhere k (omega arith) (omega (arith, e)))
 
 pub not_both : (b : Bool) → IsTrue (not b) → ¬ (b ≡ true)
 not_both true h e = absurd (true≢false (sym h))

@@ -4,7 +4,7 @@ ghost use Rattle.url_filter.specs.Labels.{IsNextLabel};
 ghost use Rattle.url_filter.specs.Sought.{IsSought};
 ghost use Rattle.url_filter.specs.Told.{IsShorter, Tells, WalkTells};
 
-use crate::sought::{is_ruled_out, skip, sought_in};
+use crate::sought::{is_ruled_out, place_by_byte, sought_in};
 use crate::walks::{Stop, walk};
 use dnr_spec::Span;
 
@@ -26,6 +26,24 @@ pub fn guided_walk<'a>(
     }
 }
 
+// Walks from the first place of the text on where it does not fail.
+fn place_anywhere<'a>(ends: bool, fold: bool, pattern: &'a [u8], text: &'a [u8]) -> Stop<'a>
+    ensures told { Tells ends fold (some_end (fits_at ends fold pattern.now) text.now) result }
+    ensures shorter { IsShorter pattern.now result }
+{
+    let mut rest = text;
+    loop {
+        match walk(ends, fold, pattern, rest) {
+            Stop::Fails => {}
+            stop => return stop,
+        }
+        match rest {
+            [] => return Stop::Fails,
+            [_, later @ ..] => rest = later,
+        }
+    }
+}
+
 /// Walks from the first place of the text on where it does not fail, with the byte at `sought` as
 /// a guide to these places.
 pub fn place<'a>(
@@ -39,17 +57,9 @@ pub fn place<'a>(
     ensures told { Tells ends fold (some_end (fits_at ends fold pattern.now) text.now) result }
     ensures shorter { IsShorter pattern.now result }
 {
-    let mut rest = text;
-    loop {
-        rest = skip(fold, pattern, sought, rest);
-        match walk(ends, fold, pattern, rest) {
-            Stop::Fails => {}
-            stop => return stop,
-        }
-        match rest {
-            [] => return Stop::Fails,
-            [_, later @ ..] => rest = later,
-        }
+    match sought {
+        Some(offset) => place_by_byte(ends, fold, pattern, usize::from(offset), text),
+        None => place_anywhere(ends, fold, pattern, text),
     }
 }
 

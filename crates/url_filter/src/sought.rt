@@ -1,10 +1,12 @@
 //! The search for the places at which a pattern may fit, by one of its bytes.
-ghost use Rattle.std.specs.Prelude.{IfSome, IsTrue, length};
-ghost use Rattle.memchr.specs.Find.{IsFirst};
-ghost use Rattle.url_filter.specs.Sought.{IsSought, NeverFits, Skips, Stands};
+ghost use Rattle.std.specs.Prelude.{◌≡◌, ℕ, IfSome, IsTrue, length};
+ghost use Rattle.memchr.specs.Find.{is_byte2};
+ghost use Rattle.dnr_spec.specs.UrlFilter.{fits_at, is_same, some_end};
+ghost use Rattle.url_filter.specs.Sought.{IsSought, NeverFits};
+ghost use Rattle.url_filter.specs.Told.{IsShorter, Tells};
 
-use crate::walks::is_same;
-use memchr::{memchr, memchr2};
+use crate::walks::{Stop, is_same, walk};
+use memchr::memchr2_iter;
 
 // How common a byte is in URLs, by a guess: those of `https://` stand in each, then letters go by how
 // often words have them. It decides how fast a search is, and no answer.
@@ -48,30 +50,42 @@ pub fn is_ruled_out(fold: bool, pattern: &[u8], sought: Option<u16>, text: &[u8]
     text.len() <= offset || !is_same(fold, text[offset], pattern[offset])
 }
 
-// The first place of the byte in the text, in both cases of a letter where the filter folds.
-fn place_of_byte(fold: bool, byte: u8, text: &[u8]) -> Option<usize>
-    ensures { IsFirst (Stands fold byte text.now) 0 (length text.now) result }
+// The other case of a letter where the filter folds, and else the byte itself.
+fn other_case(fold: bool, byte: u8) -> u8
+    ensures { (x : ℕ) → is_same fold x byte ≡ is_byte2 byte result x }
 {
-    if fold && byte.is_ascii_alphabetic() {
-        memchr2(byte.to_ascii_lowercase(), byte.to_ascii_uppercase(), text)
+    if fold && byte.is_ascii_lowercase() {
+        byte.to_ascii_uppercase()
+    } else if fold {
+        byte.to_ascii_lowercase()
     } else {
-        memchr(byte, text)
+        byte
     }
 }
 
-/// What is left of the text from the first place on at which the sought byte allows the pattern.
-pub fn skip<'a>(fold: bool, pattern: &[u8], sought: Option<u16>, text: &'a [u8]) -> &'a [u8]
-    requires { IfSome sought (IsSought pattern.now) }
-    ensures { Skips fold pattern.now text.now result.now }
+/// Walks from the first place of the text on where it does not fail, among those that the byte of the
+/// pattern at `offset` allows.
+pub fn place_by_byte<'a>(
+    ends: bool,
+    fold: bool,
+    pattern: &'a [u8],
+    offset: usize,
+    text: &'a [u8],
+) -> Stop<'a>
+    requires { IsSought pattern.now offset }
+    ensures told { Tells ends fold (some_end (fits_at ends fold pattern.now) text.now) result }
+    ensures shorter { IsShorter pattern.now result }
 {
-    let Some(offset) = sought.map(usize::from) else {
-        return text;
-    };
     if text.len() < offset {
-        return &[];
+        return Stop::Fails;
     }
-    match place_of_byte(fold, pattern[offset], &text[offset..]) {
-        Some(place) => &text[place..],
-        None => &[],
+    let byte = pattern[offset];
+    let other = other_case(fold, byte);
+    for place in memchr2_iter(byte, other, &text[offset..]) {
+        match walk(ends, fold, pattern, &text[place..]) {
+            Stop::Fails => {}
+            stop => return stop,
+        }
     }
+    Stop::Fails
 }

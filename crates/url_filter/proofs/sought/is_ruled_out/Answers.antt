@@ -1,5 +1,4 @@
 use Rattle.std.proofs.Common.{rules, arith, ◌∙◌}
-use Rattle.std.proofs.lemmas.Bool.Decides.{nat_tests}
 use Rattle.url_filter.specs.Sought.{IsSought}
 use Rattle.url_filter.proofs.Skipped.{fails_here, not_both}
 use Rattle.url_filter.proofs.sought.is_ruled_out.Goals as goal
