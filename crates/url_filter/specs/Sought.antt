@@ -1,6 +1,6 @@
 -- The byte of a pattern by which its places in a text are found.
-use Rattle.std.specs.Prelude.{◌≡◌, ◌≢◌, ℕ, ◌+◌, ◌<◌, ◌≤◌, List, length, slice_index, Bool, true, false}
-use Rattle.dnr_spec.specs.UrlFilter.{fits_at, is_same, some_end}
+use Rattle.std.specs.Prelude.{◌≡◌, ◌≢◌, ℕ, ◌+◌, ◌<◌, List, length, slice_index, Bool, true, false}
+use Rattle.dnr_spec.specs.UrlFilter.{fits_at, is_same}
 use Rattle.url_filter.specs.Stops.{HasNoStar}
 
 -- a byte of the pattern's first piece that stands for itself
@@ -12,11 +12,6 @@ pub record IsSought (pattern : List ℕ) (offset : ℕ) : Type 0 where
 -- the byte stands at this place of the text
 abbrev pub Stands : Bool → ℕ → List ℕ → ℕ → Type 0
 Stands fold byte text place = is_same fold (slice_index text place) byte ≡ true
-
--- `rest` is an end of the text, and what lies before it is no place of the pattern
-pub record Skips (fold : Bool) (pattern text rest : List ℕ) : Type 0 where
-  pub shorter : length rest ≤ length text
-  pub same : (ends : Bool) → some_end (fits_at ends fold pattern) text ≡ some_end (fits_at ends fold pattern) rest
 
 -- the pattern fits no beginning of this text
 abbrev pub NeverFits : Bool → List ℕ → List ℕ → Type 0

@@ -13,5 +13,5 @@ mod sought;
 mod tests;
 mod walks;
 
-pub use dnr_spec::{PatternRefusal, Span};
+pub use dnr_spec::{NoMemory, PatternRefusal, Span};
 pub use pattern::Pattern;

@@ -40,9 +40,14 @@ impl Pattern {
     ///
     /// # Errors
     ///
-    /// The first of these that is so: `Empty`, `TooLong` where it has more than 8,192 bytes,
-    /// `AnchorStar` where it begins with `||*`, `NotAscii` where it has a byte past ASCII; and
-    /// `NoMemory`.
+    /// The first of these that holds of the text:
+    ///
+    /// - `Empty`: it has no byte.
+    /// - `TooLong`: it has more than 8,192 bytes.
+    /// - `AnchorStar`: it begins with `||*`.
+    /// - `NotAscii`: it has a byte past ASCII.
+    ///
+    /// Or `NoMemory`, where memory ran out for the copy of a text that is a filter.
     pub fn read(alloc: Global, text: &str) -> Result<Pattern, PatternRefusal>
         ensures read { IfOk result (λ pattern. pattern_of text.now ≡ Ok pattern) }
         ensures refused { IfErr result (IsRefused text.now) }
@@ -93,7 +98,7 @@ impl Pattern {
     ///
     /// # Errors
     ///
-    /// `NoMemory` alone.
+    /// `NoMemory`, where memory ran out.
     pub fn copy(&self, alloc: Global) -> Result<Pattern, NoMemory>
         ensures { IfOk result (λ pattern. pattern ≡ self.now) }
     {
@@ -136,9 +141,10 @@ impl Pattern {
     }
 
     /// Whether the filter fits the text of a URL, which stands there without its fragment, with its
-    /// host at `host`; `fold` where the case of letters does not matter.
+    /// host at `host`; `fold` where the case of ASCII letters does not matter.
     ///
-    /// It takes no memory, and at most as many steps as the text's length times the filter's.
+    /// It takes no memory. At worst it takes about as many steps as the text's length times the
+    /// filter's, and for most filters no more than the text's length.
     pub fn matches(&self, text: &str, host: Span, fold: bool) -> bool
         requires { host.end ≤ length text.now }
         ensures { result ≡ fits self.now text.now host fold }

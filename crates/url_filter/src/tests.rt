@@ -146,11 +146,15 @@ fn a_text_is_read_or_refused(rt: HostRuntime) -> Result<(), Fail> {
     Ok(())
 }
 
+// Compiles where threads may share the value.
+fn is_shared<T: Send + Sync>(_value: &T) {}
+
 #[test]
 fn a_copy_is_the_filter_once_more(rt: HostRuntime) -> Result<(), Fail> {
     let alloc = rt.alloc();
     let pattern = Pattern::read(alloc, "||x.org^").ok().ok_or("refused")?;
     let copy = pattern.copy(alloc).ok().ok_or("no memory")?;
+    is_shared(&copy);
     assert_eq!(rt; copy.text(), "||x.org^");
     let text = "http://a.x.org/";
     assert!(rt; copy.matches(text, place_of("a.x.org", text), true));
