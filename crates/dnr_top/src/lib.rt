@@ -2,13 +2,15 @@
 #![tactic(auto)]
 
 mod answers;
+mod commands;
 mod load;
 mod output;
 mod request_line;
 mod rule;
 mod rule_file;
-mod run;
 mod scan;
 mod tree;
 mod url_view;
 mod words;
+
+pub use commands::run;

@@ -3,7 +3,7 @@ use Rattle.dnr_top.specs.RuleFile.{refusal_seen}
 use Rattle.dnr_top.specs.Words.{task_seen}
 use Rattle.dnr_top.specs.Rule.{rules_seen}
 use Rattle.dnr_top.proofs.Ended.{refused_run, long_line_run}
-use Rattle.dnr_top.proofs.run.match_requests.Goals as goal
+use Rattle.dnr_top.proofs.commands.match_requests.Goals as goal
 
 pub returns-in-Err-BadFile-clause-allowed : goal.returns-in-Err-BadFile-clause-allowed
 returns-in-Err-BadFile-clause-allowed g c =
