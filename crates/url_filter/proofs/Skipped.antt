@@ -1,25 +1,17 @@
 -- Where a byte of the pattern's first piece does not stand, the pattern does not fit.
-use Rattle.std.proofs.Common.{◌≡◌, ◌≢◌, ◌<◌, ◌≤◌, ◌+◌, ◌-◌, ℕ, zero, suc, List, [], ◌∷◌, length, drop, take, get_or, Bool, true, false, ◌||◌, ◌==◌, refl, sym, ap, ◌∙◌, subst, ⊎_elim, arith, ne_eqb}
+use Rattle.std.proofs.Common.{◌≡◌, ◌≢◌, ◌<◌, ◌≤◌, ◌+◌, ◌-◌, ℕ, zero, suc, List, [], ◌∷◌, length, drop, get_or, Bool, true, false, ◌||◌, ◌==◌, refl, sym, ap, ◌∙◌, subst, ⊎_elim, arith, ne_eqb}
 use Rattle.std.specs.Prelude.{IsTrue, not}
 use Rattle.std.proofs.lemmas.Bool.{cases_Bool, cond-false, and_parts, true≢false}
 use Rattle.std.proofs.lemmas.List.{get_or-drop, length-drop}
 use Rattle.dnr_spec.specs.UrlFilter.{fits_at, some_end, is_separator, is_same}
 use Rattle.url_filter.specs.Sought.{IsSought, NeverFits, Stands}
 use Rattle.url_filter.specs.Stops.{HasNoStar, takes}
-use Rattle.url_filter.proofs.Domains.{tail_slice}
 use Rattle.url_filter.proofs.Pieces.{next_fits, next_fits_end, one_more}
 
 -- ---- ends that fail the test
 
 step_on : (q : List ℕ → Bool) (u later : List ℕ) (x : ℕ) → u ≡ x ∷ later → q u ≡ false → some_end q u ≡ some_end q later
 step_on q u later x e fails = ap (some_end q) e ∙ ap (λ b. b || some_end q later) (sym (ap q e) ∙ fails)
-
-pub end_on : (q : List ℕ → Bool) (u : List ℕ) → u ≡ [] → q u ≡ false → some_end q u ≡ false
-end_on q u e fails = ap (some_end q) e ∙ sym (ap q e) ∙ fails
-
-pub step_tail : (q : List ℕ → Bool) (u : List ℕ) → 1 ≤ length u → q u ≡ false → some_end q u ≡ some_end q (take (length u - 1) (drop 1 u))
-step_tail q [] some fails = absurd (omega arith)
-step_tail q (y ∷ v) some fails = step_on q (y ∷ v) v y refl fails ∙ sym (ap (some_end q) (tail_slice (y ∷ v) 1))
 
 pub skip_to : (q : List ℕ → Bool) (text : List ℕ) (n : ℕ) → n ≤ length text → ((k : ℕ) → k < n → q (drop k text) ≡ false) → some_end q text ≡ some_end q (drop n text)
 skip_to q text zero within fails = refl
