@@ -1,9 +1,6 @@
 -- Counts of faults. A count never falls, and stands still at the end of its type.
-use Rattle.std.specs.Prelude.{ℕ, ◌+◌, ◌^◌, ◌-◌, ◌≤◌, min, Result, OnErr, IsErrOf}
-
--- a fault was counted
-abbrev pub Rose : ℕ → ℕ → Type 0
-Rose before now = min (before + 1) (2 ^ 64 - 1) ≤ now
+use Rattle.std.specs.Prelude.{ℕ, ◌≤◌, Result, OnErr, IsErrOf}
+pub use Rattle.dnr_spec.specs.Faults.{Rose}
 
 -- what a call does to a count of faults: it fails only where the count rose
 pub record HasCause {T E : Type 0} (before now : ℕ) (result : Result T E) : Type 0 where
