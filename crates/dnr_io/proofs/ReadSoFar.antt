@@ -1,5 +1,5 @@
 -- Lines that are read one after another.
-use Rattle.std.proofs.Common.{◌≡◌, ◌≢◌, ℕ, ◌+◌, ◌<◌, ◌≤◌, List, [], ◌∷◌, ◌++◌, map, length, Bool, true, false, Option, Some, None, refl, sym, ap, ◌∙◌, subst, ⊎_elim, inl, inr, arith, append_assoc, append-nil, length-append}
+use Rattle.std.proofs.Common.{◌≡◌, ◌≢◌, ℕ, ◌+◌, ◌<◌, ◌≤◌, List, [], ◌∷◌, ◌++◌, map, length, Bool, true, false, Option, Some, None, refl, sym, ap, ◌∙◌, inl, inr, arith, append_assoc, append-nil, length-append}
 use Rattle.std.proofs.lemmas.Bool.{le-leb}
 use Rattle.std.proofs.lemmas.Bool.Decides.{nat_tests}
 use Rattle.std.proofs.lemmas.List.{map-append}
@@ -8,7 +8,7 @@ use Rattle.std.specs.Prelude.{IfSome, ◌&&◌, ◌==◌, nat_le, if◌then◌el
 use Rattle.std.specs.List.{list_all}
 use Rattle.std.specs.Io.KnownBytes.{IsAtEnd, prepend_known}
 use Rattle.dnr_spec.specs.Lines.{RawLine, raw_lines_of, onto_first, line_of, lines_of, is_short, is_within_limits, max_line, max_lines}
-use Rattle.dnr_io.specs.Lines.{GivesLine, IsBeyond, StartsTooLong}
+use Rattle.dnr_io.specs.Lines.{GivesLine, IsBeyond}
 
 -- so many lines of the script were read, and `rest` is left
 pub record IsReadSoFar (script rest : List ℕ) (lines : List (List ℕ)) (count : ℕ) : Type 0 where

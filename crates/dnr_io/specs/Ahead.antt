@@ -1,5 +1,5 @@
 -- How a line is put together from pieces of what was read.
-use Rattle.std.specs.Prelude.{◌≡◌, ◌≢◌, ℕ, ◌+◌, ◌<◌, List, [], ◌∷◌, ◌++◌, length, drop, slice_index, Bool, true, false, if◌then◌else◌}
+use Rattle.std.specs.Prelude.{◌≡◌, ◌≢◌, ℕ, ◌+◌, ◌<◌, List, [], ◌∷◌, ◌++◌, length, slice_index, Bool, false, if◌then◌else◌}
 use Rattle.dnr_spec.specs.Lines.{max_line}
 
 abbrev pub HasNoLf : List ℕ → Type 0

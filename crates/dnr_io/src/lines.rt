@@ -35,6 +35,7 @@ impl Model for Lines {
 }
 
 impl Lines {
+    /// Before the first line, with room for what is read ahead.
     pub fn new(alloc: Global) -> Result<Lines, NoMemory>
         ensures { IfOk result (λ lines. lines ≡ record { pending = []; count = 0; live = true }) }
     {

@@ -15,7 +15,8 @@ pub enum ShelfRefusal {
     NoMemory,
 }
 
-/// Named files, of which one at a time is also read from first to last.
+/// Named files, of which one at a time is also read from first to last. Before a `start` there are no
+/// bytes to read.
 ///
 /// A name that holds nothing is a fault. No call changes what the names hold.
 pub trait Shelf: Source {

@@ -228,6 +228,7 @@ fn files_are_read_under_the_current_folder(rt: HostRuntime) -> Result<(), Fail> 
     assert_eq!(rt; shelf.start("rules"), Ok(()));
     assert_eq!(rt; read_lines(alloc, &mut shelf).is_err(), true);
     assert_eq!(rt; shelf.faults(), 3);
+    fs::remove_dir_all(&rt, "rules")?;
     Ok(())
 }
 

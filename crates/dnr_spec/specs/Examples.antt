@@ -215,7 +215,7 @@ AnchorsAlone =
 -- ---- which rule decides, over several extensions
 
 abbrev pub rule_of : ℕ → ℕ → Action → Rule
-rule_of id priority action = record { id = id; priority = priority; condition = record { kinds = default_kinds }; action = action }
+rule_of id priority action = record { id = id; priority = priority; condition = record { url_filter = None; kinds = default_kinds }; action = action }
 
 abbrev pub set_of : List ℕ → Bool → Rule → RuleSet
 set_of id enabled rule = record { id = id; enabled = enabled; rules = rule ∷ [] }

@@ -1,9 +1,10 @@
 -- A rule: Chrome's reference of declarativeNetRequest, `Rule`, `RuleCondition` and `RuleAction`.
-use Rattle.std.specs.Prelude.{ℕ, List}
+use Rattle.std.specs.Prelude.{ℕ, List, Option}
 use Rattle.dnr_spec.specs.declared.kind.Kind.{Kind}
 
--- `kinds` are the types on which the rule holds
+-- `url_filter` is the pattern of the urlFilter, and `kinds` are the types on which the rule holds
 pub record Condition : Type 0 where
+  pub url_filter : Option (List ℕ)
   pub kinds : List Kind
 
 pub data Action : Type 0 where

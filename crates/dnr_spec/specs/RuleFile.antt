@@ -1,13 +1,15 @@
 -- A rules file: a JSON list of rules, of which each has an id of its own. The first rule that breaks the
 -- form refuses the file.
-use Rattle.std.specs.Prelude.{◌≡◌, ℕ, List, [], ◌∷◌, ◌++◌, length, codes, Bool, true, false, ◌==◌, ◌&&◌, nat_le, Option, Some, None, option_and_then, Result, Ok, Err, if◌then◌else◌}
+use Rattle.std.specs.Prelude.{◌≡◌, ℕ, List, [], ◌∷◌, ◌++◌, length, codes, Bool, true, false, ◌==◌, ◌&&◌, nat_le, Option, Some, None, option_map, option_and_then, Result, Ok, Err, if◌then◌else◌}
 use Rattle.std.specs.List.{list_any}
+use Rattle.std.specs.Result.{result_ok}
 use Rattle.std.specs.Str.{bytes_eq}
 use Rattle.serde_json.specs.Data.{Data, Items, no_items, item}
-use Rattle.serde_json.specs.Find.{get, as_array}
+use Rattle.serde_json.specs.Find.{get, as_str, as_array}
 use Rattle.dnr_spec.specs.declared.rule_fault.RuleFault.{RuleFault}
 use Rattle.dnr_spec.specs.declared.rule_fault.RuleFault.TheVariants as fault
 use Rattle.dnr_spec.specs.Kind.{default_kinds}
+use Rattle.dnr_spec.specs.UrlFilter.{pattern_of}
 use Rattle.dnr_spec.specs.Json.{tree_of, whole_number, text_at, is_object_of}
 use Rattle.dnr_spec.specs.FileRefusal.{FileRefusal, bad_json, bad_rule}
 use Rattle.dnr_spec.specs.Rule.{Condition, Action, block, allow, Rule}
@@ -38,9 +40,20 @@ abbrev pub priority_from : Option Data → Option ℕ
 priority_from None = Some 1
 priority_from (Some d) = number_of d
 
--- an object without keys: the rule holds on every type but `main_frame`
+abbrev pub condition_keys : List (List ℕ)
+condition_keys = codes "urlFilter" ∷ []
+
+-- none where there is none, and else the pattern of a text
+abbrev pub url_filter_from : Option Data → Option (Option (List ℕ))
+url_filter_from None = Some None
+url_filter_from (Some d) = option_map Some (option_and_then (λ text. result_ok (pattern_of text)) (as_str d))
+
+-- no types are listed: the rule holds on every type but `main_frame`
+abbrev pub condition_with : Option (Option (List ℕ)) → Option Condition
+condition_with url_filter = option_map (λ filter. record { url_filter = filter; kinds = default_kinds }) url_filter
+
 abbrev pub condition_from : Data → Option Condition
-condition_from d = if is_object_of [] d then Some (record { kinds = default_kinds }) else None
+condition_from d = if is_object_of condition_keys d then condition_with (url_filter_from (get (codes "urlFilter") d)) else None
 
 abbrev pub action_named : List ℕ → Option Action
 action_named name = if bytes_eq name (codes "block") then Some block else (if bytes_eq name (codes "allow") then Some allow else None)

@@ -1,5 +1,5 @@
 -- One walk that keeps the best so far finds the rule that no other beats.
-use Rattle.std.proofs.Common.{◌≡◌, ◌⊎◌, ℕ, List, [], ◌∷◌, Bool, true, false, cond, not, ◌||◌, ◌==◌, map, filter, find, Option, Some, None, refl, sym, ap, ◌∙◌, subst, ⊎_elim, inl, inr, append-nil, drop, ◌+◌, ◌<◌, length, get_or, codes, eq-eqb}
+use Rattle.std.proofs.Common.{◌≡◌, ◌⊎◌, ℕ, List, [], ◌∷◌, Bool, true, false, cond, not, ◌||◌, ◌&&◌, ◌==◌, map, filter, find, Option, Some, None, refl, sym, ap, ◌∙◌, subst, ⊎_elim, inl, inr, append-nil, drop, ◌+◌, ◌<◌, length, get_or, codes, eq-eqb}
 use Rattle.std.specs.List.{list_any}
 use Rattle.std.proofs.lemmas.Bool.{cases_Bool, cond-true, cond-false, true≢false}
 use Rattle.std.proofs.lemmas.List.{drop_more}
@@ -8,7 +8,12 @@ use Rattle.dnr_spec.specs.RuleFile.{has_id, HaveOwnIds}
 use Rattle.dnr_spec.specs.State.{Live}
 use Rattle.dnr_spec.specs.Precedence.{beats, inside}
 use Rattle.dnr_spec.specs.Request.{Request, own_part}
-use Rattle.dnr_spec.specs.Holds.{holds}
+use Rattle.dnr_spec.specs.Kind.{has_kind}
+use Rattle.dnr_spec.specs.View.{text_of}
+use Rattle.dnr_spec.specs.UrlFilter.{fits}
+use Rattle.dnr_spec.specs.Holds.{holds, fits_url}
+use Rattle.dnr_top.specs.declared.scan.Part.{Part}
+use Rattle.dnr_top.specs.Part.{fits_text, is_held}
 use Rattle.dnr_spec.specs.Scan.{candidates}
 use Rattle.dnr_spec.specs.Out.{local}
 use Rattle.dnr_top.specs.declared.rule.Rule.{Rule}
@@ -218,3 +223,13 @@ walk_step rules next rule request best more all inside is so_far stronger =
     so_far ∙ ap (λ rs. strongest best (held_by request (rules_seen rs))) rest
     ∙ step_of best (live_seen rule) (held_by request (rules_seen (drop (next + 1) rules))) (holds (rule_seen rule) (own_part request))
     ∙ ap (λ b. strongest b (held_by request (rules_seen (drop (next + 1) rules)))) (sym stronger)
+
+fits_alike : (filter : Option (List ℕ)) (part : Part) (request : Request) → part.text.now ≡ text_of request.view → part.host ≡ request.view.host → fits_text filter part ≡ fits_url filter request.view
+fits_alike None part request text host = refl
+fits_alike (Some pattern) part request text host = ap (λ t. fits pattern t part.host true) text ∙ ap (λ h. fits pattern (text_of request.view) h true) host
+
+-- a rule holds on what a request shows where it holds on the request
+pub is_held-holds : (rule : spec.Rule) (part : Part) (request : Request) → part.text.now ≡ text_of request.view → part.host ≡ request.view.host → part.kind ≡ request.kind → is_held rule part ≡ holds rule (own_part request)
+is_held-holds rule part request text host kind =
+    ap (λ k. has_kind rule.condition.kinds k && fits_text rule.condition.url_filter part) kind
+    ∙ ap (λ b. has_kind rule.condition.kinds request.kind && b) (fits_alike rule.condition.url_filter part request text host)

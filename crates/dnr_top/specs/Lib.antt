@@ -7,3 +7,4 @@ pub mod Gives
 pub mod Answers
 pub mod Load
 pub mod Run
+pub mod Part

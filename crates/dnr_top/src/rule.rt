@@ -1,4 +1,5 @@
 use dnr_base::KindSet;
+use url_filter::Pattern;
 
 /// What a rule does to the requests that it decides: Chrome's `RuleAction`.
 #[derive(Clone, Copy, Debug, PartialEq, Eq)]
@@ -9,12 +10,20 @@ pub enum Action {
     Allow,
 }
 
+/// When a rule holds: Chrome's `RuleCondition`.
+#[derive(Debug, Drop)]
+pub struct Condition {
+    /// What the URL must fit, if anything.
+    pub url_filter: Option<Pattern>,
+    /// The resource types on which the rule holds.
+    pub kinds: KindSet,
+}
+
 /// A rule: Chrome's `Rule`. Greater priorities come first.
-#[derive(Clone, Copy, Debug)]
+#[derive(Debug, Drop)]
 pub struct Rule {
     pub id: u32,
     pub priority: u32,
-    /// The resource types on which the rule holds.
-    pub kinds: KindSet,
+    pub condition: Condition,
     pub action: Action,
 }

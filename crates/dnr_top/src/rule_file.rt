@@ -4,17 +4,20 @@ ghost use Rattle.std.specs.BTreeSet.{contains};
 ghost use Rattle.serde_json.specs.View.{view, items_view};
 ghost use Rattle.serde_json.specs.Find.{get, as_array};
 ghost use Rattle.dnr_spec.specs.RuleFile as spec;
+ghost use Rattle.dnr_spec.specs.UrlFilter.{pattern_of};
+ghost use Rattle.std.specs.Result.{result_ok};
 ghost use Rattle.dnr_base.specs.KindSet.{kinds_of};
-ghost use Rattle.dnr_top.specs.Rule.{rules_seen, action_seen};
+ghost use Rattle.dnr_top.specs.Rule.{action_seen, condition_seen, rules_seen};
 ghost use Rattle.dnr_top.specs.RuleFile.{GivesRule, IsRefusalOf};
 
-use crate::rule::{Action, Rule};
+use crate::rule::{Action, Condition, Rule};
 use crate::tree::{is_object_of, number_of, read_tree};
 use dnr_base::KindSet;
-use dnr_spec::{NoMemory, RuleFault};
+use dnr_spec::{NoMemory, PatternRefusal, RuleFault};
 use serde_json::Value;
 use std::alloc::{AllocError, AllocFailed, Global};
 use std::collections::BTreeSet;
+use url_filter::Pattern;
 
 /// How a rules file breaks its form.
 #[derive(Clone, Copy, Debug, PartialEq, Eq)]
@@ -95,7 +98,7 @@ fn read_list(alloc: Global, values: &[Value]) -> Result<Vec<Rule>, RulesRefusal>
     let mut taken = BTreeSet::new(alloc);
     let mut rules = Vec::new(alloc);
     for value in values {
-        match read_rule(&taken, value) {
+        match read_rule(alloc, &taken, value)? {
             Ok(rule) => {
                 taken.insert(rule.id)?;
                 rules.push(rule)?;
@@ -113,30 +116,34 @@ fn bad_rule(place: usize, fault: RuleFault) -> RulesRefusal
 }
 
 // Reads a rule whose id is not one of those that are taken.
-fn read_rule(taken: &BTreeSet<u32>, value: &Value) -> Result<Rule, RuleFault>
-    ensures { GivesRule result (spec.read_rule (λ id. contains nat_cmp taken.now id) (view value.now)) }
+fn read_rule(
+    alloc: Global,
+    taken: &BTreeSet<u32>,
+    value: &Value,
+) -> Result<Result<Rule, RuleFault>, NoMemory>
+    ensures { IfOk result (λ rule. GivesRule rule (spec.read_rule (λ id. contains nat_cmp taken.now id) (view value.now))) }
 {
     if !is_object_of(value, &["id", "priority", "condition", "action"]) {
-        return Err(RuleFault::Rule);
+        return Ok(Err(RuleFault::Rule));
     }
     let Some(id) = read_id(taken, value) else {
-        return Err(RuleFault::Id);
+        return Ok(Err(RuleFault::Id));
     };
     let Some(priority) = read_priority(value) else {
-        return Err(RuleFault::Priority);
+        return Ok(Err(RuleFault::Priority));
     };
-    let Some(kinds) = read_condition(value) else {
-        return Err(RuleFault::Condition);
+    let Some(condition) = read_condition(alloc, value)? else {
+        return Ok(Err(RuleFault::Condition));
     };
     let Some(action) = read_action(value) else {
-        return Err(RuleFault::Action);
+        return Ok(Err(RuleFault::Action));
     };
-    Ok(Rule {
+    Ok(Ok(Rule {
         id,
         priority,
-        kinds,
+        condition,
         action,
-    })
+    }))
 }
 
 fn read_id(taken: &BTreeSet<u32>, value: &Value) -> Option<u32>
@@ -156,15 +163,54 @@ fn read_priority(value: &Value) -> Option<u32>
     }
 }
 
-// A condition without keys holds on every type but `main_frame`.
-fn read_condition(value: &Value) -> Option<KindSet>
-    ensures { option_map (λ kinds. record { kinds = kinds_of kinds }) result ≡ option_and_then spec.condition_from (get (codes "condition") (view value.now)) }
+fn read_condition(alloc: Global, value: &Value) -> Result<Option<Condition>, NoMemory>
+    ensures { IfOk result (λ condition. option_map condition_seen condition ≡ option_and_then spec.condition_from (get (codes "condition") (view value.now))) }
 {
-    let condition = value.get("condition")?;
-    if is_object_of(condition, &[]) {
-        Some(KindSet::all_but_main_frame())
-    } else {
-        None
+    match value.get("condition") {
+        Some(condition) => read_fields(alloc, condition),
+        None => Ok(None),
+    }
+}
+
+// A condition that lists no types holds on all but `main_frame`.
+fn read_fields(alloc: Global, condition: &Value) -> Result<Option<Condition>, NoMemory>
+    ensures { IfOk result (λ read. option_map condition_seen read ≡ spec.condition_from (view condition.now)) }
+{
+    if !is_object_of(condition, &["urlFilter"]) {
+        return Ok(None);
+    }
+    let Some(url_filter) = read_url_filter(alloc, condition.get("urlFilter"))? else {
+        return Ok(None);
+    };
+    Ok(Some(Condition {
+        url_filter,
+        kinds: KindSet::all_but_main_frame(),
+    }))
+}
+
+// The filter that is there or not, unless it is no filter.
+fn read_url_filter(
+    alloc: Global,
+    value: Option<&Value>,
+) -> Result<Option<Option<Pattern>>, NoMemory>
+    ensures { IfOk result (λ filter. filter ≡ spec.url_filter_from (option_map (λ value. view value.now) value.entry)) }
+{
+    let Some(value) = value else {
+        return Ok(Some(None));
+    };
+    match value.as_str() {
+        Some(text) => read_pattern(alloc, text),
+        None => Ok(None),
+    }
+}
+
+fn read_pattern(alloc: Global, text: &str) -> Result<Option<Option<Pattern>>, NoMemory>
+    ensures { IfOk result (λ pattern. pattern ≡ option_map Some (result_ok (pattern_of text.now))) }
+{
+    match Pattern::read(alloc, text) {
+        Ok(pattern) => Ok(Some(Some(pattern))),
+        Err(PatternRefusal::NoMemory) => Err(NoMemory),
+        Err(_) => Ok(None),
     }
 }
 

@@ -1,5 +1,5 @@
 // Which rule decides a request: Chrome's reference, "Rule prioritization".
-ghost use Rattle.std.specs.Prelude.{◌≡◌, if◌then◌else◌, option_map};
+ghost use Rattle.std.specs.Prelude.{◌≡◌, ◌≤◌, length};
 ghost use Rattle.dnr_spec.specs.Holds as held;
 ghost use Rattle.dnr_spec.specs.Out.{local, opening};
 ghost use Rattle.dnr_spec.specs.Precedence as order;
@@ -9,12 +9,14 @@ ghost use Rattle.dnr_spec.specs.Scan as spec;
 ghost use Rattle.dnr_base.specs.Request.{request_seen};
 ghost use Rattle.dnr_top.specs.Rule.{action_seen, rule_seen, rules_seen};
 ghost use Rattle.dnr_top.specs.Scan.{live_seen, best_of, stronger_of};
+ghost use Rattle.dnr_top.specs.Part.{fits_text, is_held};
 ghost use Rattle.dnr_top.specs.Output.{verdict_seen};
 
 use crate::output::{RuleName, Verdict};
 use crate::rule::{Action, Rule};
 use dnr_base::Request;
-use dnr_spec::Outcome;
+use dnr_spec::{Kind, Outcome, Span};
+use url_filter::Pattern;
 
 /// What becomes of a request, where these rules are the ruleset `rules` of the one extension `local`.
 #[tactic(auto, unfolding(dnr_spec::specs::Scan::scan))]
@@ -47,35 +49,41 @@ fn outcome_of(action: Action) -> Outcome
     }
 }
 
+// What rules are tested on.
+#[derive(Clone, Copy, Debug)]
+struct Part<'a> {
+    text: &'a str,
+    host: Span,
+    kind: Kind,
+}
+
 // Of the rules that hold, the one that no other beats. It walks once and keeps the best so far.
 fn deciding_rule<'a>(rules: &'a [Rule], request: &Request) -> Option<&'a Rule>
     requires { HaveOwnIds (rules_seen rules.now) }
     ensures { best_of result ≡ order.inside (spec.candidates (local (rules_seen rules.now)) (request_seen request.now)) }
 {
+    let part = Part {
+        text: request.view.text(),
+        host: request.view.host_span(),
+        kind: request.kind,
+    };
     let mut best = None;
     for rule in rules {
-        best = stronger(best, rule, request);
+        best = stronger(best, rule, &part);
     }
     best
 }
 
 // The best so far and one rule more.
-fn stronger<'a>(best: Option<&'a Rule>, rule: &'a Rule, request: &Request) -> Option<&'a Rule>
-    ensures { best_of result ≡ stronger_of (best_of best.entry) (live_seen rule.now) (held.holds (rule_seen rule.now) (own_part (request_seen request.now))) }
+fn stronger<'a>(best: Option<&'a Rule>, rule: &'a Rule, part: &Part) -> Option<&'a Rule>
+    requires { part.now.host.end ≤ length part.now.text.now }
+    ensures { best_of result ≡ stronger_of (best_of best.entry) (live_seen rule.now) (is_held (rule_seen rule.now) part.now) }
 {
-    if !holds(rule, request) {
-        return best;
-    }
     match best {
-        Some(best) => Some(winner(rule, best)),
-        None => Some(rule),
+        Some(best) if !beats(rule, best) => Some(best),
+        _ if holds(rule, part) => Some(rule),
+        _ => best,
     }
-}
-
-fn winner<'a>(rule: &'a Rule, best: &'a Rule) -> &'a Rule
-    ensures { live_seen result.now ≡ (if order.beats (live_seen rule.now) (live_seen best.now) then live_seen rule.now else live_seen best.now) }
-{
-    if beats(rule, best) { rule } else { best }
 }
 
 // Greater priority first, then `allow`, then the smaller id.
@@ -91,9 +99,20 @@ fn beats(rule: &Rule, other: &Rule) -> bool
     rule.id < other.id
 }
 
-// Whether the rule's condition holds on the request.
-fn holds(rule: &Rule, request: &Request) -> bool
-    ensures { result ≡ held.holds (rule_seen rule.now) (own_part (request_seen request.now)) }
+// Whether the rule's condition holds.
+fn holds(rule: &Rule, part: &Part) -> bool
+    requires { part.now.host.end ≤ length part.now.text.now }
+    ensures { result ≡ is_held (rule_seen rule.now) part.now }
 {
-    rule.kinds.contains(request.kind)
+    rule.condition.kinds.contains(part.kind) && fits_url(&rule.condition.url_filter, part)
+}
+
+fn fits_url(url_filter: &Option<Pattern>, part: &Part) -> bool
+    requires { part.now.host.end ≤ length part.now.text.now }
+    ensures { result ≡ fits_text url_filter.now part.now }
+{
+    match url_filter {
+        Some(pattern) => pattern.matches(part.text, part.host, true),
+        None => true,
+    }
 }

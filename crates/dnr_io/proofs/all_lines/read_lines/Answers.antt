@@ -1,8 +1,6 @@
-use Rattle.std.proofs.Common.{◌≡◌, ◌++◌, ◌∷◌, [], map, List, ℕ, ap, ◌∙◌, sym, subst, rules, arith}
-use Rattle.std.proofs.lemmas.Grind.{common_steps}
+use Rattle.std.proofs.Common.{◌≡◌, ◌++◌, ◌∷◌, [], map, ap, ◌∙◌, rules, arith}
 use Rattle.std.proofs.lemmas.List.{map-append}
-use Rattle.dnr_io.specs.Lines.{ahead}
-use Rattle.dnr_io.proofs.ReadSoFar.{ReadSoFar, one_read, is_beyond}
+use Rattle.dnr_io.proofs.ReadSoFar.{one_read, is_beyond}
 use Rattle.dnr_io.proofs.all_lines.read_lines.Goals as goal
 
 pub returns-in_err-line-clause-too_long : goal.returns-in_err-line-clause-too_long

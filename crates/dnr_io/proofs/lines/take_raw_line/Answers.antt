@@ -1,6 +1,4 @@
-use Rattle.std.proofs.Common.{◌≡◌, ◌<◌, [], length, arith, rules, sym, subst, ◌+◌, ap}
-use Rattle.std.proofs.lemmas.Grind.{common_steps}
-use Rattle.std.specs.Prelude.{IsErrOf, Result, Err}
+use Rattle.std.proofs.Common.{◌<◌, length, arith, rules, ap}
 use Rattle.std.specs.Io.KnownBytes.{Consumes, prepend_known}
 use Rattle.dnr_io.proofs.Pieces.{ended, last, overflows}
 use Rattle.dnr_io.proofs.lines.take_raw_line.Goals as goal

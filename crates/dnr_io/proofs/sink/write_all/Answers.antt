@@ -1,4 +1,4 @@
-use Rattle.std.proofs.Common.{◌≡◌, ◌-◌, ◌++◌, List, ℕ, length, take, ◌∙◌, arith}
+use Rattle.std.proofs.Common.{◌++◌, take, arith}
 use Rattle.dnr_io.proofs.Appended.{appends_append, rejoin}
 use Rattle.dnr_io.proofs.sink.write_all.Goals as goal
 

@@ -1,4 +1,4 @@
-use Rattle.std.proofs.Common.{◌≡◌, ◌+◌, ◌<◌, ◌≤◌, min, arith, sym, ◌∙◌, ap, drop}
+use Rattle.std.proofs.Common.{◌≡◌, ◌+◌, min, arith, ◌∙◌, ap, drop}
 use Rattle.dnr_io.proofs.Window.{consumed}
 use Rattle.dnr_io.proofs.ahead.Ahead.consume.Goals as goal
 

@@ -1,5 +1,4 @@
-use Rattle.std.proofs.Common.{◌≡◌, ◌<◌, ◌≤◌, true, length, arith, rules}
-use Rattle.std.proofs.lemmas.Grind.{common_steps}
+use Rattle.std.proofs.Common.{◌≡◌, ◌≤◌, true, arith, rules}
 use Rattle.dnr_spec.specs.Lines.{max_lines}
 use Rattle.dnr_io.proofs.Pieces.{one_more}
 use Rattle.dnr_io.proofs.lines.Lines.next.Goals as goal

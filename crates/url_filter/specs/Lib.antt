@@ -1,0 +1,7 @@
+pub mod Anchor
+pub mod Labels
+pub mod Read
+pub mod Refused
+pub mod Sought
+pub mod Stops
+pub mod Told
