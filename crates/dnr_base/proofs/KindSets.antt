@@ -4,17 +4,18 @@ use Rattle.std.specs.Prelude.{bit_and, bit_or}
 use Rattle.std.specs.List.{list_any}
 use Rattle.std.proofs.lemmas.Bool.{cases_Bool, cond-true, cond-false}
 use Rattle.std.proofs.lemmas.Bool.Decides.{nat_tests}
-use Rattle.std.proofs.lemmas.Nat.{and_or_self, and_or_apart, pow_apart, pow_pos}
+use Rattle.std.proofs.lemmas.Nat.{and_or_self, and_or_apart, or_lt, pow_apart, pow_pos}
 use Rattle.std.proofs.lemmas.Grind.{and-not_self, and_not_apart}
 use Rattle.std.proofs.Math.Nat.{pow-le-pow_right}
+use Rattle.std.proofs.Math.Path.{fun_ext}
 use Rattle.dnr_spec.specs.declared.kind.Kind.{Kind}
 use Rattle.dnr_spec.specs.declared.kind.Kind.TheVariants.{MainFrame, SubFrame, Stylesheet, Script, Image, Font, Object, XmlHttpRequest, Ping, CspReport, Media, WebSocket, WebTransport, WebBundle, Other}
-use Rattle.dnr_spec.specs.Kind.{all_kinds, place_of, same_kind, has_kind}
+use Rattle.dnr_spec.specs.Kind.{all_kinds, default_kinds, place_of, same_kind, has_kind}
 use Rattle.dnr_base.specs.KindSet.{has_bit, kinds_of}
 use Rattle.dnr_base.specs.declared.kind_set.KindSet.{KindSet}
 
 -- each type is one of all
-has_kind-all_kinds : (kind : Kind) → has_kind all_kinds kind ≡ true
+pub has_kind-all_kinds : (kind : Kind) → has_kind all_kinds kind ≡ true
 has_kind-all_kinds MainFrame = refl
 has_kind-all_kinds SubFrame = refl
 has_kind-all_kinds Stylesheet = refl
@@ -30,6 +31,24 @@ has_kind-all_kinds WebSocket = refl
 has_kind-all_kinds WebTransport = refl
 has_kind-all_kinds WebBundle = refl
 has_kind-all_kinds Other = refl
+
+-- only `main_frame` is not one of the default types
+pub has_kind-default_kinds : (kind : Kind) → has_kind default_kinds kind ≡ not (same_kind kind MainFrame)
+has_kind-default_kinds MainFrame = refl
+has_kind-default_kinds SubFrame = refl
+has_kind-default_kinds Stylesheet = refl
+has_kind-default_kinds Script = refl
+has_kind-default_kinds Image = refl
+has_kind-default_kinds Font = refl
+has_kind-default_kinds Object = refl
+has_kind-default_kinds XmlHttpRequest = refl
+has_kind-default_kinds Ping = refl
+has_kind-default_kinds CspReport = refl
+has_kind-default_kinds Media = refl
+has_kind-default_kinds WebSocket = refl
+has_kind-default_kinds WebTransport = refl
+has_kind-default_kinds WebBundle = refl
+has_kind-default_kinds Other = refl
 
 -- types of one place have one bit
 same_bit : (bits : ℕ) (a b : Kind) → same_kind a b ≡ true → has_bit bits b ≡ has_bit bits a
@@ -88,22 +107,33 @@ clear_bit bits n m false apart n_small m_small =
     let ne : n ≢ m = grind (arith, nat_tests) in
     ap (λ v. not (v == 0)) (and_not_apart bits 65535 (2 ^ n) (2 ^ m) refl (pow_small n n_small) (pow_small m m_small) (pow_apart n m ne))
 
+place_below : (kind : Kind) → place_of kind < 15
+place_below MainFrame = lit< tt
+place_below SubFrame = lit< tt
+place_below Stylesheet = lit< tt
+place_below Script = lit< tt
+place_below Image = lit< tt
+place_below Font = lit< tt
+place_below Object = lit< tt
+place_below XmlHttpRequest = lit< tt
+place_below Ping = lit< tt
+place_below CspReport = lit< tt
+place_below Media = lit< tt
+place_below WebSocket = lit< tt
+place_below WebTransport = lit< tt
+place_below WebBundle = lit< tt
+place_below Other = lit< tt
+
 place_small : (kind : Kind) → place_of kind < 16
-place_small MainFrame = lit< tt
-place_small SubFrame = lit< tt
-place_small Stylesheet = lit< tt
-place_small Script = lit< tt
-place_small Image = lit< tt
-place_small Font = lit< tt
-place_small Object = lit< tt
-place_small XmlHttpRequest = lit< tt
-place_small Ping = lit< tt
-place_small CspReport = lit< tt
-place_small Media = lit< tt
-place_small WebSocket = lit< tt
-place_small WebTransport = lit< tt
-place_small WebBundle = lit< tt
-place_small Other = lit< tt
+place_small kind = let below = place_below kind in omega arith
+
+-- the bit of a type puts no other bit in
+pub types_alone-insert : (bits : ℕ) (kind : Kind) → bits < 2 ^ 15 → bit_or bits (2 ^ place_of kind) < 2 ^ 15
+types_alone-insert bits kind alone =
+    let below = place_below kind in
+    let low : place_of kind ≤ 14 = omega arith in
+    let most : 2 ^ place_of kind ≤ 2 ^ 14 = pow-le-pow_right {n = 2} (lit< tt) low in
+    or_lt 15 bits (2 ^ place_of kind) alone (omega arith)
 
 -- with the bit of a type the set has the type, and the others as before
 pub has_kind-insert : (old new : KindSet) (kind other : Kind) → new.bits ≡ bit_or old.bits (2 ^ place_of kind) → has_kind (kinds_of new) other ≡ (same_kind kind other || has_kind (kinds_of old) other)
@@ -117,3 +147,16 @@ has_kind-remove old new kind other e =
     has_kind-kinds_of new other ∙ ap (λ bits. has_bit bits other) e
     ∙ clear_bit old.bits (place_of kind) (place_of other) (same_kind kind other) refl (place_small kind) (place_small other)
     ∙ ap (λ b. not (same_kind kind other) && b) (sym (has_kind-kinds_of old other))
+
+-- a set's list is all types, of which those that are in it stay
+kinds_of-filter : (set : KindSet) (test : Kind → Bool) → ((kind : Kind) → has_kind (kinds_of set) kind ≡ test kind) → kinds_of set ≡ filter test all_kinds
+unfolding kinds_of
+kinds_of-filter set test members = ap (λ t. filter t all_kinds) (fun_ext (λ kind. sym (has_kind-kinds_of set kind) ∙ members kind))
+
+pub kinds_of-insert : (old new : KindSet) (kind : Kind) → new.bits ≡ bit_or old.bits (2 ^ place_of kind)
+    → kinds_of new ≡ filter (λ other. same_kind kind other || has_kind (kinds_of old) other) all_kinds
+kinds_of-insert old new kind e = kinds_of-filter new (λ other. same_kind kind other || has_kind (kinds_of old) other) (λ other. has_kind-insert old new kind other e)
+
+pub kinds_of-remove : (old new : KindSet) (kind : Kind) → new.bits ≡ bit_and old.bits (65535 - 2 ^ place_of kind)
+    → kinds_of new ≡ filter (λ other. not (same_kind kind other) && has_kind (kinds_of old) other) all_kinds
+kinds_of-remove old new kind e = kinds_of-filter new (λ other. not (same_kind kind other) && has_kind (kinds_of old) other) (λ other. has_kind-remove old new kind other e)

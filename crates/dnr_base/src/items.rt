@@ -5,7 +5,8 @@ use dnr_spec::NoMemory;
 use std::alloc::Global;
 use std::marker::Model;
 
-/// A list that its owner keeps and lends. A clause sees it as the list of its items.
+/// A list that its owner keeps and lends: what a public field has in place of a `Vec`. A clause sees it as
+/// the list of its items, in their order.
 #[derive(Debug, Drop)]
 pub struct Items<T> {
     items: Vec<T>,
@@ -18,13 +19,14 @@ impl<T> Model for Items<T> {
 }
 
 impl<T> Items<T> {
-    /// Takes the vector as it is.
+    /// Takes the vector as it is, and no memory.
     pub fn build(items: Vec<T>) -> Items<T>
         ensures { result ≡ items.items }
     {
         Items { items }
     }
 
+    /// The items, in their order.
     pub fn as_slice(&self) -> &[T]
         ensures { result.now ≡ self.now }
     {
@@ -33,7 +35,9 @@ impl<T> Items<T> {
 }
 
 impl<T: Copied + Drop> Items<T> {
-    /// A list of equal items.
+    /// A list of equal items, in their order.
+    ///
+    /// `NoMemory`: no memory is left for the list, or for one of its items.
     pub fn copy(&self, alloc: Global) -> Result<Items<T>, NoMemory>
         ensures { IfOk result (λ copy. copy ≡ self.now) }
     {

@@ -1,10 +1,13 @@
-//! The plain types that every layer speaks of: texts, lists, sets of types, and the view of a URL.
+//! The plain types that every layer speaks of: texts, lists, sets of resource types, views of URLs, and
+//! requests. What they keep is said by the types themselves, and no call but a copy takes memory.
 #![tactic(auto)]
 
 mod copied;
 mod items;
 mod kind_set;
 mod request;
+#[cfg(test)]
+mod tests;
 mod text;
 mod view;
 

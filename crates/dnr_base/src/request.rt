@@ -7,12 +7,16 @@ use std::alloc::Global;
 /// A request, as rules are tested on it.
 #[derive(Debug, Drop)]
 pub struct Request {
+    /// The URL that is asked for.
     pub view: View,
+    /// What it is asked for: Chrome's `ResourceType`.
     pub kind: Kind,
 }
 
 impl Request {
     /// An equal request.
+    ///
+    /// `NoMemory`: no memory is left for its view.
     pub fn copy(&self, alloc: Global) -> Result<Request, NoMemory>
         ensures { IfOk result (λ copy. copy ≡ self.now) }
     {

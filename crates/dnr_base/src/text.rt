@@ -5,7 +5,8 @@ use dnr_spec::NoMemory;
 use std::alloc::Global;
 use std::marker::Model;
 
-/// A text that its owner keeps and lends. A clause sees it as its bytes.
+/// A text that its owner keeps and lends: what a public field has in place of a `String`. A clause sees it
+/// as its bytes in UTF-8. Texts of the same bytes are equal: no case is folded and nothing normalized.
 #[derive(Debug, Drop)]
 pub struct Text {
     text: String,
@@ -18,13 +19,14 @@ impl Model for Text {
 }
 
 impl Text {
-    /// Takes the string as it is.
+    /// Takes the string as it is, and no memory.
     pub fn build(text: String) -> Text
         ensures { result ≡ string_bytes text }
     {
         Text { text }
     }
 
+    /// The whole text.
     pub fn as_str(&self) -> &str
         ensures { result.now ≡ self.now }
     {
@@ -32,6 +34,8 @@ impl Text {
     }
 
     /// An equal text.
+    ///
+    /// `NoMemory`: no memory is left for its bytes.
     pub fn copy(&self, alloc: Global) -> Result<Text, NoMemory>
         ensures { IfOk result (λ copy. copy ≡ self.now) }
     {

@@ -6,8 +6,12 @@ use dnr_spec::{NoMemory, Scheme, Span};
 use std::alloc::Global;
 use std::marker::Model;
 
-/// A URL as rules see it: its serialization by the URL Standard, where its fragment begins, its scheme,
-/// and where its host stands. The text is ASCII.
+/// A URL as rules see it: its serialization (URL Standard, section 4.5), where its fragment begins, its
+/// scheme, and where its host stands. Places are in bytes from 0.
+///
+/// The serialization is ASCII. The host is not empty, and has only lower-case letters, digits, `-`, `.` and
+/// `_`, or is an IPv6 address between brackets. It stands before the fragment, behind `/` or `@`, and `:`,
+/// `/`, `?` or the end follows it. That the view is the one of a URL is said where it is read from a text.
 #[derive(Debug, Drop)]
 pub struct View {
     full: Text,
@@ -27,7 +31,8 @@ impl Model for View {
 }
 
 impl View {
-    /// A view of these parts. The host's span lies in the text before the fragment, which begins at `cut`.
+    /// A view of these parts: the serialization, where its fragment begins (its length, if it has none), its
+    /// scheme, and where its host stands. It takes no memory.
     pub fn build(full: Text, cut: usize, scheme: Scheme, host: Span) -> View
         requires { IsView (record { full = full; cut = cut; scheme = scheme; host = host }) }
         ensures { result ≡ record { full = full; cut = cut; scheme = scheme; host = host } }
@@ -40,7 +45,7 @@ impl View {
         }
     }
 
-    /// The whole serialization.
+    /// The whole serialization, with the fragment.
     pub fn full(&self) -> &str
         ensures value { result.now ≡ self.now.full }
         ensures kept { IsView self.now }
@@ -48,7 +53,8 @@ impl View {
         self.full.as_str()
     }
 
-    /// The serialization without the fragment, on which filters match.
+    /// The serialization without the fragment and its `#`, which is what `urlFilter` and `regexFilter` of
+    /// Chrome's reference are matched against.
     pub fn text(&self) -> &str
         ensures value { result.now ≡ text_of self.now }
         ensures kept { IsView self.now }
@@ -56,13 +62,14 @@ impl View {
         &self.full.as_str()[..self.cut]
     }
 
+    /// Which of the known schemes it has.
     pub fn scheme(&self) -> Scheme
         ensures { result ≡ self.now.scheme }
     {
         self.scheme
     }
 
-    /// The host. An IPv6 host includes its brackets.
+    /// The host, without user information and port. An IPv6 host includes its brackets.
     pub fn host(&self) -> &str
         ensures value { result.now ≡ host_of self.now }
         ensures kept { IsView self.now }
@@ -70,7 +77,7 @@ impl View {
         &self.full.as_str()[self.host.start..self.host.end]
     }
 
-    /// Where the host stands in the text.
+    /// Where the host stands in the text, and in the serialization.
     pub fn host_span(&self) -> Span
         ensures value { result ≡ self.now.host }
         ensures kept { IsView self.now }
@@ -79,6 +86,8 @@ impl View {
     }
 
     /// An equal view.
+    ///
+    /// `NoMemory`: no memory is left for its serialization.
     pub fn copy(&self, alloc: Global) -> Result<View, NoMemory>
         ensures { IfOk result (λ copy. copy ≡ self.now) }
     {

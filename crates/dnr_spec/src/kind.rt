@@ -1,7 +1,8 @@
-ghost use Rattle.std.specs.Prelude.{◌≡◌, ◌<◌};
-ghost use Rattle.dnr_spec.specs.Kind.{place_of, name_of, kind_named};
+ghost use Rattle.std.specs.Prelude.{◌≡◌, ◌<◌, Some};
+ghost use Rattle.std.specs.List.{slice_get};
+ghost use Rattle.dnr_spec.specs.Kind.{all_kinds, place_of, name_of, kind_named};
 
-/// What a request is for: Chrome's `ResourceType`, in the order of its reference.
+/// What a request is for: the `ResourceType` of Chrome's reference of declarativeNetRequest, in its order.
 #[derive(Clone, Copy, Debug, PartialEq, Eq, PartialOrd, Ord)]
 pub enum Kind {
     MainFrame,
@@ -41,17 +42,19 @@ impl Kind {
         Kind::Other,
     ];
 
-    /// Its place in the reference, from 0.
+    /// Its place in the reference's list, from 0.
     pub fn place(self) -> u32
         ensures value { result ≡ place_of self }
+        ensures in_list { slice_get all_kinds result ≡ Some self }
         ensures small { result < 15 }
     {
         self as u32
     }
 
-    /// How the reference writes it.
+    /// How the reference writes it. No two types have one name.
     pub fn name(self) -> &'static str
-        ensures { result.now ≡ name_of self }
+        ensures value { result.now ≡ name_of self }
+        ensures read_back { kind_named result.now ≡ Some self }
     {
         match self {
             Kind::MainFrame => "main_frame",
@@ -72,7 +75,7 @@ impl Kind {
         }
     }
 
-    /// The type of a name.
+    /// The type that the reference writes so, byte for byte. `None`: it writes no type so.
     pub fn named(name: &str) -> Option<Kind>
         ensures { result ≡ kind_named name.now }
     {

@@ -14,6 +14,8 @@ mod rule_fault;
 mod scheme;
 mod span;
 mod status;
+#[cfg(test)]
+mod tests;
 mod view_refusal;
 
 pub use examples::{

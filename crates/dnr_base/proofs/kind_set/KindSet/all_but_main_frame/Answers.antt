@@ -1,7 +1,12 @@
 use Rattle.std.proofs.Common.{refl}
 use Rattle.dnr_base.specs.KindSet.{kinds_of}
+use Rattle.dnr_base.proofs.KindSets.{has_kind-default_kinds}
 use Rattle.dnr_base.proofs.kind_set.KindSet.all_but_main_frame.Goals as goal
 
-pub returns : goal.returns
+pub returns-clause-list : goal.returns-clause-list
 unfolding kinds_of
-returns c = refl
+returns-clause-list c = refl
+
+pub returns-clause-members : goal.returns-clause-members
+unfolding kinds_of
+returns-clause-members c = has_kind-default_kinds

@@ -1,0 +1,132 @@
+//! Each call once, with ample memory where it takes any, and that threads may share what the types keep.
+use crate::*;
+use std::alloc::Global;
+use std::string::String;
+use std::test::Fail;
+
+fn text(alloc: Global, words: &str) -> Result<Text, Fail> {
+    Ok(Text::build(String::from_str(alloc, words)?))
+}
+
+// `http://u@x.org:80/a?b#c`, whose host stands behind the user information.
+fn view(alloc: Global) -> Result<View, Fail> {
+    let full = text(alloc, "http://u@x.org:80/a?b#c")?;
+    let host = Span { start: 9, end: 14 };
+    Ok(View::build(full, 21, Scheme::Http, host))
+}
+
+fn copy_of<T: Copied>(alloc: Global, value: &T) -> Result<T, NoMemory> {
+    value.copied(alloc)
+}
+
+fn is_send<T: Send>(_: &T) {}
+
+fn is_sync<T: Sync>(_: &T) {}
+
+#[test]
+fn a_text_is_its_bytes(rt: HostRuntime) -> Result<(), Fail> {
+    let alloc = rt.alloc();
+    let table = [
+        ("", "", true),
+        ("straße", "straße", true),
+        ("a", "A", false),
+        ("a", "ab", false),
+        ("ab", "ba", false),
+    ];
+    for (one, other, same) in table {
+        let one = text(alloc, one)?;
+        let other = text(alloc, other)?;
+        assert_eq!(rt;
+            one == other,
+            same,
+            "{} and {}",
+            one.as_str(),
+            other.as_str()
+        );
+        assert_eq!(rt; one.copy(alloc)?.as_str(), one.as_str());
+    }
+    Ok(())
+}
+
+#[test]
+fn a_copied_list_has_equal_items(rt: HostRuntime) -> Result<(), Fail> {
+    let alloc = rt.alloc();
+    let items = Items::build(vec![in alloc;
+        text(alloc, "a")?,
+        text(alloc, "")?,
+        text(alloc, "a")?,
+    ]?);
+    let copy = items.copy(alloc)?;
+    assert_eq!(rt; copy.as_slice().len(), 3);
+    assert!(rt; copy.as_slice() == items.as_slice());
+    Ok(())
+}
+
+#[test]
+fn a_view_lends_its_parts(rt: HostRuntime) -> Result<(), Fail> {
+    let alloc = rt.alloc();
+    let view = view(alloc)?;
+    for view in [&view, &view.copy(alloc)?, &copy_of(alloc, &view)?] {
+        assert_eq!(rt; view.full(), "http://u@x.org:80/a?b#c");
+        assert_eq!(rt; view.text(), "http://u@x.org:80/a?b");
+        assert_eq!(rt; view.host(), "x.org");
+        assert_eq!(rt; view.host_span(), Span { start: 9, end: 14 });
+        assert_eq!(rt; view.scheme(), Scheme::Http);
+    }
+    Ok(())
+}
+
+#[test]
+fn a_copied_request_is_equal(rt: HostRuntime) -> Result<(), Fail> {
+    let alloc = rt.alloc();
+    let request = Request {
+        view: view(alloc)?,
+        kind: Kind::Script,
+    };
+    for copy in [request.copy(alloc)?, copy_of(alloc, &request)?] {
+        assert_eq!(rt; copy.view.full(), request.view.full());
+        assert_eq!(rt; copy.kind, Kind::Script);
+    }
+    Ok(())
+}
+
+#[test]
+fn a_set_has_what_was_put_in(rt: HostRuntime) {
+    for kind in Kind::ALL {
+        assert!(rt; !KindSet::empty().contains(kind));
+        assert!(rt; KindSet::all().contains(kind));
+        let is_default = KindSet::all_but_main_frame().contains(kind);
+        assert_eq!(rt; is_default, kind != Kind::MainFrame);
+        let mut set = KindSet::empty();
+        set.insert(kind);
+        for other in Kind::ALL {
+            assert_eq!(rt; set.contains(other), other == kind);
+        }
+        set.remove(kind);
+        assert_eq!(rt; set, KindSet::empty());
+    }
+}
+
+#[test]
+fn threads_may_share_them(rt: HostRuntime) -> Result<(), Fail> {
+    let alloc = rt.alloc();
+    let text = text(alloc, "a")?;
+    is_send(&text);
+    is_sync(&text);
+    let items = Items::build(vec![in alloc; text]?);
+    is_send(&items);
+    is_sync(&items);
+    let kinds = KindSet::all();
+    is_send(&kinds);
+    is_sync(&kinds);
+    let view = view(alloc)?;
+    is_send(&view);
+    is_sync(&view);
+    let request = Request {
+        view,
+        kind: Kind::Other,
+    };
+    is_send(&request);
+    is_sync(&request);
+    Ok(())
+}
