@@ -1,10 +1,14 @@
 //! Each call once, with ample memory where it takes any, and that threads may share what the types keep.
+ghost use Rattle.std.specs.Prelude.{◌≡◌, IfOk};
+
 use crate::*;
 use std::alloc::Global;
 use std::string::String;
 use std::test::Fail;
 
-fn text(alloc: Global, words: &str) -> Result<Text, Fail> {
+fn text(alloc: Global, words: &str) -> Result<Text, Fail>
+    ensures { IfOk result (λ text. text ≡ words.now) }
+{
     Ok(Text::build(String::from_str(alloc, words)?))
 }
 
