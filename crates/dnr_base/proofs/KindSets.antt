@@ -1,12 +1,13 @@
 -- What the bits of a set say of its types.
-use Rattle.std.proofs.Common.{◌≡◌, ◌≢◌, ℕ, ◌^◌, ◌-◌, ◌≤◌, ◌<◌, ◌+◌, List, [], ◌∷◌, Bool, true, false, cond, not, ◌&&◌, ◌||◌, ◌==◌, refl, sym, ap, ◌∙◌, subst, ⊎_elim, filter, arith, eqb→eq, eq-eqb, ne_eqb, lit<}
+use Rattle.std.proofs.Common.{◌≡◌, ◌≢◌, ℕ, zero, suc, ◌*◌, ◌^◌, ◌-◌, ◌≤◌, ◌<◌, List, [], ◌∷◌, Bool, true, false, cond, not, ◌&&◌, ◌||◌, ◌==◌, refl, sym, ap, ◌∙◌, subst, filter, arith, ne_eqb, lit<}
 use Rattle.std.specs.Prelude.{bit_and, bit_or}
-use Rattle.std.specs.List.{list_any}
-use Rattle.std.proofs.lemmas.Bool.{cases_Bool, cond-true, cond-false}
 use Rattle.std.proofs.lemmas.Bool.Decides.{nat_tests}
+use Rattle.std.specs.Int.{bit_at}
+use Rattle.std.proofs.lemmas.Nat.Bits.{and_pow, bit_at-lt, same_from_bits_below}
 use Rattle.std.proofs.lemmas.Nat.{and_or_self, and_or_apart, or_lt, pow_apart, pow_pos}
 use Rattle.std.proofs.lemmas.Grind.{and-not_self, and_not_apart}
 use Rattle.std.proofs.Math.Nat.{pow-le-pow_right}
+use Rattle.std.proofs.Math.Bridge.{le_prop}
 use Rattle.std.proofs.Math.Path.{fun_ext}
 use Rattle.dnr_spec.specs.declared.kind.Kind.{Kind}
 use Rattle.dnr_spec.specs.declared.kind.Kind.TheVariants.{MainFrame, SubFrame, Stylesheet, Script, Image, Font, Object, XmlHttpRequest, Ping, CspReport, Media, WebSocket, WebTransport, WebBundle, Other}
@@ -160,3 +161,51 @@ kinds_of-insert old new kind e = kinds_of-filter new (λ other. same_kind kind o
 pub kinds_of-remove : (old new : KindSet) (kind : Kind) → new.bits ≡ bit_and old.bits (65535 - 2 ^ place_of kind)
     → kinds_of new ≡ filter (λ other. not (same_kind kind other) && has_kind (kinds_of old) other) all_kinds
 kinds_of-remove old new kind e = kinds_of-filter new (λ other. not (same_kind kind other) && has_kind (kinds_of old) other) (λ other. has_kind-remove old new kind other e)
+
+-- a bit is told by its test
+bit_told : (b p : ℕ) → b < 2 → p ≢ 0 → cond (not (b * p == 0)) 1 0 ≡ b
+bit_told zero p small positive = ap (λ v. cond (not (v == 0)) 1 0) (let none : 0 * p ≡ 0 = omega arith in none)
+bit_told (suc zero) p small positive = ap (λ t. cond (not t) 1 0) (ne_eqb (1 * p) 0 (subst (λ v. v ≢ 0) (let one : p ≡ 1 * p = omega arith in one) positive))
+bit_told (suc (suc b)) p small positive = absurd (omega (arith, small))
+
+bit_of_test : (bits place : ℕ) → cond (not (bit_and bits (2 ^ place) == 0)) 1 0 ≡ bit_at bits place
+bit_of_test bits place = ap (λ v. cond (not (v == 0)) 1 0) (and_pow bits place) ∙ bit_told (bit_at bits place) (2 ^ place) (bit_at-lt bits place) (pow_nonzero place)
+
+-- sets of the same types have the same bits
+same_bit_of : (one other : KindSet) (kind : Kind) → kinds_of one ≡ kinds_of other → bit_at one.bits (place_of kind) ≡ bit_at other.bits (place_of kind)
+same_bit_of one other kind same =
+    sym (bit_of_test one.bits (place_of kind)) ∙ ap (λ t. cond t 1 0) (sym (has_kind-kinds_of one kind) ∙ ap (λ kinds. has_kind kinds kind) same ∙ has_kind-kinds_of other kind)
+    ∙ bit_of_test other.bits (place_of kind)
+
+kind_at : (place : ℕ) → place < 15 → (kind : Kind) × (place_of kind ≡ place)
+kind_at zero small = (MainFrame, refl)
+kind_at (suc zero) small = (SubFrame, refl)
+kind_at (suc (suc zero)) small = (Stylesheet, refl)
+kind_at (suc (suc (suc zero))) small = (Script, refl)
+kind_at (suc (suc (suc (suc zero)))) small = (Image, refl)
+kind_at (suc (suc (suc (suc (suc zero))))) small = (Font, refl)
+kind_at (suc (suc (suc (suc (suc (suc zero)))))) small = (Object, refl)
+kind_at (suc (suc (suc (suc (suc (suc (suc zero))))))) small = (XmlHttpRequest, refl)
+kind_at (suc (suc (suc (suc (suc (suc (suc (suc zero)))))))) small = (Ping, refl)
+kind_at (suc (suc (suc (suc (suc (suc (suc (suc (suc zero))))))))) small = (CspReport, refl)
+kind_at (suc (suc (suc (suc (suc (suc (suc (suc (suc (suc zero)))))))))) small = (Media, refl)
+kind_at (suc (suc (suc (suc (suc (suc (suc (suc (suc (suc (suc zero))))))))))) small = (WebSocket, refl)
+kind_at (suc (suc (suc (suc (suc (suc (suc (suc (suc (suc (suc (suc zero)))))))))))) small = (WebTransport, refl)
+kind_at (suc (suc (suc (suc (suc (suc (suc (suc (suc (suc (suc (suc (suc zero))))))))))))) small = (WebBundle, refl)
+kind_at (suc (suc (suc (suc (suc (suc (suc (suc (suc (suc (suc (suc (suc (suc zero)))))))))))))) small = (Other, refl)
+kind_at (suc (suc (suc (suc (suc (suc (suc (suc (suc (suc (suc (suc (suc (suc (suc place))))))))))))))) small = absurd (omega (arith, small))
+
+same_bits : (one other : KindSet) → kinds_of one ≡ kinds_of other → one.bits ≡ other.bits
+same_bits one other same =
+    same_from_bits_below 15 one.bits other.bits one.types_alone other.types_alone (λ place small.
+    let at = kind_at place small in
+    subst (λ i. bit_at one.bits i ≡ bit_at other.bits i) at.1 (same_bit_of one other at.0 same))
+
+abbrev the_set : (bits : ℕ) → bits < 2 ^ 15 → KindSet
+the_set bits alone = record { bits = bits; types_alone = alone }
+
+same_fields : (a b : ℕ) (p : a < 2 ^ 15) (q : b < 2 ^ 15) → a ≡ b → the_set a p ≡ the_set b q
+same_fields a b p q same = subst (λ c. (r : c < 2 ^ 15) → the_set a p ≡ the_set c r) same (λ r. ap (the_set a) (le_prop p r)) q
+
+pub same_set : (one other : KindSet) → kinds_of one ≡ kinds_of other → one ≡ other
+same_set one other same = same_fields one.bits other.bits one.types_alone other.types_alone (same_bits one other same)

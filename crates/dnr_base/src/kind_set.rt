@@ -61,6 +61,12 @@ impl KindSet {
     {
         self.bits &= !bit(kind);
     }
+
+    /// Sets of the same types are equal. This is a law of all sets, and the function does nothing.
+    #[tactic(auto, using(crate::proofs::KindSets::same_set))]
+    pub fn same_types_are_one_set()
+        ensures { (one other : KindSet) → kinds_of one ≡ kinds_of other → one ≡ other }
+    {}
 }
 
 // The bit of a type: the first type has the lowest.
