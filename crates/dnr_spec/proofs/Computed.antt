@@ -84,7 +84,7 @@ pub separator_fits_the_end : SeparatorFitsTheEnd
 separator_fits_the_end = (refl, refl, refl, refl)
 
 pub domain_anchor_stays_in_the_host : DomainAnchorStaysInTheHost
-domain_anchor_stays_in_the_host = (refl, refl, refl, refl, refl)
+domain_anchor_stays_in_the_host = (refl, refl, refl, refl, refl, refl, refl)
 
 pub anchors_alone : AnchorsAlone
 anchors_alone = (refl, refl, refl, refl, refl)

@@ -90,16 +90,18 @@ abbrev pub some_below : (ℕ → Bool) → ℕ → Bool
 some_below test zero = false
 some_below test (suc n) = test n || some_below test n
 
--- the host begins at this place, or a `.` of the host stands before it
-abbrev pub begins_domain : List ℕ → Span → ℕ → Bool
-begins_domain text host place = place == host.start || (nat_lt host.start place && slice_index text (place - 1) == 46)
+-- a `.` of the host stands before this place
+abbrev pub follows_dot : List ℕ → Span → ℕ → Bool
+follows_dot text host place = nat_lt host.start place && slice_index text (place - 1) == 46
 
--- the filter fits the text, in which the host stands there, from a place at which its anchor lets it begin
+-- the filter fits the text, in which the host stands there, from a place at which its anchor lets it begin: with
+-- `||` from the host's start, even of an empty host, or from a place inside the host that follows a dot of it
 abbrev pub fits_from : Anchor → Bool → Bool → List ℕ → List ℕ → Span → Bool
 fits_from anywhere ends fold body text host = some_end (fits_at ends fold body) text
 fits_from begin ends fold body text host = fits_at ends fold body text
 fits_from domain ends fold body text host =
-    some_below (λ place. begins_domain text host place && fits_at ends fold body (drop place text)) host.end
+    fits_at ends fold body (drop host.start text)
+    || some_below (λ place. follows_dot text host place && fits_at ends fold body (drop place text)) host.end
 
 -- the filter of the pattern fits the text; `fold` where the case of letters does not matter
 abbrev pub fits : List ℕ → List ℕ → Span → Bool → Bool

@@ -117,7 +117,7 @@ pub fn separator_fits_the_end()
     ensures { SeparatorFitsTheEnd }
 {}
 
-/// `||` fits at the host and behind each of its dots, and nowhere else.
+/// `||` fits at the host, even an empty one, and behind each of its dots, and nowhere else.
 #[tactic(auto, using(crate::proofs::Computed::domain_anchor_stays_in_the_host))]
 pub fn domain_anchor_stays_in_the_host()
     ensures { DomainAnchorStaysInTheHost }

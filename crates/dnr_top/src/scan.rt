@@ -76,7 +76,8 @@ fn deciding_rule<'a>(rules: &'a [Rule], request: &Request) -> Option<&'a Rule>
 
 // The best so far and one rule more.
 fn stronger<'a>(best: Option<&'a Rule>, rule: &'a Rule, part: &Part) -> Option<&'a Rule>
-    requires { part.now.host.end ≤ length part.now.text.now }
+    requires ordered { part.now.host.start ≤ part.now.host.end }
+    requires within { part.now.host.end ≤ length part.now.text.now }
     ensures { best_of result ≡ stronger_of (best_of best.entry) (live_seen rule.now) (is_held (rule_seen rule.now) part.now) }
 {
     match best {
@@ -101,14 +102,16 @@ fn beats(rule: &Rule, other: &Rule) -> bool
 
 // Whether the rule's condition holds.
 fn holds(rule: &Rule, part: &Part) -> bool
-    requires { part.now.host.end ≤ length part.now.text.now }
+    requires ordered { part.now.host.start ≤ part.now.host.end }
+    requires within { part.now.host.end ≤ length part.now.text.now }
     ensures { result ≡ is_held (rule_seen rule.now) part.now }
 {
     rule.condition.kinds.contains(part.kind) && fits_url(&rule.condition.url_filter, part)
 }
 
 fn fits_url(url_filter: &Option<Pattern>, part: &Part) -> bool
-    requires { part.now.host.end ≤ length part.now.text.now }
+    requires ordered { part.now.host.start ≤ part.now.host.end }
+    requires within { part.now.host.end ≤ length part.now.text.now }
     ensures { result ≡ fits_text url_filter.now part.now }
 {
     match url_filter {

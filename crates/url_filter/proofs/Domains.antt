@@ -1,10 +1,9 @@
 -- The first place of a host at which the piece before the first star fits decides for all of them.
 use Rattle.std.proofs.Common.{◌≡◌, ◌≢◌, ◌<◌, ◌≤◌, ◌+◌, ◌-◌, ℕ, zero, suc, List, drop, take, length, Bool, true, false, ◌||◌, ◌&&◌, ◌==◌, nat_lt, get_or, refl, sym, ap, ◌∙◌, subst, ⊎_elim, arith, add-one, ne_eqb, eq-eqb}
-use Rattle.std.proofs.lemmas.Bool.{cases_Bool, cases_lt, and_parts, lt-ltb, true≢false}
+use Rattle.std.proofs.lemmas.Bool.{cases_Bool, cases_lt, lt-ltb, le-ltb, true≢false}
 use Rattle.std.proofs.lemmas.List.{drop-drop, length-drop, take_all}
-use Rattle.dnr_spec.specs.UrlFilter.{fits_at, some_end, some_below, begins_domain}
+use Rattle.dnr_spec.specs.UrlFilter.{domain, fits_at, fits_from, some_end, some_below, follows_dot}
 use Rattle.dnr_spec.specs.declared.span.Span.{Span}
-use Rattle.url_filter.specs.Labels.{IsNextLabel}
 use Rattle.url_filter.specs.Stops.{StopsAtStar}
 use Rattle.url_filter.specs.Told.{WalkTells, Tells}
 use Rattle.url_filter.specs.declared.walks.Stop.{Stop}
@@ -51,54 +50,82 @@ later_place q text n place k le h =
     rw (drop-drop n place text, drop-drop (k - place) (place + n) text, further, ← drop-drop n k text) h
     )
 
--- the filter fits from this place of the host
-abbrev tried : Bool → Bool → List ℕ → List ℕ → Span → ℕ → Bool
-tried ends fold p text host place = begins_domain text host place && fits_at ends fold p (drop place text)
-
-fails_later : (ends fold : Bool) (p text after rest : List ℕ) (host : Span) (place k : ℕ) → place ≤ k → StopsAtStar ends fold p (drop place text) after rest → some_end (fits_at ends fold after) rest ≡ false → tried ends fold p text host k ≡ false
-fails_later ends fold p text after rest host place k le s nowhere =
+piece_fails : (ends fold : Bool) (p text after rest : List ℕ) (place k : ℕ) → place ≤ k → StopsAtStar ends fold p (drop place text) after rest → some_end (fits_at ends fold after) rest ≡ false → fits_at ends fold p (drop k text) ≡ false
+piece_fails ends fold p text after rest place k le s nowhere =
     ⊎_elim
     (λ yes. absurd (true≢false (sym (
     subst (λ (l : List ℕ). some_end (fits_at ends fold l) rest ≡ true) (sym (s.behind ∙ ap (λ i. drop i p) (add-one s.place)))
     (subst (λ (l : List ℕ). some_end (fits_at ends fold (drop (suc s.place) p)) l ≡ true) (sym s.left)
     (later_place (fits_at ends fold (drop (suc s.place) p)) text s.place place k le
-    (piece_fits ends fold s.place p (drop k text) s.plain s.star (and_parts (begins_domain text host k) _ yes).1)))
+    (piece_fits ends fold s.place p (drop k text) s.plain s.star yes)))
     ) ∙ nowhere)))
     (λ none. none)
-    (cases_Bool (tried ends fold p text host k))
+    (cases_Bool (fits_at ends fold p (drop k text)))
 
--- the places up to the next one that follows a dot
-pub fails_more : (ends fold : Bool) (p text : List ℕ) (host : Span) (place next : ℕ) → host.start ≤ place → ((k : ℕ) → k < place → k < host.end → tried ends fold p text host k ≡ false) → fits_at ends fold p (drop place text) ≡ false → IsNextLabel text place host.end next → (k : ℕ) → k < next → k < host.end → tried ends fold p text host k ≡ false
-fails_more ends fold p text host place next start none failed label k less within =
+-- ---- the places of the host
+
+-- the filter fits from this place, which follows a dot of the host
+abbrev tried : Bool → Bool → List ℕ → List ℕ → Span → ℕ → Bool
+tried ends fold p text host place = follows_dot text host place && fits_at ends fold p (drop place text)
+
+-- no dot of the host stands before its start
+pub fails_before : (ends fold : Bool) (p text : List ℕ) (host : Span) (k : ℕ) → k ≤ host.start → tried ends fold p text host k ≡ false
+fails_before ends fold p text host k le =
+    and_left (follows_dot text host k) _ (and_left (nat_lt host.start k) (get_or text (k - 1) 0 == 46) (le-ltb host.start k le))
+
+pub fails_behind : (ends fold : Bool) (p text : List ℕ) (host : Span) (k : ℕ) → get_or text (k - 1) 0 ≢ 46 → tried ends fold p text host k ≡ false
+fails_behind ends fold p text host k other =
+    and_left (follows_dot text host k) _ (and_right (nat_lt host.start k) (get_or text (k - 1) 0 == 46) (ne_eqb (get_or text (k - 1) 0) 46 other))
+
+pub fails_here : (ends fold : Bool) (p text : List ℕ) (host : Span) (k : ℕ) → fits_at ends fold p (drop k text) ≡ false → tried ends fold p text host k ≡ false
+fails_here ends fold p text host k failed = and_right (follows_dot text host k) _ failed
+
+-- ---- a walk from the host's start
+
+start_star : (ends fold : Bool) (p text after rest : List ℕ) (host : Span) → StopsAtStar ends fold p (drop host.start text) after rest → fits_from domain ends fold p text host ≡ some_end (fits_at ends fold after) rest
+start_star ends fold p text after rest host s =
     ⊎_elim
-    (λ earlier. none k earlier within)
-    (λ later. ⊎_elim
-    (λ behind. and_left (begins_domain text host k) (fits_at ends fold p (drop k text)) (
-    or_false (k == host.start) (nat_lt host.start k && get_or text (k - 1) 0 == 46) (let other : k ≢ host.start = omega arith in ne_eqb k host.start other)
-    (and_right (nat_lt host.start k) (get_or text (k - 1) 0 == 46) (ne_eqb (get_or text (k - 1) 0) 46 (label.first k behind less)))
-    ))
-    (λ at. let same : place ≡ k = omega arith in and_right (begins_domain text host k) _ (subst (λ (i : ℕ). fits_at ends fold p (drop i text) ≡ false) same failed))
-    (cases_lt place k))
-    (cases_lt k place)
-
-pub begins_more : (text : List ℕ) (host : Span) (place next : ℕ) → host.start ≤ place → IsNextLabel text place host.end next → next < host.end → begins_domain text host next ≡ true
-begins_more text host place next start label less =
-    let after : host.start < next = omega (arith, label.later) in
-    or_right (next == host.start) (nat_lt host.start next && get_or text (next - 1) 0 == 46) (
-    and_true (nat_lt host.start next) (get_or text (next - 1) 0 == 46) (lt-ltb host.start next after) (eq-eqb (get_or text (next - 1) 0) 46 (label.follows less))
-    )
-
-domain_star : (ends fold : Bool) (p text after rest : List ℕ) (host : Span) (place : ℕ) → ((k : ℕ) → k < place → k < host.end → tried ends fold p text host k ≡ false) → begins_domain text host place ≡ true → place < host.end → StopsAtStar ends fold p (drop place text) after rest → some_below (tried ends fold p text host) host.end ≡ some_end (fits_at ends fold after) rest
-domain_star ends fold p text after rest host place none begins lt s =
-    ⊎_elim
-    (λ yes. found_below (tried ends fold p text host) host.end place lt (and_true (begins_domain text host place) _ begins (s.same ∙ yes)) ∙ sym yes)
-    (λ no. none_below (tried ends fold p text host) host.end (λ k less. ⊎_elim
-    (λ earlier. none k earlier less)
-    (λ later. fails_later ends fold p text after rest host place k later s no)
-    (cases_lt k place)) ∙ sym no)
+    (λ yes. or_left (fits_at ends fold p (drop host.start text)) _ (s.same ∙ yes) ∙ sym yes)
+    (λ no. or_false (fits_at ends fold p (drop host.start text)) _ (s.same ∙ no) (none_below (tried ends fold p text host) host.end (λ k less. ⊎_elim
+    (λ earlier. fails_before ends fold p text host k (omega arith))
+    (λ later. fails_here ends fold p text host k (piece_fails ends fold p text after rest host.start k later s no))
+    (cases_lt k host.start))) ∙ sym no)
     (cases_Bool (some_end (fits_at ends fold after) rest))
 
-pub domain_tells : (ends fold : Bool) (p text : List ℕ) (host : Span) (place : ℕ) (s : Stop) → ((k : ℕ) → k < place → k < host.end → tried ends fold p text host k ≡ false) → begins_domain text host place ≡ true → place < host.end → WalkTells ends fold p (drop place text) s → s ≢ Fails → Tells ends fold (some_below (tried ends fold p text host) host.end) s
-domain_tells ends fold p text host place (Star after rest) none begins lt w other = domain_star ends fold p text after.now rest.now host place none begins lt w
-domain_tells ends fold p text host place Fits none begins lt w other = found_below (tried ends fold p text host) host.end place lt (and_true (begins_domain text host place) _ begins w)
-domain_tells ends fold p text host place Fails none begins lt w other = absurd (other refl)
+pub start_tells : (ends fold : Bool) (p text : List ℕ) (host : Span) (s : Stop) → WalkTells ends fold p (drop host.start text) s → s ≢ Fails → Tells ends fold (fits_from domain ends fold p text host) s
+start_tells ends fold p text host (Star after rest) w other = start_star ends fold p text after.now rest.now host w
+start_tells ends fold p text host Fits w other = or_left (fits_at ends fold p (drop host.start text)) _ w
+start_tells ends fold p text host Fails w other = absurd (other refl)
+
+-- ---- a walk from a place that follows a dot
+
+-- the walks fail from the host's start and from the places before this one, which follows a dot of the host
+pub record IsNext (ends fold : Bool) (p text : List ℕ) (host : Span) (place : ℕ) : Type 0 where
+  pub start : fits_at ends fold p (drop host.start text) ≡ false
+  pub none : (k : ℕ) → k < place → tried ends fold p text host k ≡ false
+  pub after : host.start < place
+  pub within : place < host.end
+  pub dot : get_or text (place - 1) 0 ≡ 46
+
+found_here : (ends fold : Bool) (p text : List ℕ) (host : Span) (place : ℕ) → IsNext ends fold p text host place → fits_at ends fold p (drop place text) ≡ true → fits_from domain ends fold p text host ≡ true
+found_here ends fold p text host place next fits =
+    or_right (fits_at ends fold p (drop host.start text)) _ (
+    found_below (tried ends fold p text host) host.end place next.within (
+    and_true (follows_dot text host place) _
+    (and_true (nat_lt host.start place) (get_or text (place - 1) 0 == 46) (lt-ltb host.start place next.after) (eq-eqb (get_or text (place - 1) 0) 46 next.dot))
+    fits))
+
+label_star : (ends fold : Bool) (p text after rest : List ℕ) (host : Span) (place : ℕ) → IsNext ends fold p text host place → StopsAtStar ends fold p (drop place text) after rest → fits_from domain ends fold p text host ≡ some_end (fits_at ends fold after) rest
+label_star ends fold p text after rest host place next s =
+    ⊎_elim
+    (λ yes. found_here ends fold p text host place next (s.same ∙ yes) ∙ sym yes)
+    (λ no. or_false (fits_at ends fold p (drop host.start text)) _ next.start (none_below (tried ends fold p text host) host.end (λ k less. ⊎_elim
+    (λ earlier. next.none k earlier)
+    (λ later. fails_here ends fold p text host k (piece_fails ends fold p text after rest place k later s no))
+    (cases_lt k place))) ∙ sym no)
+    (cases_Bool (some_end (fits_at ends fold after) rest))
+
+pub label_tells : (ends fold : Bool) (p text : List ℕ) (host : Span) (place : ℕ) (s : Stop) → IsNext ends fold p text host place → WalkTells ends fold p (drop place text) s → s ≢ Fails → Tells ends fold (fits_from domain ends fold p text host) s
+label_tells ends fold p text host place (Star after rest) next w other = label_star ends fold p text after.now rest.now host place next w
+label_tells ends fold p text host place Fits next w other = found_here ends fold p text host place next w
+label_tells ends fold p text host place Fails next w other = absurd (other refl)

@@ -1,5 +1,4 @@
 pub mod Anchor
-pub mod Labels
 pub mod Read
 pub mod Refused
 pub mod Sought

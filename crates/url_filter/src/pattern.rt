@@ -129,7 +129,8 @@ impl Pattern {
 
     // Walks the filter's first piece, from where the anchor lets it begin.
     fn begun<'a>(&'a self, text: &'a [u8], host: Span, fold: bool) -> Stop<'a>
-        requires { host.end ≤ length text.now }
+        requires ordered { host.start ≤ host.end }
+        requires within { host.end ≤ length text.now }
         ensures { Tells (filter_of self.now).ends fold (fits self.now text.now host fold) result }
     {
         let (ends, body) = (self.ends(), self.body());
@@ -146,7 +147,8 @@ impl Pattern {
     /// It takes no memory. At worst it takes about as many steps as the text's length times the
     /// filter's, and for most filters no more than the text's length.
     pub fn matches(&self, text: &str, host: Span, fold: bool) -> bool
-        requires { host.end ≤ length text.now }
+        requires ordered { host.start ≤ host.end }
+        requires within { host.end ≤ length text.now }
         ensures { result ≡ fits self.now text.now host fold }
     {
         match self.begun(text.as_bytes(), host, fold) {

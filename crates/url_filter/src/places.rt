@@ -1,6 +1,5 @@
-ghost use Rattle.std.specs.Prelude.{◌≡◌, ◌<◌, ◌≤◌, IfSome, length};
+ghost use Rattle.std.specs.Prelude.{◌≡◌, ◌≤◌, IfSome, length};
 ghost use Rattle.dnr_spec.specs.UrlFilter.{domain, fits_at, fits_from, some_end};
-ghost use Rattle.url_filter.specs.Labels.{IsNextLabel};
 ghost use Rattle.url_filter.specs.Sought.{IsSought};
 ghost use Rattle.url_filter.specs.Told.{IsShorter, Tells, WalkTells};
 
@@ -80,21 +79,8 @@ pub fn place_behind_star(ends: bool, fold: bool, pattern: &[u8], text: &[u8]) ->
     }
 }
 
-// The first place behind this one that follows a dot, or the end where none does before it.
-fn next_label(text: &[u8], place: usize, end: usize) -> usize
-    requires inside { place < end }
-    requires within { end ≤ length text.now }
-    ensures { IsNextLabel text.now place end result }
-{
-    for next in place + 1..end {
-        if text[next - 1] == b'.' {
-            return next;
-        }
-    }
-    end
-}
-
-/// Walks from the first place of the host on at which a domain begins and the walk does not fail.
+/// Walks from the host's start and, as long as that fails, from each later place of the host that follows a
+/// dot of it.
 pub fn place_in_domain<'a>(
     ends: bool,
     fold: bool,
@@ -103,17 +89,22 @@ pub fn place_in_domain<'a>(
     text: &'a [u8],
     host: Span,
 ) -> Stop<'a>
+    requires ordered { host.start ≤ host.end }
     requires within { host.end ≤ length text.now }
     requires sought { IfSome sought (IsSought pattern.now) }
     ensures { Tells ends fold (fits_from domain ends fold pattern.now text.now host) result }
 {
-    let mut place = host.start;
-    while place < host.end {
-        match guided_walk(ends, fold, pattern, sought, &text[place..]) {
-            Stop::Fails => {}
-            stop => return stop,
+    match guided_walk(ends, fold, pattern, sought, &text[host.start..]) {
+        Stop::Fails => {}
+        stop => return stop,
+    }
+    for place in host.start + 1..host.end {
+        if text[place - 1] == b'.' {
+            match guided_walk(ends, fold, pattern, sought, &text[place..]) {
+                Stop::Fails => {}
+                stop => return stop,
+            }
         }
-        place = next_label(text, place, host.end);
     }
     Stop::Fails
 }

@@ -6,9 +6,10 @@ use crate::{Pattern, PatternRefusal, Span};
 use std::alloc::{AllocError, Global};
 use std::test::Fail;
 
-// The place of the host in a text in which it stands once.
+// The place of the host in a text in which it stands once; an empty host stands at the beginning.
 fn place_of(host: &str, text: &str) -> Span
-    ensures { result.end ≤ length text.now }
+    ensures ordered { result.start ≤ result.end }
+    ensures within { result.end ≤ length text.now }
 {
     let after = match text.split_once(host) {
         Some((_, after)) => after.len(),
@@ -95,6 +96,20 @@ fn filters_fit_where_they_say(rt: HostRuntime) {
     ];
     for (filter, text, host, want) in rows {
         let got = fits(rt.alloc(), filter, text, host, false);
+        assert_eq!(rt; got, Some(want), "{filter} on {text}");
+    }
+}
+
+#[test]
+fn a_domain_begins_at_an_empty_host(rt: HostRuntime) {
+    let rows = [
+        ("||x", "x", true),
+        ("||", "x", true),
+        ("||x", "ax", false),
+        ("||x", ".x", false),
+    ];
+    for (filter, text, want) in rows {
+        let got = fits(rt.alloc(), filter, text, "", false);
         assert_eq!(rt; got, Some(want), "{filter} on {text}");
     }
 }
@@ -216,8 +231,8 @@ fn plain_fits(filter: &str, text: &str, host: Span, fold: bool) -> bool {
             0 => true,
             1 => place == 0,
             _ => {
-                let dotted = host.start < place && text[place - 1] == b'.';
-                place < host.end && (place == host.start || dotted)
+                let inside = host.start < place && place < host.end;
+                place == host.start || (inside && text[place - 1] == b'.')
             }
         };
         if begins && plain_at(ends, fold, body, &text[place..]) {
@@ -265,10 +280,12 @@ fn the_search_agrees_with_the_definition(rt: HostRuntime) -> Result<(), Fail> {
             drawn_text(alloc, &mut seed, 12)?,
         );
         let fold = drawn(&mut seed, 2) == 1;
-        let host = Span {
-            start: text.len() / 3,
-            end: text.len() - text.len() / 4,
+        let start = text.len() / 3;
+        let end = match drawn(&mut seed, 4) {
+            0 => start,
+            _ => text.len() - text.len() / 4,
         };
+        let host = Span { start, end };
         let Ok(pattern) = Pattern::read(alloc, filter.as_str()) else {
             continue;
         };

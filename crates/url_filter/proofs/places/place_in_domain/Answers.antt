@@ -1,24 +1,38 @@
-use Rattle.std.proofs.Common.{arith, ◌≡◌, ℕ, List, drop, false, subst}
-use Rattle.dnr_spec.specs.UrlFilter.{fits_at}
-use Rattle.url_filter.specs.Told.{WalkTells}
-use Rattle.url_filter.proofs.Domains.{begins_more, domain_tells, fails_more, none_below, tail_slice}
+use Rattle.std.proofs.Common.{arith, below_more}
+use Rattle.url_filter.proofs.Domains.{fails_before, fails_behind, fails_here, label_tells, none_below, start_tells, tail_slice}
+use Rattle.url_filter.proofs.Pieces.{or_false}
 use Rattle.url_filter.proofs.places.place_in_domain.Goals as goal
+use Rattle.url_filter.proofs.places.place_in_domain.Goals.{then-text-place-eq46+in-Fails-guided_walk, else-text-place-eq46}
 
 pub returns-in_default : goal.returns-in_default
 returns-in_default c =
-    let told : WalkTells c.args.ends c.args.fold c.args.pattern.now (drop c.loop-place.place c.args.text.now) c.guided_walk.result =
-    subst (λ (t : List ℕ). WalkTells c.args.ends c.args.fold c.args.pattern.now t c.guided_walk.result) (tail_slice c.args.text.now c.loop-place.place) c.guided_walk.ensures in
-    domain_tells c.args.ends c.args.fold c.args.pattern.now c.args.text.now c.args.host c.loop-place.place c.guided_walk.result c.loop-place.invariant.none (c.loop-place.invariant.begins c.loop-place-test.true) c.loop-place-test.true told c.in_default.not-Fails
+    start_tells c.args.ends c.args.fold c.args.pattern.now c.args.text.now c.args.host c.guided_walk.result
+    (rw tail_slice at c.guided_walk.ensures) c.in_default.not-Fails
+
+pub loop-place-init : goal.loop-place-init
+loop-place-init c k less = fails_before c.args.ends c.args.fold c.args.pattern.now c.args.text.now c.args.host k (omega arith)
+
+pub returns-in_default-guided_walk : goal.returns-in_default-guided_walk
+returns-in_default-guided_walk c =
+    let told = rw tail_slice at c.guided_walk-then-text-place-eq46.ensures in
+    label_tells c.args.ends c.args.fold c.args.pattern.now c.args.text.now c.args.host c.loop-place.place c.guided_walk-then-text-place-eq46.result
+    (record {
+      start = rw tail_slice at c.in-Fails.ensures;
+      none = c.loop-place.invariant;
+      after = omega arith;
+      within = c.loop-place-test.true;
+      dot = c.if-text-place-eq46.true;
+    })
+    told c.in_default-guided_walk.not-Fails
 
 pub loop-place-preserved : goal.loop-place-preserved
 loop-place-preserved c =
-    let failed : fits_at c.args.ends c.args.fold c.args.pattern.now (drop c.loop-place.place c.args.text.now) ≡ false =
-    subst (λ (t : List ℕ). fits_at c.args.ends c.args.fold c.args.pattern.now t ≡ false) (tail_slice c.args.text.now c.loop-place.place) c.in-Fails.ensures in
-    record {
-      start = omega (arith, c.next_label-place.ensures.later);
-      none = fails_more c.args.ends c.args.fold c.args.pattern.now c.args.text.now c.args.host c.loop-place.place c.next_label-place.result c.loop-place.invariant.start c.loop-place.invariant.none failed c.next_label-place.ensures;
-      begins = begins_more c.args.text.now c.args.host c.loop-place.place c.next_label-place.result c.loop-place.invariant.start c.next_label-place.ensures;
-    }
+    below_more _ _ c.loop-place.invariant (elim c.if-text-place-eq46.branch [
+      | then-text-place-eq46+in-Fails-guided_walk w ↦
+          fails_here c.args.ends c.args.fold c.args.pattern.now c.args.text.now c.args.host c.loop-place.place (rw tail_slice at w.in-Fails-guided_walk.ensures)
+      | else-text-place-eq46 w ↦ fails_behind c.args.ends c.args.fold c.args.pattern.now c.args.text.now c.args.host c.loop-place.place w.if-text-place-eq46.false
+    ])
 
 pub returns : goal.returns
-returns c = none_below _ c.args.host.end (λ k lt. c.loop-place.invariant.none k (omega arith) lt)
+returns c =
+    or_false _ _ (rw tail_slice at c.in-Fails.ensures) (none_below _ c.args.host.end (λ k less. c.loop-place.invariant k (omega arith)))
