@@ -9,6 +9,8 @@ mod request_line;
 mod rule;
 mod rule_file;
 mod scan;
+#[cfg(test)]
+mod tests;
 mod tree;
 mod url_view;
 mod words;
