@@ -116,4 +116,4 @@ two_files_are_served = record {
 }
 
 pub usage_is_for_bad_words : UsageIsForBadWords
-usage_is_for_bad_words = ((refl, refl), (λ written h. h), λ written h. absurd (omega (arith, h)))
+usage_is_for_bad_words = ((refl, refl), (λ written h. h), λ written h. absurd (omega (arith, h.0)))

@@ -83,22 +83,31 @@ pub record HasLongLine (files : Files) (task : Task) : Type 0 where
   pub held : files task.script ≡ Some script
   pub beyond : is_within_limits script ≡ false
 
+-- some first bytes of what Done or Refused would write
+pub record IsBeginning (files : Files) (task : Task) (written : List ℕ) : Type 0 where
+  pub rest : List ℕ
+  pub whole : IsServed files task (written ++ rest) ⊎ IsRefused files task (written ++ rest)
+
+-- where a run that can't go on may stop: before its output, or within it
+abbrev pub MayStopAt : Files → Task → List ℕ → Type 0
+MayStopAt files task written = (written ≡ []) ⊎ IsBeginning files task written
+
 -- what a status says of a task, where the faults of the shelf and of the sink were counted so
 abbrev pub Ends : Files → Task → Count → Count → List ℕ → Status → Type 0
 Ends files task shelf sink written status.Done = IsServed files task written
 Ends files task shelf sink written status.Refused = IsRefused files task written
 Ends files task shelf sink written status.Usage = ⊥
-Ends files task shelf sink written status.ReadFault = Rose shelf.before shelf.now
-Ends files task shelf sink written status.WriteFault = Rose sink.before sink.now
-Ends files task shelf sink written status.NoMemory = Unit {0}
-Ends files task shelf sink written status.FileTooLong = IsTooLong files task.rules ⊎ HasLongLine files task
+Ends files task shelf sink written status.ReadFault = Rose shelf.before shelf.now × MayStopAt files task written
+Ends files task shelf sink written status.WriteFault = Rose sink.before sink.now × MayStopAt files task written
+Ends files task shelf sink written status.NoMemory = MayStopAt files task written
+Ends files task shelf sink written status.FileTooLong = (IsTooLong files task.rules ⊎ HasLongLine files task) × (written ≡ [])
 
 -- words that say no command end with Usage alone, and write nothing
 abbrev pub EndsFor : Files → Count → Count → Option Task → Status → List ℕ → Type 0
 EndsFor files shelf sink None ended written = (ended ≡ status.Usage) × (written ≡ [])
 EndsFor files shelf sink (Some task) ended written = Ends files task shelf sink written ended
 
--- This status and these bytes are allowed for these words, files and faults. What stands written is said for
--- Done, Refused and Usage; a run that ends otherwise may stop anywhere.
+-- This status and these bytes are allowed for these words, files and faults. Done and Refused say what was
+-- written to the last byte; of a run that can't go on it is a beginning of that.
 abbrev pub Out : List (List ℕ) → Files → Count → Count → Status → List ℕ → Type 0
 Out words files shelf sink ended written = EndsFor files shelf sink (task_of words) ended written

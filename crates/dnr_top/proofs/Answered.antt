@@ -1,12 +1,12 @@
 -- What was written along the lines of a script.
-use Rattle.std.proofs.Common.{◌≡◌, ℕ, ◌+◌, ◌<◌, List, [], ◌∷◌, ◌++◌, Option, Some, None, Vec, drop, length, ◌≤◌, subst, get_or, refl, sym, ap, ◌∙◌, append_assoc, append-nil}
+use Rattle.std.proofs.Common.{◌≡◌, ℕ, ◌+◌, ◌<◌, List, [], ◌∷◌, ◌++◌, Option, Some, None, Result, Ok, Err, OnErr, Vec, drop, length, ◌≤◌, subst, get_or, refl, sym, ap, ◌∙◌, append_assoc, append-nil}
 use Rattle.std.specs.Io.KnownBytes.{Appends}
 use Rattle.std.specs.declared.alloc.Global.{Global}
 use Rattle.std.proofs.lemmas.List.{drop_more, drop_all}
 use Rattle.dnr_io.specs.Sink.{AppendsPart}
 use Rattle.dnr_spec.specs.State.{State}
 use Rattle.dnr_spec.specs.Out.{reply, replies}
-use Rattle.dnr_top.specs.Answers.{lines_seen, AppendsSome, WritesFront}
+use Rattle.dnr_top.specs.Answers.{lines_seen, WritesFront}
 
 appends_append : (a b c : Option (List ℕ)) (xs ys : List ℕ) → Appends a b xs → Appends b c ys → Appends a c (xs ++ ys)
 appends_append None b c xs ys p q = tt
@@ -54,8 +54,35 @@ all_written before middle now state lines next text ends so_far last =
     let all : replies state 1 (lines_seen lines) ≡ so_far.sent ++ text = so_far.same ∙ ap (λ l. (so_far.sent ++ text) ++ l) none ∙ append-nil (so_far.sent ++ text) in
     subst (Appends before now) (sym all) (appends_append before middle now so_far.sent text so_far.taken last)
 
-pub some_more : (before middle now : Option (List ℕ)) (sent : List ℕ) → Appends before middle sent → AppendsSome middle now → AppendsSome before now
-some_more before middle now sent taken more = record { written = sent ++ more.written; taken = appends_append before middle now sent more.written taken more.taken }
+pub on_err : {T E P : Type 0} (result : Result T E) → P → OnErr result P
+on_err (Ok x) p = tt
+on_err (Err e) p = p
 
-pub some_of_part : (before now : Option (List ℕ)) (bytes : List ℕ) → AppendsPart before now bytes → AppendsSome before now
-some_of_part before now bytes part = record { written = part.sent; taken = part.taken }
+-- the answers so far are kept, and none of them was written by the last call
+pub nothing_sent : (taken : Option (List ℕ)) (text : List ℕ) → AppendsPart taken taken text
+nothing_sent taken text = record { sent = []; rest = text; split = refl; taken = appends_nothing taken }
+
+-- a call was refused that was to write what is kept, so the answers were written in part
+pub written_in_part : (before middle now : Option (List ℕ)) (state : State) (lines : List (Vec ℕ Global)) (next : ℕ) (text : List ℕ)
+    → IsAnsweredSoFar before middle state lines next text → AppendsPart middle now text
+    → AppendsPart before now (replies state 1 (lines_seen lines))
+written_in_part before middle now state lines next text so_far part =
+    let after : List ℕ = replies state (next + 1) (lines_seen (drop next lines)) in
+    record {
+      sent = so_far.sent ++ part.sent;
+      rest = part.rest ++ after;
+      split = so_far.same ∙ ap (λ t. (so_far.sent ++ t) ++ after) part.split
+          ∙ ap (λ l. l ++ after) (sym (append_assoc so_far.sent part.sent part.rest))
+          ∙ append_assoc (so_far.sent ++ part.sent) part.rest after;
+      taken = appends_append before middle now so_far.sent part.sent so_far.taken part.taken;
+    }
+
+-- the same where the call was to write after one line more was answered
+pub written_in_part_after : (before middle now : Option (List ℕ)) (state : State) (lines : List (Vec ℕ Global)) (next : ℕ) (line : Vec ℕ Global) (text grown : List ℕ)
+    → next < length lines → line ≡ get_or lines next line → IsAnsweredSoFar before middle state lines next text
+    → grown ≡ text ++ reply state (next + 1) line.items → AppendsPart middle now grown
+    → AppendsPart before now (replies state 1 (lines_seen lines))
+written_in_part_after before middle now state lines next line text grown inside is so_far answered part =
+    let none : WritesFront middle middle grown grown = record { sent = []; split = refl; taken = appends_nothing middle } in
+    written_in_part before middle now state lines (next + 1) grown
+    (one_line_more before middle middle state lines next line text grown grown inside is so_far answered none) part

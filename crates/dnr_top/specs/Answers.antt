@@ -7,11 +7,6 @@ use Rattle.std.specs.declared.alloc.Global.{Global}
 abbrev pub lines_seen : List (Vec ℕ Global) → List (List ℕ)
 lines_seen lines = map (λ line. line.items) lines
 
--- some bytes were written, and none was taken back
-pub record AppendsSome (before now : Option (List ℕ)) : Type 0 where
-  pub written : List ℕ
-  pub taken : Appends before now written
-
 -- some first bytes of a text were written, and these are left
 pub record WritesFront (before now : Option (List ℕ)) (text left : List ℕ) : Type 0 where
   pub sent : List ℕ

@@ -1,13 +1,14 @@
 // The answers to the lines of a script.
-ghost use Rattle.std.specs.Prelude.{◌≡◌, ◌++◌, OnOk, option_map, string_bytes};
+ghost use Rattle.std.specs.Prelude.{◌≡◌, ◌++◌, OnOk, OnErr, option_map, string_bytes};
 ghost use Rattle.std.specs.Io.KnownBytes.{Appends};
 ghost use Rattle.dnr_io.specs.Faults.{HasCause, HasCauseOf};
+ghost use Rattle.dnr_io.specs.Sink.{AppendsPart};
 ghost use Rattle.dnr_spec.specs.Lines as lines;
 ghost use Rattle.dnr_spec.specs.Out.{opening, reply, reply_to, replies};
 ghost use Rattle.dnr_spec.specs.RuleFile.{HaveOwnIds};
 ghost use Rattle.dnr_base.specs.Request.{request_seen};
 ghost use Rattle.dnr_top.specs.Rule.{rules_seen};
-ghost use Rattle.dnr_top.specs.Answers.{lines_seen, AppendsSome, WritesFront};
+ghost use Rattle.dnr_top.specs.Answers.{lines_seen, WritesFront};
 ghost use Rattle.dnr_top.specs.declared.answers.WriteRefusal.TheVariants as refusal;
 
 use crate::output::{write_bad, write_verdict};
@@ -48,6 +49,8 @@ impl From<NoMemory> for WriteRefusal {
 }
 
 /// Answers the lines in order, and writes the answers in pieces of some kilobytes.
+///
+/// After a refusal, the sink has taken some first bytes of the answers.
 pub fn answer_lines<O: Sink>(
     alloc: Global,
     rules: &[Rule],
@@ -56,7 +59,7 @@ pub fn answer_lines<O: Sink>(
 ) -> Result<(), WriteRefusal>
     requires { HaveOwnIds (rules_seen rules.now) }
     ensures written { OnOk result (Appends (O.taken out.old) (O.taken out.new) (replies (opening (rules_seen rules.now)) 1 (lines_seen lines.now))) }
-    ensures part { AppendsSome (O.taken out.old) (O.taken out.new) }
+    ensures part { OnErr result (AppendsPart (O.taken out.old) (O.taken out.new) (replies (opening (rules_seen rules.now)) 1 (lines_seen lines.now))) }
     ensures cause { HasCauseOf WriteRefusal.Failed (O.faults out.old) (O.faults out.new) result }
 {
     let mut text = String::new(alloc);
@@ -71,7 +74,7 @@ pub fn answer_lines<O: Sink>(
 // Writes the text and empties it, where it is long enough for a piece.
 fn write_if_long<O: Sink>(out: &mut O, text: &mut String) -> Result<(), Failed>
     ensures front { OnOk result (WritesFront (O.taken out.old) (O.taken out.new) (string_bytes text.old) (string_bytes text.new)) }
-    ensures part { AppendsSome (O.taken out.old) (O.taken out.new) }
+    ensures part { OnErr result (AppendsPart (O.taken out.old) (O.taken out.new) (string_bytes text.old)) }
     ensures cause { HasCause (O.faults out.old) (O.faults out.new) result }
 {
     if text.len() < PIECE {

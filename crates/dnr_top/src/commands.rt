@@ -2,11 +2,11 @@
 ghost use Rattle.std.specs.Prelude.{◌≡◌, ◌≢◌, ◌↔◌, ℕ, List, [], None, map, IfSome, OnOk, OnErr, string_bytes};
 ghost use Rattle.std.specs.Io.KnownBytes.{Appends};
 ghost use Rattle.dnr_io.specs.Faults.{Rose, HasCauseOf};
+ghost use Rattle.dnr_io.specs.Sink.{AppendsPart};
 ghost use Rattle.dnr_spec.specs.declared.status.Status.TheVariants as status;
 ghost use Rattle.dnr_spec.specs.Out.{Out, Ends};
 ghost use Rattle.dnr_spec.specs.Output.{refusal_line};
 ghost use Rattle.dnr_spec.specs.Words.{task_of};
-ghost use Rattle.dnr_top.specs.Answers.{AppendsSome};
 ghost use Rattle.dnr_top.specs.RuleFile.{refusal_seen};
 ghost use Rattle.dnr_top.specs.Run.{IsRun, IsRefusalStatus};
 ghost use Rattle.dnr_top.specs.Words.{task_seen};
@@ -79,9 +79,10 @@ fn match_requests<F: Shelf, O: Sink>(
 }
 
 // Writes why a rules file is refused.
+#[tactic(auto, using(crate::proofs::Ended::whole_in_part))]
 fn refuse<O: Sink>(alloc: Global, name: &str, refusal: &FileRefusal, out: &mut O) -> Status
     ensures written { result ≡ Status.Refused → Appends (O.taken out.old) (O.taken out.new) (refusal_line name.now (refusal_seen refusal.now)) }
-    ensures part { AppendsSome (O.taken out.old) (O.taken out.new) }
+    ensures part { AppendsPart (O.taken out.old) (O.taken out.new) (refusal_line name.now (refusal_seen refusal.now)) }
     ensures only { IsRefusalStatus result }
     ensures write_fault { result ≡ Status.WriteFault → Rose (O.faults out.old) (O.faults out.new) }
 {
