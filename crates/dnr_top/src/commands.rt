@@ -24,6 +24,9 @@ use std::alloc::Global;
 ///
 /// `match RULES REQUESTS` reads the rules of the file RULES, and answers each request line of the file
 /// REQUESTS.
+///
+/// With `Done` and `Refused` all of the output was written. A run that can't go on has written a beginning
+/// of it, and nothing where a file is too long.
 pub fn run<F: Shelf, O: Sink>(alloc: Global, words: &[String], shelf: &mut F, out: &mut O) -> Status
     ensures usage { (result ≡ Status.Usage) ↔ (task_of (map string_bytes words.now) ≡ None) }
     ensures silent { result ≡ Status.Usage → O.taken out.new ≡ O.taken out.old }
@@ -78,7 +81,7 @@ fn match_requests<F: Shelf, O: Sink>(
     }
 }
 
-// Writes why a rules file is refused.
+// Writes why a rules file is refused, and says how the run ends.
 #[tactic(auto, using(crate::proofs::Ended::whole_in_part))]
 fn refuse<O: Sink>(alloc: Global, name: &str, refusal: &FileRefusal, out: &mut O) -> Status
     ensures written { result ≡ Status.Refused → Appends (O.taken out.old) (O.taken out.new) (refusal_line name.now (refusal_seen refusal.now)) }

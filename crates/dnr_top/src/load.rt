@@ -55,7 +55,8 @@ impl From<RulesRefusal> for LoadRefusal {
     }
 }
 
-/// Reads the rules of a file.
+/// Reads the rules of a file. It is read whole before its form is looked at, so a file that is too long is
+/// told as such whatever it holds.
 pub fn load_rules<F: Shelf>(
     alloc: Global,
     name: &str,
@@ -72,7 +73,7 @@ pub fn load_rules<F: Shelf>(
     Ok(read_rules(alloc, &bytes)?)
 }
 
-/// Reads the lines of a script.
+/// Reads the lines of a script, all before the first is answered.
 pub fn load_script<F: Shelf>(
     alloc: Global,
     name: &str,

@@ -13,19 +13,24 @@ use std::alloc::Global;
 /// A rule by the extension and the ruleset that it stands in.
 #[derive(Clone, Copy, Debug)]
 pub struct RuleName<'a> {
+    /// The name of the extension.
     pub extension: &'a str,
+    /// The id of the ruleset.
     pub set: &'a str,
+    /// The id of the rule, which no other rule of the ruleset has.
     pub id: u32,
 }
 
 /// What becomes of a request, and the rule that says so.
 #[derive(Clone, Copy, Debug)]
 pub struct Verdict<'a> {
+    /// What becomes of it.
     pub outcome: Outcome,
+    /// The rule that decides. Where there is none, the request goes on as it is.
     pub rule: Option<RuleName<'a>>,
 }
 
-/// Appends what a request line of this number prints.
+/// Appends what a request line of this number prints. `generation` is the count of the updates before it.
 pub fn write_verdict(
     alloc: Global,
     line: usize,

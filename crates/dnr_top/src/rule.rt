@@ -19,11 +19,15 @@ pub struct Condition {
     pub kinds: KindSet,
 }
 
-/// A rule: Chrome's `Rule`. Greater priorities come first.
+/// A rule: Chrome's `Rule`.
 #[derive(Debug, Drop)]
 pub struct Rule {
+    /// From 1 to 2,147,483,647, and of its own in the ruleset.
     pub id: u32,
+    /// From 1 to 2,147,483,647. Of the rules that hold, the greater priority comes first.
     pub priority: u32,
+    /// When it holds.
     pub condition: Condition,
+    /// What it does then.
     pub action: Action,
 }

@@ -53,7 +53,8 @@ fn is_among(key: &str, keys: &[&str]) -> bool
     keys.iter().any(|other| key == *other)
 }
 
-/// The number at a key: a whole number from 1 to 2,147,483,647.
+/// The number that an id or a priority is: a whole number from 1 to 2,147,483,647, written without a
+/// fraction or an exponent.
 pub fn number_of(value: &Value) -> Option<u32>
     ensures { result ≡ form.number_of (view value.now) }
 {

@@ -5,11 +5,13 @@ ghost use Rattle.dnr_top.specs.Words.{task_seen};
 /// The command `match RULES REQUESTS`, by the names of its two files.
 #[derive(Clone, Copy, Debug)]
 pub struct Task<'a> {
+    /// The file of the rules.
     pub rules: &'a str,
+    /// The file of the request lines.
     pub script: &'a str,
 }
 
-/// The command that the words after the program's name say.
+/// The command that the words after the program's name say, if they say one.
 pub fn read_words(words: &[String]) -> Option<Task<'_>>
     ensures { option_map task_seen result ≡ spec.task_of (map string_bytes words.now) }
 {
