@@ -88,7 +88,7 @@ pub record IsBeginning (files : Files) (task : Task) (written : List ℕ) : Type
   pub rest : List ℕ
   pub whole : IsServed files task (written ++ rest) ⊎ IsRefused files task (written ++ rest)
 
--- where a run that can't go on may stop: before its output, or within it
+-- where a run that has no memory may stop: before its output, or within it
 abbrev pub MayStopAt : Files → Task → List ℕ → Type 0
 MayStopAt files task written = (written ≡ []) ⊎ IsBeginning files task written
 
@@ -97,8 +97,8 @@ abbrev pub Ends : Files → Task → Count → Count → List ℕ → Status →
 Ends files task shelf sink written status.Done = IsServed files task written
 Ends files task shelf sink written status.Refused = IsRefused files task written
 Ends files task shelf sink written status.Usage = ⊥
-Ends files task shelf sink written status.ReadFault = Rose shelf.before shelf.now × MayStopAt files task written
-Ends files task shelf sink written status.WriteFault = Rose sink.before sink.now × MayStopAt files task written
+Ends files task shelf sink written status.ReadFault = Rose shelf.before shelf.now × (written ≡ [])
+Ends files task shelf sink written status.WriteFault = Rose sink.before sink.now × IsBeginning files task written
 Ends files task shelf sink written status.NoMemory = MayStopAt files task written
 Ends files task shelf sink written status.FileTooLong = (IsTooLong files task.rules ⊎ HasLongLine files task) × (written ≡ [])
 
@@ -108,6 +108,6 @@ EndsFor files shelf sink None ended written = (ended ≡ status.Usage) × (writt
 EndsFor files shelf sink (Some task) ended written = Ends files task shelf sink written ended
 
 -- This status and these bytes are allowed for these words, files and faults. Done and Refused say what was
--- written to the last byte; of a run that can't go on it is a beginning of that.
+-- written to the last byte; of a run that stops in its output it is a beginning of that.
 abbrev pub Out : List (List ℕ) → Files → Count → Count → Status → List ℕ → Type 0
 Out words files shelf sink ended written = EndsFor files shelf sink (task_of words) ended written

@@ -10,7 +10,7 @@ use Rattle.dnr_spec.specs.FileRefusal.{FileRefusal}
 use Rattle.dnr_spec.specs.Rule.{Rule}
 use Rattle.dnr_spec.specs.Words.{Task}
 use Rattle.dnr_spec.specs.Output.{refusal_line}
-use Rattle.dnr_spec.specs.Out.{Files, Ends, HoldsRules, BreaksForm, MayStopAt, opening, replies}
+use Rattle.dnr_spec.specs.Out.{Files, Ends, HoldsRules, BreaksForm, IsBeginning, opening, replies}
 use Rattle.dnr_io.specs.Sink.{AppendsPart}
 use Rattle.dnr_top.specs.Load.{HoldsLines, HoldsTooMuch}
 use Rattle.dnr_top.specs.Run.{IsRun, IsRefusalStatus}
@@ -25,16 +25,16 @@ whole_in_part before now bytes taken = record { sent = bytes; rest = []; split =
 
 -- some first bytes of what a refused file prints were written
 refused_in_part : (files : Files) (task : Task) (before now : Option (List ℕ)) (refusal : FileRefusal)
-    → BreaksForm files task.rules refusal → (part : AppendsPart before now (refusal_line task.rules refusal)) → MayStopAt files task part.sent
+    → BreaksForm files task.rules refusal → (part : AppendsPart before now (refusal_line task.rules refusal)) → IsBeginning files task part.sent
 refused_in_part files task before now refusal broken part =
-    inr (record { rest = part.rest; whole = inr (record { refusal = refusal; broken = broken; output = sym part.split }) })
+    record { rest = part.rest; whole = inr (record { refusal = refusal; broken = broken; output = sym part.split }) }
 
 -- some first bytes of the answers were written
 served_in_part : (files : Files) (task : Task) (before now : Option (List ℕ)) (rules : List Rule) (lines : List (List ℕ))
     → HoldsRules files task.rules rules → HoldsLines files task.script lines
-    → (part : AppendsPart before now (replies (opening rules) 1 lines)) → MayStopAt files task part.sent
+    → (part : AppendsPart before now (replies (opening rules) 1 lines)) → IsBeginning files task part.sent
 served_in_part files task before now rules lines loaded script part =
-    inr (record {
+    record {
       rest = part.rest;
       whole = inl (record {
         rules = rules;
@@ -44,7 +44,7 @@ served_in_part files task before now rules lines loaded script part =
         within = script.within;
         output = sym part.split ∙ ap (replies (opening rules) 1) script.same;
       });
-    })
+    }
 
 -- a refused file ends the run with what was written of it
 refused_ends : (files : Files) (task : Task) (shelf sink : Count) (before now : Option (List ℕ)) (refusal : FileRefusal) (status : Status)
@@ -56,7 +56,7 @@ refused_ends files task shelf sink before now refusal Refused broken line part o
 refused_ends files task shelf sink before now refusal Usage broken line part only rose = absurd only
 refused_ends files task shelf sink before now refusal ReadFault broken line part only rose = absurd only
 refused_ends files task shelf sink before now refusal WriteFault broken line part only rose = (part.sent, part.taken, (rose refl, refused_in_part files task before now refusal broken part))
-refused_ends files task shelf sink before now refusal NoMemory broken line part only rose = (part.sent, part.taken, refused_in_part files task before now refusal broken part)
+refused_ends files task shelf sink before now refusal NoMemory broken line part only rose = (part.sent, part.taken, inr (refused_in_part files task before now refusal broken part))
 refused_ends files task shelf sink before now refusal FileTooLong broken line part only rose = absurd only
 
 -- a line that is too long ends the run before anything is written
@@ -87,7 +87,7 @@ long_line_run (Some files) after task shelf_before shelf_now sink_before sink_no
 
 stops_at : (files : Files) (after : Option Files) (task : Task) (before now : Option (List ℕ)) (rules : List Rule) (lines : List (List ℕ))
     → after ≡ Some files → HoldsRules files task.rules rules → IfSome after (λ files. HoldsLines files task.script lines)
-    → (part : AppendsPart before now (replies (opening rules) 1 lines)) → MayStopAt files task part.sent
+    → (part : AppendsPart before now (replies (opening rules) 1 lines)) → IsBeginning files task part.sent
 stops_at files after task before now rules lines same loaded script part =
     served_in_part files task before now rules lines loaded (subst (λ (known : Option Files). IfSome known (λ held. HoldsLines held task.script lines)) same script) part
 
@@ -105,4 +105,4 @@ pub unfinished_run : (known after : Option Files) (task : Task) (shelf_before sh
     → IfSome known (λ files. IsRun before now (λ written. Ends files task (record { before = shelf_before; now = shelf_now }) (record { before = sink_before; now = sink_now }) written NoMemory))
 unfinished_run None after task shelf_before shelf_now sink_before sink_now before now rules lines same loaded script part = tt
 unfinished_run (Some files) after task shelf_before shelf_now sink_before sink_now before now rules lines same loaded script part =
-    (part.sent, part.taken, stops_at files after task before now rules lines same loaded script part)
+    (part.sent, part.taken, inr (stops_at files after task before now rules lines same loaded script part))
