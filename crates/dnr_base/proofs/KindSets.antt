@@ -9,9 +9,9 @@ use Rattle.std.proofs.lemmas.Grind.{and-not_self, and_not_apart}
 use Rattle.std.proofs.Math.Nat.{pow-le-pow_right}
 use Rattle.std.proofs.Math.Bridge.{le_prop}
 use Rattle.std.proofs.Math.Path.{fun_ext}
-use Rattle.dnr_spec.specs.declared.kind.Kind.{Kind}
-use Rattle.dnr_spec.specs.declared.kind.Kind.TheVariants.{MainFrame, SubFrame, Stylesheet, Script, Image, Font, Object, XmlHttpRequest, Ping, CspReport, Media, WebSocket, WebTransport, WebBundle, Other}
-use Rattle.dnr_spec.specs.Kind.{all_kinds, default_kinds, place_of, same_kind, has_kind}
+use Rattle.dnr_base.specs.declared.kind.Kind.{Kind}
+use Rattle.dnr_base.specs.declared.kind.Kind.TheVariants.{MainFrame, SubFrame, Stylesheet, Script, Image, Font, Object, XmlHttpRequest, Ping, CspReport, Media, WebSocket, WebTransport, WebBundle, Other}
+use Rattle.dnr_base.specs.Kind.{all_kinds, default_kinds, place_of, same_kind, has_kind}
 use Rattle.dnr_base.specs.KindSet.{has_bit, kinds_of}
 use Rattle.dnr_base.specs.declared.kind_set.KindSet.{KindSet}
 

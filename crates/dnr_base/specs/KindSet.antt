@@ -1,7 +1,7 @@
 -- The types that a `KindSet` holds.
 use Rattle.std.specs.Prelude.{ℕ, ◌^◌, List, Bool, not, ◌==◌, bit_and, filter}
-use Rattle.dnr_spec.specs.declared.kind.Kind.{Kind}
-use Rattle.dnr_spec.specs.Kind.{all_kinds, place_of}
+use Rattle.dnr_base.specs.declared.kind.Kind.{Kind}
+use Rattle.dnr_base.specs.Kind.{all_kinds, place_of}
 use Rattle.dnr_base.specs.declared.kind_set.KindSet.{KindSet}
 
 -- a type is in where its bit is set

@@ -1,2 +1,5 @@
+pub mod Kind
 pub mod KindSet
+pub mod Scheme
+pub mod View
 pub mod Request

@@ -1,6 +1,6 @@
 ghost use Rattle.std.specs.Prelude.{◌≡◌, IfOk};
 
-use dnr_spec::NoMemory;
+use crate::NoMemory;
 use std::alloc::Global;
 
 /// A type whose values can be copied where memory is left, as the items of `Items::copy`. `Clone` can't

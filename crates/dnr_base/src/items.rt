@@ -1,7 +1,6 @@
 ghost use Rattle.std.specs.Prelude.{◌≡◌, List, IfOk};
 
-use crate::Copied;
-use dnr_spec::NoMemory;
+use crate::{Copied, NoMemory};
 use std::alloc::Global;
 use std::marker::Model;
 

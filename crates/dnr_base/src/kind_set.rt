@@ -1,8 +1,8 @@
 ghost use Rattle.std.specs.Prelude.{◌≡◌, ◌<◌, ◌^◌, [], true, not, ◌&&◌, ◌||◌, filter};
-ghost use Rattle.dnr_spec.specs.Kind.{all_kinds, default_kinds, place_of, same_kind, has_kind};
-ghost use Rattle.dnr_spec.specs.declared.kind.Kind.{Kind};
+ghost use Rattle.dnr_base.specs.Kind.{all_kinds, default_kinds, place_of, same_kind, has_kind};
+ghost use Rattle.dnr_base.specs.declared.kind.Kind.{Kind};
 
-use dnr_spec::Kind;
+use crate::Kind;
 
 /// A set of resource types: those of the `resourceTypes` of a rule's condition in Chrome's reference of
 /// declarativeNetRequest. Sets of the same types are equal. No call takes memory.

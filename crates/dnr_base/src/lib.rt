@@ -1,20 +1,28 @@
-//! The plain types that every layer speaks of: texts, lists, sets of resource types, views of URLs, and
-//! requests. What they keep is said by the types themselves, and no call but a copy takes memory.
+//! The plain types that every layer speaks of: texts, lists, the types of requests and sets of them, views
+//! of URLs, and requests. What they keep is said by the types themselves, and no call but a copy takes
+//! memory.
 #![tactic(auto)]
 
 mod copied;
 mod items;
+mod kind;
 mod kind_set;
+mod no_memory;
 mod request;
+mod scheme;
+mod span;
 #[cfg(test)]
 mod tests;
 mod text;
 mod view;
 
 pub use copied::Copied;
-pub use dnr_spec::{Kind, NoMemory, Scheme, Span};
 pub use items::Items;
+pub use kind::Kind;
 pub use kind_set::KindSet;
+pub use no_memory::NoMemory;
 pub use request::Request;
+pub use scheme::Scheme;
+pub use span::Span;
 pub use text::Text;
 pub use view::View;

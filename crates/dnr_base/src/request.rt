@@ -1,7 +1,6 @@
 ghost use Rattle.std.specs.Prelude.{◌≡◌, IfOk};
 
-use crate::{Copied, View};
-use dnr_spec::{Kind, NoMemory};
+use crate::{Copied, Kind, NoMemory, View};
 use std::alloc::Global;
 
 /// A request, as rules are tested on it.

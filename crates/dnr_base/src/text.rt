@@ -1,7 +1,6 @@
 ghost use Rattle.std.specs.Prelude.{◌≡◌, ℕ, List, IfOk, string_bytes};
 
-use crate::Copied;
-use dnr_spec::NoMemory;
+use crate::{Copied, NoMemory};
 use std::alloc::Global;
 use std::marker::Model;
 

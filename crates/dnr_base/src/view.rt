@@ -1,8 +1,7 @@
 ghost use Rattle.std.specs.Prelude.{◌≡◌, IfOk};
-ghost use Rattle.dnr_spec.specs.View.{View as Seen, IsView, text_of, host_of};
+ghost use Rattle.dnr_base.specs.View.{View as Seen, IsView, text_of, host_of};
 
-use crate::{Copied, Text};
-use dnr_spec::{NoMemory, Scheme, Span};
+use crate::{Copied, NoMemory, Scheme, Span, Text};
 use std::alloc::Global;
 use std::marker::Model;
 
@@ -21,7 +20,7 @@ pub struct View {
 }
 
 impl Model for View {
-    ghost use Rattle.dnr_spec.specs.View.{View, IsView};
+    ghost use Rattle.dnr_base.specs.View.{View, IsView};
 
     ghost Value = { View };
 

@@ -6,12 +6,12 @@ use Rattle.url.specs.Input.{split_once, rsplit_once}
 use Rattle.url.specs.Parser.{parse_url, host_len}
 use Rattle.url.specs.Parts.{Parts, serialize}
 use Rattle.url.specs.declared.error.ParseError.{ParseError}
-use Rattle.dnr_spec.specs.declared.scheme.Scheme.{Scheme}
-use Rattle.dnr_spec.specs.declared.span.Span.{Span}
+use Rattle.dnr_base.specs.declared.scheme.Scheme.{Scheme}
+use Rattle.dnr_base.specs.declared.span.Span.{Span}
 use Rattle.dnr_spec.specs.declared.view_refusal.ViewRefusal.{ViewRefusal}
 use Rattle.dnr_spec.specs.declared.view_refusal.ViewRefusal.TheVariants.{UrlTooLong, BadUrl, BadScheme, BadHost}
-use Rattle.dnr_spec.specs.Scheme.{scheme_named}
-use Rattle.dnr_spec.specs.View.{View, is_host}
+use Rattle.dnr_base.specs.Scheme.{scheme_named}
+use Rattle.dnr_base.specs.View.{View, is_host}
 
 -- the most bytes of a URL's text, and of its serialization
 abbrev pub max_url : ℕ

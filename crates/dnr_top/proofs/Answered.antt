@@ -4,8 +4,8 @@ use Rattle.std.specs.Io.KnownBytes.{Appends}
 use Rattle.std.specs.declared.alloc.Global.{Global}
 use Rattle.std.proofs.lemmas.List.{drop_more, drop_all}
 use Rattle.dnr_io.specs.Sink.{AppendsPart}
-use Rattle.dnr_spec.specs.State.{State}
-use Rattle.dnr_spec.specs.Out.{reply, replies}
+use Rattle.rule_spec.specs.State.{State}
+use Rattle.session_spec.specs.Out.{reply, replies}
 use Rattle.dnr_top.specs.Answers.{lines_seen, WritesFront}
 
 appends_append : (a b c : Option (List ℕ)) (xs ys : List ℕ) → Appends a b xs → Appends b c ys → Appends a c (xs ++ ys)

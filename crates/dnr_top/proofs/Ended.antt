@@ -6,11 +6,11 @@ use Rattle.dnr_io.specs.Faults.{Rose}
 use Rattle.dnr_spec.specs.declared.status.Status.{Status}
 use Rattle.dnr_spec.specs.declared.status.Status.TheVariants.{Done, Refused, Usage, ReadFault, WriteFault, NoMemory, FileTooLong}
 use Rattle.dnr_spec.specs.Faults.{Count}
-use Rattle.dnr_spec.specs.FileRefusal.{FileRefusal}
-use Rattle.dnr_spec.specs.Rule.{Rule}
-use Rattle.dnr_spec.specs.Words.{Task}
-use Rattle.dnr_spec.specs.Output.{refusal_line}
-use Rattle.dnr_spec.specs.Out.{Files, Ends, HoldsRules, BreaksForm, IsBeginning, opening, replies}
+use Rattle.session_spec.specs.FileRefusal.{FileRefusal}
+use Rattle.rule_spec.specs.Rule.{Rule}
+use Rattle.session_spec.specs.Words.{Task}
+use Rattle.session_spec.specs.Output.{refusal_line}
+use Rattle.session_spec.specs.Out.{Files, Ends, HoldsRules, BreaksForm, IsBeginning, opening, replies}
 use Rattle.dnr_io.specs.Sink.{AppendsPart}
 use Rattle.dnr_top.specs.Load.{HoldsLines, HoldsTooMuch}
 use Rattle.dnr_top.specs.Run.{IsRun, IsRefusalStatus}

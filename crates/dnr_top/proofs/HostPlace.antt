@@ -21,7 +21,7 @@ use Rattle.url.proofs.SetterLemmas.{own_host}
 use Rattle.url.proofs.TextLemmas.{is_authority_byte, authority_bytes}
 use Rattle.url.proofs.HostRoundTrip.{host_len-host_text}
 use Rattle.url.proofs.RoundTrip.{split_fragment, split_query, split_at_sign}
-use Rattle.dnr_spec.specs.declared.span.Span.{Span}
+use Rattle.dnr_base.specs.declared.span.Span.{Span}
 use Rattle.dnr_spec.specs.UrlView.{without_fragment, scheme_part, body_part, authority_in, authority_of, host_and_port, host_at, host_span}
 
 -- ---- the fragment

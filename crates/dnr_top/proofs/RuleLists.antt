@@ -10,9 +10,9 @@ use Rattle.std.proofs.lemmas.List.{drop_more, map-append}
 use Rattle.serde_json.specs.Data.{Data, item}
 use Rattle.serde_json.specs.declared.value.Value.{Value}
 use Rattle.serde_json.specs.View.{view, items_view}
-use Rattle.dnr_spec.specs.declared.rule_fault.RuleFault.{RuleFault}
-use Rattle.dnr_spec.specs.Rule as spec
-use Rattle.dnr_spec.specs.RuleFile.{rule_from, unless_taken, read_rule, read_next, read_from, has_id, HaveOwnIds}
+use Rattle.session_spec.specs.declared.rule_fault.RuleFault.{RuleFault}
+use Rattle.rule_spec.specs.Rule as spec
+use Rattle.session_spec.specs.RuleFile.{rule_from, unless_taken, read_rule, read_next, read_from, has_id, HaveOwnIds}
 use Rattle.dnr_top.specs.declared.rule.Rule.{Rule}
 use Rattle.dnr_top.specs.Rule.{rule_seen, rules_seen}
 

@@ -11,11 +11,11 @@ use Rattle.url.specs.Parts.{Parts, has_authority, has_credentials, host_or_empty
 use Rattle.url.proofs.PiecesLemmas.{option_cases, concat-split, slice-upto, upto_ordered, upto-le, steps}
 use Rattle.url.proofs.SetterLemmas.{no_credentials}
 use Rattle.url.proofs.ValidLemmas.{IsAscii-serialize}
-use Rattle.dnr_spec.specs.declared.scheme.Scheme.{Scheme}
+use Rattle.dnr_base.specs.declared.scheme.Scheme.{Scheme}
 use Rattle.dnr_spec.specs.declared.view_refusal.ViewRefusal.{ViewRefusal}
 use Rattle.dnr_spec.specs.declared.view_refusal.ViewRefusal.TheVariants.{UrlTooLong, BadScheme, BadHost}
-use Rattle.dnr_spec.specs.Scheme.{scheme_named}
-use Rattle.dnr_spec.specs.View.{View, IsView, is_host, begins_host, ends_host}
+use Rattle.dnr_base.specs.Scheme.{scheme_named}
+use Rattle.dnr_base.specs.View.{View, IsView, is_host, begins_host, ends_host}
 use Rattle.dnr_spec.specs.UrlView.{max_url, without_fragment, host_span, if_short, with_host, with_scheme, view_of_full}
 use Rattle.dnr_top.proofs.HostPlace.{without_fragment-serialize, scheme_part-serialize, no_host_span, own_path, own_span, own_host_span}
 

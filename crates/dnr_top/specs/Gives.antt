@@ -1,6 +1,6 @@
 -- A call that may run out of memory gives what its definition says, or says that memory ran out.
 use Rattle.std.specs.Prelude.{◌≡◌, ◌⊎◌, Result, Ok, Err, MatchResult}
-use Rattle.dnr_spec.specs.View.{View}
+use Rattle.dnr_base.specs.View.{View}
 use Rattle.dnr_spec.specs.declared.view_refusal.ViewRefusal.{ViewRefusal}
 use Rattle.dnr_spec.specs.declared.view_refusal.ViewRefusal.TheVariants.{NoMemory}
 

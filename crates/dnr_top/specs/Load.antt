@@ -3,7 +3,7 @@ use Rattle.std.specs.Prelude.{◌≡◌, ℕ, List, true, false, Some}
 use Rattle.dnr_io.specs.declared.shelf.ShelfRefusal.{ShelfRefusal}
 use Rattle.dnr_io.specs.declared.shelf.ShelfRefusal.TheVariants as shelf
 use Rattle.dnr_spec.specs.Lines.{lines_of, is_within_limits}
-use Rattle.dnr_spec.specs.Out.{Files, BreaksForm, IsTooLong}
+use Rattle.session_spec.specs.Out.{Files, BreaksForm, IsTooLong}
 use Rattle.dnr_top.specs.declared.rule_file.RulesRefusal.{RulesRefusal}
 use Rattle.dnr_top.specs.declared.rule_file.RulesRefusal.TheVariants as form
 use Rattle.dnr_top.specs.declared.load.LoadRefusal.{LoadRefusal}

@@ -1,8 +1,8 @@
 -- What rules are tested on: the URL's text, where its host stands, and the type.
 use Rattle.std.specs.Prelude.{ℕ, List, Bool, true, ◌&&◌, Option, Some, None}
-use Rattle.dnr_spec.specs.Kind.{has_kind}
+use Rattle.dnr_base.specs.Kind.{has_kind}
 use Rattle.dnr_spec.specs.UrlFilter.{fits}
-use Rattle.dnr_spec.specs.Rule.{Rule}
+use Rattle.rule_spec.specs.Rule.{Rule}
 use Rattle.dnr_top.specs.declared.scan.Part.{Part}
 
 abbrev pub fits_text : Option (List ℕ) → Part → Bool

@@ -1,5 +1,5 @@
 -- The command that a `Task` stands for.
-use Rattle.dnr_spec.specs.Words as spec
+use Rattle.session_spec.specs.Words as spec
 use Rattle.dnr_top.specs.declared.words.Task.{Task}
 
 abbrev pub task_seen : Task → spec.Task

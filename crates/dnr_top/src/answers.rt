@@ -4,9 +4,8 @@ ghost use Rattle.std.specs.Io.KnownBytes.{Appends};
 ghost use Rattle.dnr_io.specs.Faults.{HasCause, HasCauseOf};
 ghost use Rattle.dnr_io.specs.Sink.{AppendsPart};
 ghost use Rattle.dnr_spec.specs.Lines as lines;
-ghost use Rattle.dnr_spec.specs.Out.{opening, reply, reply_to, replies};
-ghost use Rattle.dnr_spec.specs.RuleFile.{HaveOwnIds};
-ghost use Rattle.dnr_base.specs.Request.{request_seen};
+ghost use Rattle.session_spec.specs.Out.{opening, reply, reply_to, replies};
+ghost use Rattle.session_spec.specs.RuleFile.{HaveOwnIds};
 ghost use Rattle.dnr_top.specs.Rule.{rules_seen};
 ghost use Rattle.dnr_top.specs.Answers.{lines_seen, WritesFront};
 ghost use Rattle.dnr_top.specs.declared.answers.WriteRefusal.TheVariants as refusal;
@@ -111,7 +110,7 @@ fn write_reply(
     into: &mut String,
 ) -> Result<(), NoMemory>
     requires { HaveOwnIds (rules_seen rules.now) }
-    ensures { OnOk result (string_bytes into.new ≡ string_bytes into.old ++ reply_to (opening (rules_seen rules.now)) number (option_map request_seen request.now)) }
+    ensures { OnOk result (string_bytes into.new ≡ string_bytes into.old ++ reply_to (opening (rules_seen rules.now)) number request.now) }
 {
     match request {
         Some(request) => write_verdict(alloc, number, 0, &verdict_of(rules, request), into),

@@ -1,10 +1,9 @@
 ghost use Rattle.std.specs.Prelude.{◌≡◌, IfOk, option_map};
 ghost use Rattle.std.specs.Result.{result_ok};
 ghost use Rattle.serde_json.specs.View.{view as tree_view};
-ghost use Rattle.dnr_spec.specs.Json as json;
-ghost use Rattle.dnr_spec.specs.RequestLine as spec;
+ghost use Rattle.session_spec.specs.Json as json;
+ghost use Rattle.session_spec.specs.RequestLine as spec;
 ghost use Rattle.dnr_spec.specs.UrlView.{view_of};
-ghost use Rattle.dnr_base.specs.Request.{request_seen};
 
 use crate::tree::{is_object_of, read_tree};
 use crate::url_view::parse;
@@ -15,7 +14,7 @@ use std::alloc::Global;
 
 /// The request of a line, if the line keeps the form: an object with the keys `url` and `type` and no others.
 pub fn read_request(alloc: Global, line: &[u8]) -> Result<Option<Request>, NoMemory>
-    ensures { IfOk result (λ request. option_map request_seen request ≡ spec.request_of line.now) }
+    ensures { IfOk result (λ request. request ≡ spec.request_of line.now) }
 {
     match read_tree(alloc, line)? {
         Some(tree) => request_in(alloc, &tree),
@@ -24,7 +23,7 @@ pub fn read_request(alloc: Global, line: &[u8]) -> Result<Option<Request>, NoMem
 }
 
 fn request_in(alloc: Global, tree: &Value) -> Result<Option<Request>, NoMemory>
-    ensures { IfOk result (λ request. option_map request_seen request ≡ spec.request_in (tree_view tree.now)) }
+    ensures { IfOk result (λ request. request ≡ spec.request_in (tree_view tree.now)) }
 {
     if !is_object_of(tree, &["url", "type"]) {
         return Ok(None);

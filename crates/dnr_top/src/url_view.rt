@@ -2,8 +2,8 @@
 ghost use Rattle.std.specs.Prelude.{◌≡◌};
 ghost use Rattle.std.specs.List.{list_all};
 ghost use Rattle.url.specs.Parts.{serialize};
-ghost use Rattle.dnr_spec.specs.Scheme as schemes;
-ghost use Rattle.dnr_spec.specs.View as hosts;
+ghost use Rattle.dnr_base.specs.Scheme as schemes;
+ghost use Rattle.dnr_base.specs.View as hosts;
 ghost use Rattle.dnr_spec.specs.UrlView.{view_of, view_of_full};
 ghost use Rattle.dnr_top.specs.Gives.{GivesView};
 

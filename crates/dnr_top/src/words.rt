@@ -1,5 +1,5 @@
 ghost use Rattle.std.specs.Prelude.{◌≡◌, map, option_map, string_bytes};
-ghost use Rattle.dnr_spec.specs.Words as spec;
+ghost use Rattle.session_spec.specs.Words as spec;
 ghost use Rattle.dnr_top.specs.Words.{task_seen};
 
 /// The command `match RULES REQUESTS`, by the names of its two files.

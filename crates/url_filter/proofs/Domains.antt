@@ -3,7 +3,7 @@ use Rattle.std.proofs.Common.{◌≡◌, ◌≢◌, ◌<◌, ◌≤◌, ◌+◌,
 use Rattle.std.proofs.lemmas.Bool.{cases_Bool, cases_lt, lt-ltb, le-ltb, true≢false}
 use Rattle.std.proofs.lemmas.List.{drop-drop, length-drop, take_all}
 use Rattle.dnr_spec.specs.UrlFilter.{domain, fits_at, fits_from, some_end, some_below, follows_dot}
-use Rattle.dnr_spec.specs.declared.span.Span.{Span}
+use Rattle.dnr_base.specs.declared.span.Span.{Span}
 use Rattle.url_filter.specs.Stops.{StopsAtStar}
 use Rattle.url_filter.specs.Told.{WalkTells, Tells}
 use Rattle.url_filter.specs.declared.walks.Stop.{Stop}

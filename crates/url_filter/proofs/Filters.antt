@@ -6,7 +6,7 @@ use Rattle.std.specs.List.{starts_with, list_all}
 use Rattle.std.specs.Char.{is_ascii}
 use Rattle.std.specs.Str.{IsAscii}
 use Rattle.dnr_spec.specs.UrlFilter.{Anchor, Filter, anchor_of, anchor_len, filter_of, fits, fits_from, pattern_of, has_end_anchor, max_pattern}
-use Rattle.dnr_spec.specs.declared.span.Span.{Span}
+use Rattle.dnr_base.specs.declared.span.Span.{Span}
 
 chosen : (b : Bool) (x y : Filter) (a : Anchor) → x.anchor ≡ a → y.anchor ≡ a → (if b then x else y).anchor ≡ a
 chosen true x y a p q = p

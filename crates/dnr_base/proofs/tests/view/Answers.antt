@@ -3,8 +3,8 @@ use Rattle.std.specs.List.{list_all}
 use Rattle.std.specs.Str.{IsAscii}
 use Rattle.std.proofs.lemmas.Bool.Decides.{nat_tests}
 use Rattle.std.proofs.lemmas.Str.Ascii.{IsAscii-nil}
-use Rattle.dnr_spec.specs.View.{IsView}
-use Rattle.dnr_spec.specs.declared.scheme.Scheme.TheVariants.{Http}
+use Rattle.dnr_base.specs.View.{IsView}
+use Rattle.dnr_base.specs.declared.scheme.Scheme.TheVariants.{Http}
 use Rattle.dnr_base.proofs.tests.view.Goals as goal
 
 both : (a b : Bool) → (a && b) ≡ true → (a ≡ true) × (b ≡ true)

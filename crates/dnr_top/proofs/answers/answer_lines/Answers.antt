@@ -1,6 +1,6 @@
 use Rattle.std.proofs.Common.{arith, ap, ◌∙◌, ◌++◌, ◌+◌, string_bytes, subst}
 use Rattle.dnr_io.specs.Sink.{AppendsPart}
-use Rattle.dnr_spec.specs.Out.{opening, reply}
+use Rattle.session_spec.specs.Out.{opening, reply}
 use Rattle.dnr_top.specs.Rule.{rules_seen}
 use Rattle.dnr_top.proofs.Answered.{one_line_more, on_err, nothing_sent, written_in_part, written_in_part_after}
 use Rattle.dnr_top.proofs.answers.answer_lines.Goals as goal

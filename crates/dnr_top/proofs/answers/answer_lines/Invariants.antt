@@ -1,5 +1,5 @@
 use Rattle.std.proofs.Common.{◌≤◌, string_bytes}
-use Rattle.dnr_spec.specs.Out.{opening}
+use Rattle.session_spec.specs.Out.{opening}
 use Rattle.dnr_top.specs.Rule.{rules_seen}
 use Rattle.dnr_top.proofs.Answered.{IsAnsweredSoFar}
 use Rattle.dnr_top.proofs.answers.answer_lines.Given as goal

@@ -1,5 +1,4 @@
 use Rattle.std.proofs.Common.{◌≡◌, None, drop}
-use Rattle.dnr_base.specs.Request.{request_seen}
 use Rattle.dnr_top.specs.Rule.{rules_seen}
 use Rattle.dnr_top.specs.Scan.{best_of}
 use Rattle.dnr_top.proofs.Scans.{strongest, held_by}
@@ -7,5 +6,5 @@ use Rattle.dnr_top.proofs.scan.deciding_rule.Given as goal
 
 abbrev pub invariant-loop-rule : goal.invariant-loop-rule
 invariant-loop-rule l =
-    strongest None (held_by (request_seen l.request) (rules_seen l.rules))
-    ≡ strongest (best_of l.best) (held_by (request_seen l.request) (rules_seen (drop l.rule-index l.rules)))
+    strongest None (held_by l.request (rules_seen l.rules))
+    ≡ strongest (best_of l.best) (held_by l.request (rules_seen (drop l.rule-index l.rules)))

@@ -1,7 +1,7 @@
 use Rattle.std.proofs.Common.{◌≡◌, ◌<◌, ◌≤◌, true, false, length, Some, None, sym, ap, ◌∙◌, subst}
 use Rattle.std.specs.Prelude.{Ok, string_bytes}
 use Rattle.url.specs.Parts.{serialize}
-use Rattle.dnr_spec.specs.View.{IsView}
+use Rattle.dnr_base.specs.View.{IsView}
 use Rattle.dnr_spec.specs.UrlView.{max_url}
 use Rattle.dnr_top.proofs.UrlViews.{scheme_told, host_told, placed, refused_scheme, refused_host, refused_length, given_view, own_view_is_view}
 use Rattle.dnr_top.proofs.url_view.from_url.Goals as goal

@@ -1,10 +1,10 @@
 -- Whether a rule's condition holds on a part: Chrome's reference, `RuleCondition`. A field that is absent holds.
 use Rattle.std.specs.Prelude.{ℕ, List, Bool, true, ◌&&◌, Option, Some, None}
-use Rattle.dnr_spec.specs.Kind.{has_kind}
-use Rattle.dnr_spec.specs.View.{View, text_of}
+use Rattle.dnr_base.specs.Kind.{has_kind}
+use Rattle.dnr_base.specs.View.{View, text_of}
 use Rattle.dnr_spec.specs.UrlFilter.{fits}
-use Rattle.dnr_spec.specs.Rule.{Rule}
-use Rattle.dnr_spec.specs.Request.{Part}
+use Rattle.rule_spec.specs.Rule.{Rule}
+use Rattle.dnr_base.specs.Request.{Part}
 
 -- the filter fits the URL without its fragment, whatever the case of letters
 abbrev pub fits_url : Option (List ℕ) → View → Bool

@@ -1,6 +1,6 @@
 ghost use Rattle.std.specs.Prelude.{◌≡◌, ◌<◌, Some};
 ghost use Rattle.std.specs.List.{slice_get};
-ghost use Rattle.dnr_spec.specs.Kind.{all_kinds, place_of, name_of, kind_named};
+ghost use Rattle.dnr_base.specs.Kind.{all_kinds, place_of, name_of, kind_named};
 
 /// What a request is for: the `ResourceType` of Chrome's reference of declarativeNetRequest, in its order.
 #[derive(Clone, Copy, Debug, PartialEq, Eq, PartialOrd, Ord)]

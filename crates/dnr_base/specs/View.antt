@@ -1,8 +1,8 @@
 -- The view of a URL: its text, and where its host stands in it.
 use Rattle.std.specs.Prelude.{ℕ, ◌-◌, ◌<◌, ◌≤◌, List, length, take, slice_index, slice_range, Bool, IsTrue, IsAscii, nat_le, ◌==◌, ◌&&◌, ◌||◌}
 use Rattle.std.specs.List.{list_all}
-use Rattle.dnr_spec.specs.declared.scheme.Scheme.{Scheme}
-use Rattle.dnr_spec.specs.declared.span.Span.{Span}
+use Rattle.dnr_base.specs.declared.scheme.Scheme.{Scheme}
+use Rattle.dnr_base.specs.declared.span.Span.{Span}
 
 -- `full` is the URL's serialization, and `cut` where its fragment begins
 pub record View : Type 0 where

@@ -2,12 +2,12 @@
 use Rattle.std.specs.Prelude.{ℕ, List, [], ◌∷◌, codes, Option, Some, None, option_and_then, if◌then◌else◌}
 use Rattle.std.specs.Result.{result_ok}
 use Rattle.serde_json.specs.Data.{Data}
-use Rattle.dnr_spec.specs.declared.kind.Kind.{Kind}
-use Rattle.dnr_spec.specs.Kind.{kind_named}
-use Rattle.dnr_spec.specs.View.{View}
+use Rattle.dnr_base.specs.declared.kind.Kind.{Kind}
+use Rattle.dnr_base.specs.Kind.{kind_named}
+use Rattle.dnr_base.specs.View.{View}
 use Rattle.dnr_spec.specs.UrlView.{view_of}
-use Rattle.dnr_spec.specs.Json.{tree_of, text_at, is_object_of}
-use Rattle.dnr_spec.specs.Request.{Request}
+use Rattle.session_spec.specs.Json.{tree_of, text_at, is_object_of}
+use Rattle.dnr_base.specs.declared.request.Request.{Request}
 
 abbrev pub request_keys : List (List ℕ)
 request_keys = codes "url" ∷ codes "type" ∷ []

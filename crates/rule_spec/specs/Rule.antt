@@ -1,6 +1,6 @@
 -- A rule: Chrome's reference of declarativeNetRequest, `Rule`, `RuleCondition` and `RuleAction`.
 use Rattle.std.specs.Prelude.{ℕ, List, Option}
-use Rattle.dnr_spec.specs.declared.kind.Kind.{Kind}
+use Rattle.dnr_base.specs.declared.kind.Kind.{Kind}
 
 -- `url_filter` is the pattern of the urlFilter, and `kinds` are the types on which the rule holds
 pub record Condition : Type 0 where

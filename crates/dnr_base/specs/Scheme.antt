@@ -2,8 +2,8 @@
 use Rattle.std.specs.Prelude.{ℕ, List, [], ◌∷◌, codes, Option}
 use Rattle.std.specs.List.{find}
 use Rattle.std.specs.Str.{bytes_eq}
-use Rattle.dnr_spec.specs.declared.scheme.Scheme.{Scheme}
-use Rattle.dnr_spec.specs.declared.scheme.Scheme.TheVariants.{Http, Https, Ws, Wss, Ftp, ChromeExtension}
+use Rattle.dnr_base.specs.declared.scheme.Scheme.{Scheme}
+use Rattle.dnr_base.specs.declared.scheme.Scheme.TheVariants.{Http, Https, Ws, Wss, Ftp, ChromeExtension}
 
 abbrev pub all_schemes : List Scheme
 all_schemes = Http ∷ Https ∷ Ws ∷ Wss ∷ Ftp ∷ ChromeExtension ∷ []

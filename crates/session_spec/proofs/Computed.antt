@@ -1,12 +1,12 @@
 -- The examples are computed.
-use Rattle.dnr_spec.specs.Scan.{scan}
-use Rattle.dnr_spec.specs.Examples.{request_line}
+use Rattle.rule_spec.specs.Scan.{scan}
+use Rattle.session_spec.specs.Examples.{request_line}
 use Rattle.std.specs.Prelude.{refl, ◌++◌, [], codes}
 use Rattle.std.proofs.Common.{arith}
 use Rattle.std.specs.Str.{is_utf8}
 use Rattle.url.proofs.OnLiterals.{url_on_literals}
 use Rattle.serde_json.proofs.OnLiterals.{serde_json_on_literals}
-use Rattle.dnr_spec.specs.Examples.{NoRulesDecideNothing, MainFrameIsLeftAlone, AllowPrevailsAtEqualPriority, GreaterPriorityPrevails, SmallerIdPrevails, BlankLinesCount, CrAloneIsNoBlankLine, BrokenLinesAreBad, NullIsPresent, FractionIsNoId, LastValueOfAKeyCounts, SecondOfEqualIdsIsAtFault, FirstRuleAtFaultIsNamed, NestingHasALimit, HostStandsInTheAuthority, HostIsInAscii, PathIsNoHost, EachRefusalOfAUrl, SeparatorFitsTheEnd, DomainAnchorStaysInTheHost, AnchorsAlone, BlockPrevailsAcrossExtensions, NewerExtensionPrevails, EarlierRulesetPrevails, MatchTakesTwoFileNames, TwoFilesAreServed, UsageIsForBadWords}
+use Rattle.session_spec.specs.Examples.{NoRulesDecideNothing, MainFrameIsLeftAlone, AllowPrevailsAtEqualPriority, GreaterPriorityPrevails, SmallerIdPrevails, BlankLinesCount, CrAloneIsNoBlankLine, BrokenLinesAreBad, NullIsPresent, FractionIsNoId, LastValueOfAKeyCounts, SecondOfEqualIdsIsAtFault, FirstRuleAtFaultIsNamed, NestingHasALimit, HostStandsInTheAuthority, HostIsInAscii, PathIsNoHost, EachRefusalOfAUrl, SeparatorFitsTheEnd, DomainAnchorStaysInTheHost, AnchorsAlone, BlockPrevailsAcrossExtensions, NewerExtensionPrevails, EarlierRulesetPrevails, MatchTakesTwoFileNames, TwoFilesAreServed, UsageIsForBadWords}
 
 pub no_rules_decide_nothing : NoRulesDecideNothing
 unfolding url_on_literals serde_json_on_literals is_utf8 scan

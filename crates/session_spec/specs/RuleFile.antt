@@ -6,13 +6,13 @@ use Rattle.std.specs.Result.{result_ok}
 use Rattle.std.specs.Str.{bytes_eq}
 use Rattle.serde_json.specs.Data.{Data, Items, no_items, item}
 use Rattle.serde_json.specs.Find.{get, as_str, as_array}
-use Rattle.dnr_spec.specs.declared.rule_fault.RuleFault.{RuleFault}
-use Rattle.dnr_spec.specs.declared.rule_fault.RuleFault.TheVariants as fault
-use Rattle.dnr_spec.specs.Kind.{default_kinds}
+use Rattle.session_spec.specs.declared.rule_fault.RuleFault.{RuleFault}
+use Rattle.session_spec.specs.declared.rule_fault.RuleFault.TheVariants as fault
+use Rattle.dnr_base.specs.Kind.{default_kinds}
 use Rattle.dnr_spec.specs.UrlFilter.{pattern_of}
-use Rattle.dnr_spec.specs.Json.{tree_of, whole_number, text_at, is_object_of}
-use Rattle.dnr_spec.specs.FileRefusal.{FileRefusal, bad_json, bad_rule}
-use Rattle.dnr_spec.specs.Rule.{Condition, Action, block, allow, Rule}
+use Rattle.session_spec.specs.Json.{tree_of, whole_number, text_at, is_object_of}
+use Rattle.session_spec.specs.FileRefusal.{FileRefusal, bad_json, bad_rule}
+use Rattle.rule_spec.specs.Rule.{Condition, Action, block, allow, Rule}
 
 -- the most bytes of a rules file
 abbrev pub max_file : ℕ

@@ -1,0 +1,5 @@
+pub mod Rule
+pub mod Holds
+pub mod State
+pub mod Precedence
+pub mod Scan
