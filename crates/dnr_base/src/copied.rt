@@ -12,3 +12,15 @@ pub trait Copied {
     fn copied(&self, alloc: Global) -> Result<Self, NoMemory>
         ensures { IfOk result (λ copy. copy ≡ self.now) };
 }
+
+/// An equal value, if there is one.
+///
+/// `NoMemory`: no memory is left for the copy.
+pub fn copy_option<T: Copied>(alloc: Global, value: &Option<T>) -> Result<Option<T>, NoMemory>
+    ensures { IfOk result (λ copy. copy ≡ value.now) }
+{
+    match value {
+        Some(value) => Ok(Some(value.copied(alloc)?)),
+        None => Ok(None),
+    }
+}
