@@ -27,13 +27,13 @@ abbrev pub frame_kind : ℕ → Kind
 frame_kind place = if place == 0 then MainFrame else SubFrame
 
 -- what a frame with a URL says of its own document, which was asked for in the request's tab
-abbrev pub part_of_frame : Request → ℕ → Frame → Option Part
-part_of_frame request place frame =
+abbrev pub frame_part_of : Request → ℕ → Frame → Option Part
+frame_part_of request place frame =
     option_map (λ view. record { view = view; initiator = frame.initiator; kind = frame_kind place; method = frame.method; tab = request.tab }) frame.view
 
 -- none where there is no such frame, or it has no URL
 abbrev pub frame_part : Request → ℕ → Option Part
-frame_part request place = option_and_then (part_of_frame request place) (slice_get request.frames place)
+frame_part request place = option_and_then (frame_part_of request place) (slice_get request.frames place)
 
 -- the most frames of a request, the most headers of one of its lists, and the most bytes of a header's name
 abbrev pub max_frames : ℕ

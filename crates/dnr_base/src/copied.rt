@@ -13,14 +13,11 @@ pub trait Copied {
         ensures { IfOk result (λ copy. copy ≡ self.now) };
 }
 
-/// An equal value, if there is one.
-///
-/// `NoMemory`: no memory is left for the copy.
-pub fn copy_option<T: Copied>(alloc: Global, value: &Option<T>) -> Result<Option<T>, NoMemory>
-    ensures { IfOk result (λ copy. copy ≡ value.now) }
-{
-    match value {
-        Some(value) => Ok(Some(value.copied(alloc)?)),
-        None => Ok(None),
+impl<T: Copied> Copied for Option<T> {
+    fn copied(&self, alloc: Global) -> Result<Option<T>, NoMemory> {
+        match self {
+            Some(value) => Ok(Some(value.copied(alloc)?)),
+            None => Ok(None),
+        }
     }
 }

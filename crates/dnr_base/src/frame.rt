@@ -1,6 +1,6 @@
 ghost use Rattle.std.specs.Prelude.{◌≡◌, IfOk};
 
-use crate::{Copied, Method, NoMemory, Text, View, copy_option};
+use crate::{Copied, Method, NoMemory, Text, View};
 use std::alloc::Global;
 
 /// A frame in which a request is made: its document was asked for itself.
@@ -22,8 +22,8 @@ impl Frame {
         ensures { IfOk result (λ copy. copy ≡ self.now) }
     {
         Ok(Frame {
-            view: copy_option(alloc, &self.view)?,
-            initiator: copy_option(alloc, &self.initiator)?,
+            view: Copied::copied(&self.view, alloc)?,
+            initiator: Copied::copied(&self.initiator, alloc)?,
             method: self.method,
         })
     }

@@ -1,7 +1,7 @@
 ghost use Rattle.std.specs.Prelude.{◌≡◌, IfOk, option_map};
 ghost use Rattle.dnr_base.specs.Request.{own_part, frame_part};
 
-use crate::{Copied, Frame, Header, Items, Kind, Method, NoMemory, Part, Text, View, copy_option};
+use crate::{Copied, Frame, Header, Items, Kind, Method, NoMemory, Part, Text, View};
 use std::alloc::Global;
 
 /// A request, as rules decide it.
@@ -72,13 +72,13 @@ impl Request {
         Ok(Request {
             line: self.line,
             view: self.view.copy(alloc)?,
-            initiator: copy_option(alloc, &self.initiator)?,
+            initiator: Copied::copied(&self.initiator, alloc)?,
             kind: self.kind,
             method: self.method,
             tab: self.tab,
             frames: self.frames.copy(alloc)?,
-            request_headers: copy_option(alloc, &self.request_headers)?,
-            response_headers: copy_option(alloc, &self.response_headers)?,
+            request_headers: Copied::copied(&self.request_headers, alloc)?,
+            response_headers: Copied::copied(&self.response_headers, alloc)?,
         })
     }
 }
