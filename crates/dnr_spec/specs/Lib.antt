@@ -2,4 +2,3 @@ pub mod UrlView
 pub mod UrlFilter
 pub mod Lines
 pub mod Status
-pub mod Faults
