@@ -25,5 +25,5 @@ fn last_label(host: &str) -> &str
 fn is_number(label: &str) -> bool
     ensures { result ≡ spec.is_number label.now }
 {
-    !label.is_empty() && label.bytes().all(|b| b.is_ascii_digit())
+    !label.is_empty() && label.as_bytes().iter().all(|b| b.is_ascii_digit())
 }
