@@ -1,5 +1,5 @@
 -- Whether a request is third party: Chrome's reference, `RuleCondition.domainType`.
-use Rattle.std.specs.Prelude.{ℕ, List, Bool, true, false, not, ◌&&◌, ◌||◌, Option, Some, None}
+use Rattle.std.specs.Prelude.{ℕ, List, Bool, true, false, not, ◌||◌, Option, Some, None}
 use Rattle.std.specs.Str.{bytes_eq}
 use Rattle.dnr_spec.specs.Suffixes.{SuffixRule, registrable}
 

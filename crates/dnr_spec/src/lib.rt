@@ -14,7 +14,7 @@ mod tests;
 mod view_refusal;
 
 pub use dnr_base::{Kind, NoMemory, Scheme, Span};
-pub use host::is_ip_host;
+pub use host::{is_ip_host, split_first_label, split_last_label};
 pub use pattern_refusal::PatternRefusal;
 pub use status::Status;
 pub use suffix_refusal::SuffixRefusal;
