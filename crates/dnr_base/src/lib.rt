@@ -3,9 +3,12 @@
 //! memory.
 #![tactic(auto)]
 
+mod candidate;
 mod copied;
 mod fault;
 mod frame;
+mod header;
+mod direction;
 mod header;
 mod items;
 mod kind;
@@ -17,6 +20,9 @@ mod plan;
 mod query_pair;
 mod query_transform;
 mod redirect;
+mod offered;
+mod operation;
+mod rank;
 mod request;
 mod rule_name;
 mod scheme;
@@ -26,11 +32,16 @@ mod steps;
 mod tests;
 mod text;
 mod transform;
+mod verb;
 mod view;
+mod winner;
 
+pub use candidate::Candidate;
 pub use copied::Copied;
 pub use fault::{Failed, count_fault};
 pub use frame::Frame;
+pub use header::Header;
+pub use direction::Direction;
 pub use header::Header;
 pub use items::Items;
 pub use kind::Kind;
@@ -42,6 +53,9 @@ pub use plan::Plan;
 pub use query_pair::QueryPair;
 pub use query_transform::QueryTransform;
 pub use redirect::Redirect;
+pub use offered::Offered;
+pub use operation::Operation;
+pub use rank::Rank;
 pub use request::Request;
 pub use rule_name::RuleName;
 pub use scheme::Scheme;
@@ -49,4 +63,6 @@ pub use span::Span;
 pub use steps::Steps;
 pub use text::Text;
 pub use transform::Transform;
+pub use verb::Verb;
 pub use view::View;
+pub use winner::Winner;

@@ -5,3 +5,6 @@ pub mod UrlView
 pub mod UrlFilter
 pub mod Lines
 pub mod Status
+pub mod Faults
+pub mod Order
+pub mod Headers

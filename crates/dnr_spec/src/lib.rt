@@ -6,6 +6,7 @@
 #![tactic(auto)]
 
 mod host;
+mod header_refusal;
 mod pattern_refusal;
 mod status;
 mod suffix_refusal;
@@ -15,6 +16,7 @@ mod view_refusal;
 
 pub use dnr_base::{Kind, NoMemory, Scheme, Span};
 pub use host::{is_ip_host, split_first_label, split_last_label};
+pub use header_refusal::HeaderRefusal;
 pub use pattern_refusal::PatternRefusal;
 pub use status::Status;
 pub use suffix_refusal::SuffixRefusal;
