@@ -3,3 +3,5 @@ pub mod UrlFilter
 pub mod Lines
 pub mod Status
 pub mod Faults
+pub mod Patterns
+pub mod Substitution
