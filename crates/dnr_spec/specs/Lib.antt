@@ -8,3 +8,5 @@ pub mod Status
 pub mod Faults
 pub mod Order
 pub mod Headers
+pub mod Patterns
+pub mod Substitution

@@ -10,6 +10,7 @@ mod header_refusal;
 mod pattern_refusal;
 mod status;
 mod suffix_refusal;
+mod substitution_refusal;
 #[cfg(test)]
 mod tests;
 mod view_refusal;
@@ -20,4 +21,5 @@ pub use header_refusal::HeaderRefusal;
 pub use pattern_refusal::PatternRefusal;
 pub use status::Status;
 pub use suffix_refusal::SuffixRefusal;
+pub use substitution_refusal::SubstitutionRefusal;
 pub use view_refusal::ViewRefusal;
