@@ -5,3 +5,5 @@ pub mod Target
 pub mod Lines
 pub mod Status
 pub mod Faults
+pub mod Patterns
+pub mod Substitution

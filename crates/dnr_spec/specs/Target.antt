@@ -1,6 +1,6 @@
 -- Where a redirect or an upgrade leads: Chrome's reference of declarativeNetRequest, `Redirect` and
 -- `RuleActionType.upgradeScheme`. URLs are read and written by the URL Standard (4.4, 4.5).
-use Rattle.std.specs.Prelude.{ℕ, Bool, true, false, not, ◌&&◌, nat_le, List, [], ◌++◌, length, take, drop, codes, Option, Some, None, option_map, option_and_then, if◌then◌else◌}
+use Rattle.std.specs.Prelude.{ℕ, Bool, true, false, not, ◌&&◌, nat_le, List, ◌++◌, length, take, drop, slice_index_or, codes, Option, Some, None, option_map, option_and_then, if◌then◌else◌}
 use Rattle.std.specs.Result.{result_ok}
 use Rattle.std.specs.Str.{bytes_eq}
 use Rattle.url.specs.Parser.{parse_url}
@@ -12,6 +12,7 @@ use Rattle.dnr_base.specs.declared.scheme.Scheme.TheVariants.{Http, Https, Ws, W
 use Rattle.dnr_base.specs.declared.span.Span.{Span}
 use Rattle.dnr_base.specs.declared.transform.Transform.{Transform}
 use Rattle.dnr_base.specs.View.{View, text_of}
+use Rattle.dnr_spec.specs.Substitution.{Piece, substitution_of, expansion}
 use Rattle.dnr_spec.specs.Transform.{transformed_text}
 
 -- the most bytes of a target
@@ -32,6 +33,15 @@ extension_text name path = codes "chrome-extension://" ++ name ++ path
 abbrev pub with_place : List ℕ → List ℕ → Span → List ℕ
 with_place text new place = take place.start text ++ new ++ drop place.end text
 
+-- a text with this place replaced by what a substitution stands for, if there is a place
+abbrev pub with_pieces : List ℕ → List (Option Span) → Option Span → List Piece → Option (List ℕ)
+with_pieces text places place pieces = option_map (with_place text (expansion pieces text places)) place
+
+-- a text with its first match replaced, whose groups took these places; a substitution may name groups up to 9
+abbrev pub substituted_text : List ℕ → List ℕ → List (Option Span) → Option (List ℕ)
+substituted_text substitution text places =
+    option_and_then (with_pieces text places (slice_index_or places 0 None)) (result_ok (substitution_of substitution 9))
+
 -- what a transform makes of a URL's text
 abbrev pub transform_text : Transform → List ℕ → Option (List ℕ)
 transform_text transform full = option_map (transformed_text transform) (url_of full)
@@ -42,7 +52,7 @@ abbrev pub new_text : Redirect → List ℕ → View → List (Option Span) → 
 new_text (redirect.ExtensionPath path) name view places = Some (extension_text name path)
 new_text (redirect.Transform transform) name view places = transform_text transform view.full
 new_text (redirect.Url url) name view places = Some url
-new_text (redirect.RegexSubstitution text) name view places = None
+new_text (redirect.RegexSubstitution text) name view places = substituted_text text (text_of view) places
 
 -- ---- the target
 

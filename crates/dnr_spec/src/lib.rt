@@ -7,6 +7,7 @@
 
 mod pattern_refusal;
 mod status;
+mod substitution_refusal;
 #[cfg(test)]
 mod tests;
 mod view_refusal;
@@ -14,4 +15,5 @@ mod view_refusal;
 pub use dnr_base::{Kind, NoMemory, Scheme, Span};
 pub use pattern_refusal::PatternRefusal;
 pub use status::Status;
+pub use substitution_refusal::SubstitutionRefusal;
 pub use view_refusal::ViewRefusal;

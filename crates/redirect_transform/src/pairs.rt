@@ -52,7 +52,7 @@ pub fn push_new(
     piece: &str,
 ) -> Result<(), NoMemory>
     ensures { OnOk result (string_bytes query.new ≡ with_piece (string_bytes query.old)
-        (option_map_or spec.piece_of (option_copied pair) piece.now)) }
+        (option_map_or spec.piece_of (option_copied pair.entry) piece.now)) }
 {
     match pair {
         Some(pair) => push_pair(alloc, query, pair),
