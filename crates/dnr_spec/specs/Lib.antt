@@ -3,6 +3,8 @@ pub mod Suffixes
 pub mod Party
 pub mod UrlView
 pub mod UrlFilter
+pub mod Transform
+pub mod Target
 pub mod Lines
 pub mod Status
 pub mod Faults
