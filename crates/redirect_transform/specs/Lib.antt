@@ -1,4 +1,0 @@
-pub mod Counter
-pub mod Parts
-pub mod Piece
-pub mod Written
