@@ -7,7 +7,6 @@ pub mod Transform
 pub mod Target
 pub mod Lines
 pub mod Status
-pub mod Faults
 pub mod Order
 pub mod Headers
 pub mod Patterns
