@@ -3,3 +3,4 @@ pub mod UrlFilter
 pub mod Lines
 pub mod Status
 pub mod Faults
+pub mod Examples
