@@ -11,3 +11,4 @@ pub mod Order
 pub mod Headers
 pub mod Patterns
 pub mod Substitution
+pub mod Examples
