@@ -1,3 +1,4 @@
+pub mod Hosts
 pub mod UrlView
 pub mod UrlFilter
 pub mod Lines
