@@ -5,6 +5,7 @@
 //! program. The enumerations here are the words in which both speak.
 #![tactic(auto)]
 
+mod domain_refusal;
 mod pattern_refusal;
 mod status;
 #[cfg(test)]
@@ -12,6 +13,7 @@ mod tests;
 mod view_refusal;
 
 pub use dnr_base::{Kind, NoMemory, Scheme, Span};
+pub use domain_refusal::DomainRefusal;
 pub use pattern_refusal::PatternRefusal;
 pub use status::Status;
 pub use view_refusal::ViewRefusal;
