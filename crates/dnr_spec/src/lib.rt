@@ -8,6 +8,7 @@
 mod examples;
 mod header_refusal;
 mod host;
+mod domain_refusal;
 mod pattern_refusal;
 mod status;
 mod substitution_refusal;
@@ -23,6 +24,7 @@ pub use examples::{
 };
 pub use header_refusal::HeaderRefusal;
 pub use host::{is_ip_host, split_first_label, split_last_label};
+pub use domain_refusal::DomainRefusal;
 pub use pattern_refusal::PatternRefusal;
 pub use status::Status;
 pub use substitution_refusal::SubstitutionRefusal;
