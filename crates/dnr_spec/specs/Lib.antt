@@ -2,6 +2,5 @@ pub mod UrlView
 pub mod UrlFilter
 pub mod Lines
 pub mod Status
-pub mod Faults
 pub mod Patterns
 pub mod Substitution
