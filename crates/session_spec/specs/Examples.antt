@@ -1,9 +1,10 @@
 -- Examples, each computed from the definitions alone.
-use Rattle.std.specs.Prelude.{◌≡◌, ℕ, List, [], ◌∷◌, ◌++◌, codes, Bool, true, false, Some, None, Result, Ok, Err, replicate, bytes_eq, if◌then◌else◌}
+use Rattle.std.specs.Prelude.{◌≡◌, ℕ, List, [], ◌∷◌, ◌++◌, codes, Bool, true, false, Some, None, negsuc, Result, Ok, Err, replicate, bytes_eq, if◌then◌else◌}
 use Rattle.dnr_base.specs.declared.kind.Kind.TheVariants.{Script}
 use Rattle.session_spec.specs.declared.outcome.Outcome.TheVariants as outcome
 use Rattle.session_spec.specs.declared.rule_fault.RuleFault.TheVariants as fault
 use Rattle.dnr_base.specs.declared.scheme.Scheme.TheVariants.{Http}
+use Rattle.dnr_base.specs.declared.method.Method.TheVariants.{Get}
 use Rattle.dnr_spec.specs.declared.status.Status.TheVariants as status
 use Rattle.dnr_spec.specs.declared.view_refusal.ViewRefusal.{ViewRefusal}
 use Rattle.dnr_spec.specs.declared.view_refusal.ViewRefusal.TheVariants.{BadUrl, BadScheme, BadHost}
