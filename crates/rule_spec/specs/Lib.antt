@@ -1,0 +1,6 @@
+pub mod Rule
+pub mod IsRule
+pub mod Holds
+pub mod Reaches
+pub mod State
+pub mod Scan
