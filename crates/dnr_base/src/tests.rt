@@ -182,3 +182,38 @@ fn a_type_has_its_place(rt: HostRuntime) {
         assert_eq!(rt; kind.place(), place);
     }
 }
+
+#[test]
+fn a_copied_redirect_has_equal_parts(rt: HostRuntime) -> Result<(), Fail> {
+    let alloc = rt.alloc();
+    let pair = QueryPair {
+        key: text(alloc, "k")?,
+        value: text(alloc, "v")?,
+        replace_only: true,
+    };
+    let redirect = Redirect::Transform(Transform {
+        scheme: Some(Scheme::Ftp),
+        host: Some(text(alloc, "a.com")?),
+        port: Some(text(alloc, "81")?),
+        path: Some(text(alloc, "/x")?),
+        query: None,
+        query_transform: Some(QueryTransform {
+            remove: Items::build(vec![in alloc; text(alloc, "r")?]?),
+            add: Items::build(vec![in alloc; pair]?),
+        }),
+        fragment: Some(text(alloc, "#f")?),
+        username: Some(text(alloc, "u")?),
+        password: Some(text(alloc, "p")?),
+    });
+    let copy = format!(in alloc; "{:?}", copy_of(alloc, &redirect)?)?;
+    assert_eq!(rt; copy, format!(in alloc; "{redirect:?}")?);
+    for redirect in [
+        Redirect::ExtensionPath(text(alloc, "/p")?),
+        Redirect::Url(text(alloc, "http://u/")?),
+        Redirect::RegexSubstitution(text(alloc, "\\1")?),
+    ] {
+        let copy = format!(in alloc; "{:?}", redirect.copy(alloc)?)?;
+        assert_eq!(rt; copy, format!(in alloc; "{redirect:?}")?);
+    }
+    Ok(())
+}
