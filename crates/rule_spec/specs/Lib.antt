@@ -1,3 +1,4 @@
+pub mod RulePath
 pub mod Rule
 pub mod IsRule
 pub mod Holds

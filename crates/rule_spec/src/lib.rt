@@ -5,7 +5,15 @@
 #![tactic(auto)]
 
 mod outcome;
+mod placed_refusal;
 mod reach;
+mod rule_kind;
+mod rule_path;
+mod rule_refusal;
 
 pub use outcome::Outcome;
+pub use placed_refusal::PlacedRefusal;
 pub use reach::Reach;
+pub use rule_kind::RuleKind;
+pub use rule_path::RulePath;
+pub use rule_refusal::{HeaderCause, RuleRefusal};
