@@ -3,7 +3,7 @@
 use Rattle.std.specs.Prelude.{ℕ, ℤ, List, Bool, true, false, not, ◌&&◌, ◌||◌, Option, Some, None, is_some}
 use Rattle.std.specs.List.{list_any}
 use Rattle.std.specs.Option.{option_map_or}
-use Rattle.std.specs.Int.{int_eq}
+use Rattle.std.specs.Ordering.{int_eq}
 use Rattle.dnr_base.specs.declared.scheme.Scheme.{Scheme}
 use Rattle.dnr_base.specs.declared.scheme.Scheme.TheVariants.{Http, Https}
 use Rattle.dnr_base.specs.declared.method.Method.{Method}

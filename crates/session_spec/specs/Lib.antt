@@ -6,6 +6,9 @@ pub mod Scan
 pub mod Json
 pub mod FileRefusal
 pub mod RuleFile
+pub mod RuleFields
+pub mod RuleAction
+pub mod ReadRule
 pub mod RequestLine
 pub mod Output
 pub mod Words
