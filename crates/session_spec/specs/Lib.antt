@@ -14,3 +14,4 @@ pub mod Output
 pub mod Words
 pub mod Out
 pub mod Examples
+pub mod RuleExamples

@@ -2,7 +2,7 @@
 -- test that fails names the refusal.
 use Rattle.std.specs.Prelude.{◌≡◌, ◌⊎◌, ℕ, ◌+◌, min, List, [], ◌∷◌, ◌++◌, length, codes, filter, Bool, true, false, not, ◌==◌, ◌&&◌, ◌||◌, Option, Some, None, IsSome, is_some, is_none, unwrap_or, option_map, option_and_then, Result, Ok, Err, if◌then◌else◌}
 use Rattle.std.specs.Option.{option_map_or}
-use Rattle.std.specs.Result.{result_unwrap_or}
+use Rattle.std.specs.Result.{result_unwrap_or, result_err}
 use Rattle.std.specs.List.{list_all, list_any}
 use Rattle.std.specs.Str.{bytes_eq}
 use Rattle.serde_json.specs.Data.{Data, null, Items, no_items, item, Members}
