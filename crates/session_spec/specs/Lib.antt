@@ -6,9 +6,13 @@ pub mod Scan
 pub mod Json
 pub mod FileRefusal
 pub mod RuleFile
+pub mod RuleFields
+pub mod RuleAction
+pub mod ReadRule
 pub mod RequestLine
 pub mod Output
 pub mod Words
 pub mod Answers
 pub mod Out
 pub mod Examples
+pub mod RuleExamples

@@ -1,0 +1,82 @@
+-- What every rule keeps, whatever file or list it comes from: Chrome's reference, `Rule`, `RuleCondition` and
+-- `RuleAction`, and the limits of this engine. It speaks of one rule alone.
+use Rattle.std.specs.Prelude.{◌≡◌, ℕ, ◌+◌, ◌<◌, ◌≤◌, List, [], ◌∷◌, length, codes, Bool, true, false, not, ◌&&◌, ◌||◌, IsTrue, IsAscii, IfSome, All, nat_le, nat_eq, Option, Some, None, is_some, is_none, Result, Ok}
+use Rattle.std.specs.List.{list_all, list_any}
+use Rattle.std.specs.Option.{option_map_or}
+use Rattle.dnr_base.specs.declared.kind.Kind.{Kind}
+use Rattle.dnr_base.specs.declared.kind.Kind.TheVariants.{MainFrame, SubFrame}
+use Rattle.dnr_base.specs.declared.redirect.Redirect.{Redirect}
+use Rattle.dnr_base.specs.declared.direction.Direction.{Direction}
+use Rattle.dnr_base.specs.declared.direction.Direction.TheVariants.{Request, Response}
+use Rattle.dnr_base.specs.Kind.{same_kind}
+use Rattle.dnr_spec.specs.UrlFilter.{pattern_of}
+use Rattle.dnr_spec.specs.Patterns.{groups_of}
+use Rattle.dnr_spec.specs.Domains.{domains_of}
+use Rattle.dnr_spec.specs.Headers.{HeaderOp, header_op_of}
+use Rattle.dnr_spec.specs.Target.{IsRedirect}
+use Rattle.rule_spec.specs.Rule.{Condition, Action, block, redirect, allow, upgrade_scheme, modify_headers, allow_all_requests, Rule}
+
+-- ids and priorities are whole numbers from 1 to 2,147,483,647
+abbrev pub max_number : ℕ
+max_number = 2147483647
+
+-- the most bytes of a regexFilter
+abbrev pub max_regex : ℕ
+max_regex = 4096
+
+-- the grammar reads a pattern in the text, which is ASCII, not empty and not too long
+abbrev pub is_regex_filter : List ℕ → Bool
+is_regex_filter text = nat_le 1 (length text) && nat_le (length text) max_regex && list_all (λ b. nat_le b 127) text && is_some (groups_of text)
+
+abbrev pub is_number : ℕ → Bool
+is_number n = nat_le 1 n && nat_le n max_number
+
+-- domains as they are kept: each of a domain's form, in lower case
+abbrev pub AreDomains : List (List ℕ) → Type 0
+AreDomains domains = domains_of domains ≡ Ok domains
+
+-- a list that is given is not empty
+abbrev pub IsGivenWhole : {X : Type 0} → Option (List X) → Type 0
+IsGivenWhole given = IfSome given (λ list. 0 < length list)
+
+pub record IsCondition (condition : Condition) : Type 0 where
+  pub one_filter : IsTrue (is_none condition.url_filter || is_none condition.regex_filter)
+  pub url_filter : IfSome condition.url_filter (λ text. pattern_of text ≡ Ok text)
+  pub regex_filter : IfSome condition.regex_filter (λ text. IsTrue (is_regex_filter text))
+  pub initiators : IsGivenWhole condition.initiators × IfSome condition.initiators AreDomains
+  pub not_initiators : AreDomains condition.not_initiators
+  pub hosts : IsGivenWhole condition.hosts × IfSome condition.hosts AreDomains
+  pub not_hosts : AreDomains condition.not_hosts
+  pub methods : IsGivenWhole condition.methods
+  pub tabs : IsGivenWhole condition.tabs
+
+-- `main_frame` or `sub_frame`
+abbrev pub is_frame_kind : Kind → Bool
+is_frame_kind kind = same_kind kind MainFrame || same_kind kind SubFrame
+
+-- some types, and none but `main_frame` and `sub_frame`
+abbrev pub are_frame_kinds : List Kind → Bool
+are_frame_kinds kinds = nat_le 1 (length kinds) && list_all is_frame_kind kinds
+
+-- an operation as it is kept: reading its parts gives it
+abbrev pub IsOperation : Direction → HeaderOp → Type 0
+IsOperation direction op = header_op_of direction op.name op.operation op.value ≡ Ok op
+
+-- the count of groups of the regexFilter, if there is one
+abbrev pub filter_groups : Condition → Option ℕ
+filter_groups condition = option_map_or groups_of condition.regex_filter None
+
+abbrev pub IsAction : Condition → Action → Type 0
+IsAction condition block = Unit {0}
+IsAction condition (redirect target) = IsRedirect (filter_groups condition) target
+IsAction condition allow = Unit {0}
+IsAction condition upgrade_scheme = Unit {0}
+IsAction condition (modify_headers request response) =
+    (0 < length request + length response) × All (IsOperation Request) request × All (IsOperation Response) response
+IsAction condition allow_all_requests = IsTrue (are_frame_kinds condition.kinds)
+
+pub record IsRule (rule : Rule) : Type 0 where
+  pub id : IsTrue (is_number rule.id)
+  pub priority : IsTrue (is_number rule.priority)
+  pub condition : IsCondition rule.condition
+  pub action : IsAction rule.condition rule.action

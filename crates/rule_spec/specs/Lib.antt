@@ -1,0 +1,7 @@
+pub mod RulePath
+pub mod Rule
+pub mod IsRule
+pub mod Holds
+pub mod Reaches
+pub mod State
+pub mod Scan

@@ -1,0 +1,50 @@
+-- A rule: Chrome's reference of declarativeNetRequest, `Rule`, `RuleCondition` and `RuleAction`.
+use Rattle.std.specs.Prelude.{ℕ, ℤ, List, Bool, Option, Some, None}
+use Rattle.dnr_base.specs.declared.kind.Kind.{Kind}
+use Rattle.dnr_base.specs.declared.method.Method.{Method}
+use Rattle.dnr_base.specs.declared.redirect.Redirect.{Redirect}
+use Rattle.dnr_base.specs.declared.verb.Verb.{Verb}
+use Rattle.dnr_base.specs.declared.verb.Verb.TheVariants as verb
+use Rattle.dnr_spec.specs.Headers.{HeaderOp}
+
+-- When a rule holds. `url_filter` and `regex_filter` are texts of patterns, `kinds` the types on which the rule
+-- holds, and the lists of domains, methods and tabs are taken as sets. A list that is not given is `None`, or
+-- empty where its name begins with `not_`.
+pub record Condition : Type 0 where
+  pub url_filter : Option (List ℕ)
+  pub regex_filter : Option (List ℕ)
+  pub case_sensitive : Bool
+  pub initiators : Option (List (List ℕ))
+  pub not_initiators : List (List ℕ)
+  pub hosts : Option (List (List ℕ))
+  pub not_hosts : List (List ℕ)
+  pub third_party : Option Bool
+  pub kinds : List Kind
+  pub methods : Option (List Method)
+  pub not_methods : List Method
+  pub tabs : Option (List ℤ)
+  pub not_tabs : List ℤ
+
+-- what a rule does; `modify_headers` has the operations on request headers, then those on response headers
+pub data Action : Type 0 where
+  block : Action
+  redirect : Redirect → Action
+  allow : Action
+  upgrade_scheme : Action
+  modify_headers : List HeaderOp → List HeaderOp → Action
+  allow_all_requests : Action
+
+pub record Rule : Type 0 where
+  pub id : ℕ
+  pub priority : ℕ
+  pub condition : Condition
+  pub action : Action
+
+-- the verdict that a rule may give, if it gives one
+abbrev pub verb_of : Action → Option Verb
+verb_of block = Some verb.Block
+verb_of (redirect target) = Some verb.Redirect
+verb_of allow = Some verb.Allow
+verb_of upgrade_scheme = Some verb.UpgradeScheme
+verb_of (modify_headers request response) = None
+verb_of allow_all_requests = Some verb.AllowAllRequests

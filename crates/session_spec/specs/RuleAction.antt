@@ -1,0 +1,354 @@
+-- The action of a rule as it stands in a JSON object: Chrome's reference of declarativeNetRequest, `RuleAction`,
+-- `Redirect`, `URLTransform` and `ModifyHeaderInfo`.
+use Rattle.std.specs.Prelude.{ℕ, ◌+◌, ◌-◌, ◌*◌, List, [], ◌∷◌, length, codes, fold, slice_index, slice_range, Bool, true, false, not, ◌==◌, ◌&&◌, ◌||◌, nat_le, nat_eq, Option, Some, None, is_some, is_none, option_map, option_and_then, Result, Ok, Err, if◌then◌else◌}
+use Rattle.std.specs.Option.{option_map_or}
+use Rattle.std.specs.Result.{result_unwrap_or, is_ok}
+use Rattle.std.specs.List.{list_all, list_any, starts_with}
+use Rattle.std.specs.Char.{is_ascii_digit}
+use Rattle.std.specs.Str.{bytes_eq, str_to_ascii_lowercase}
+use Rattle.url.specs.Parts.{Parts}
+use Rattle.serde_json.specs.Data.{Data, Items, no_items, item, null, boolean, number, string, array, object}
+use Rattle.serde_json.specs.Find.{get, as_str, as_bool, as_array, as_object}
+use Rattle.dnr_base.specs.declared.direction.Direction.{Direction}
+use Rattle.dnr_base.specs.declared.direction.Direction.TheVariants as direction
+use Rattle.dnr_base.specs.declared.operation.Operation.{Operation}
+use Rattle.dnr_base.specs.declared.operation.Operation.TheVariants.{Append, Set, Remove}
+use Rattle.dnr_base.specs.declared.scheme.Scheme.{Scheme}
+use Rattle.dnr_base.specs.declared.scheme.Scheme.TheVariants.{Http, Https, Ws, Wss, Ftp, ChromeExtension}
+use Rattle.dnr_base.specs.Scheme.{scheme_named}
+use Rattle.dnr_base.specs.declared.redirect.Redirect.{Redirect}
+use Rattle.dnr_base.specs.declared.redirect.Redirect.TheVariants as redirect
+use Rattle.dnr_base.specs.declared.transform.Transform.{Transform}
+use Rattle.dnr_base.specs.declared.query_transform.QueryTransform.{QueryTransform}
+use Rattle.dnr_base.specs.declared.query_pair.QueryPair.{QueryPair}
+use Rattle.dnr_spec.specs.declared.header_refusal.HeaderRefusal.{HeaderRefusal}
+use Rattle.dnr_spec.specs.Headers.{HeaderOp, header_op_of}
+use Rattle.dnr_spec.specs.Domains.{is_address, is_label_byte}
+use Rattle.dnr_spec.specs.Substitution.{substitution_of}
+use Rattle.dnr_spec.specs.Target.{url_of}
+use Rattle.rule_spec.specs.declared.rule_refusal.RuleRefusal.{RuleRefusal}
+use Rattle.rule_spec.specs.declared.rule_refusal.RuleRefusal.TheVariants.{BadAction, BadRedirect, BadTransform, BadHeader}
+use Rattle.rule_spec.specs.declared.rule_refusal.HeaderCause.{HeaderCause}
+use Rattle.rule_spec.specs.declared.rule_refusal.HeaderCause.TheVariants.{NoHeaders, BadShape, Op}
+use Rattle.rule_spec.specs.Rule.{Action, block, redirect, allow, upgrade_scheme, modify_headers, allow_all_requests}
+use Rattle.session_spec.specs.Json.{text_at}
+use Rattle.session_spec.specs.RuleFields.{first_refusal, refused_if, refusal_in, unless_refused, each, list_of, as_texts}
+
+-- ---- transforms
+
+-- the most bytes of a text of a redirect
+abbrev pub max_text : ℕ
+max_text = 8192
+
+abbrev pub is_short : List ℕ → Bool
+is_short text = nat_le (length text) max_text
+
+-- a text that is short and passes this test
+abbrev pub tested_text : (List ℕ → Bool) → Data → Option (List ℕ)
+tested_text test d = option_and_then (λ text. if is_short text && test text then Some text else None) (as_str d)
+
+abbrev pub short_text : Data → Option (List ℕ)
+short_text d = tested_text (λ text. true) d
+
+-- letters, digits, `-`, `.` and `_`, or an address between brackets
+abbrev pub is_new_host : List ℕ → Bool
+is_new_host text = is_address text || (nat_le 1 (length text) && list_all (λ b. is_label_byte b || b == 46) text)
+
+-- the number that decimal digits are
+abbrev pub number_in : List ℕ → ℕ
+number_in digits = fold (λ n b. 10 * n + (b - 48)) 0 digits
+
+-- empty, or a port
+abbrev pub is_new_port : List ℕ → Bool
+is_new_port text = nat_le (length text) 5 && list_all is_ascii_digit text && nat_le (number_in text) 65535
+
+abbrev pub has_byte : ℕ → List ℕ → Bool
+has_byte b text = list_any (λ other. b == other) text
+
+-- without `?` and `#`
+abbrev pub is_new_path : List ℕ → Bool
+is_new_path text = not (has_byte 63 text) && not (has_byte 35 text)
+
+-- empty, or begins with this byte
+abbrev pub begins_with : ℕ → List ℕ → Bool
+begins_with b [] = true
+begins_with b (first ∷ rest) = first == b
+
+abbrev pub is_new_query : List ℕ → Bool
+is_new_query text = begins_with 63 text && not (has_byte 35 text)
+
+abbrev pub is_new_fragment : List ℕ → Bool
+is_new_fragment text = begins_with 35 text
+
+-- the schemes that a transform may give
+abbrev pub is_new_scheme : Scheme → Bool
+is_new_scheme Http = true
+is_new_scheme Https = true
+is_new_scheme Ws = false
+is_new_scheme Wss = false
+is_new_scheme Ftp = true
+is_new_scheme ChromeExtension = true
+
+abbrev pub new_scheme : List ℕ → Option Scheme
+new_scheme name = option_and_then (λ scheme. if is_new_scheme scheme then Some scheme else None) (scheme_named name)
+
+abbrev pub as_new_scheme : Data → Option Scheme
+as_new_scheme d = option_and_then new_scheme (as_str d)
+
+-- the list at a key; an absent one is empty
+abbrev pub list_from : {X : Type 0} → (Data → Option X) → Option Data → Option (List X)
+list_from form None = Some []
+list_from form (Some d) = list_of form d
+
+-- `replaceOnly` is false where it is absent
+abbrev pub flag_from : Option Data → Option Bool
+flag_from None = Some false
+flag_from (Some d) = as_bool d
+
+abbrev pub pair_from : Option (List ℕ) → Option (List ℕ) → Option Bool → Option QueryPair
+pair_from (Some key) (Some value) (Some replace_only) = Some (record { key = key; value = value; replace_only = replace_only })
+pair_from key value replace_only = None
+
+abbrev pub as_pair : Data → Option QueryPair
+as_pair d =
+    pair_from (option_and_then short_text (get (codes "key") d)) (option_and_then short_text (get (codes "value") d))
+    (flag_from (get (codes "replaceOnly") d))
+
+-- the most entries of the two lists together
+abbrev pub max_entries : ℕ
+max_entries = 1024
+
+abbrev pub changes_from : Option (List (List ℕ)) → Option (List QueryPair) → Option QueryTransform
+changes_from (Some remove) (Some add) =
+    if nat_le (length remove + length add) max_entries then Some (record { remove = remove; add = add }) else None
+changes_from remove add = None
+
+-- the changes that an object lists
+abbrev pub as_changes : Data → Option QueryTransform
+as_changes d =
+    if is_some (as_object d)
+    then changes_from (list_from short_text (get (codes "removeParams") d)) (list_from as_pair (get (codes "addOrReplaceParams") d))
+    else None
+
+abbrev pub given_part : {X : Type 0} → Option X → Result (Option X) RuleRefusal
+given_part None = Err BadTransform
+given_part (Some x) = Ok (Some x)
+
+-- a field that is absent is none, and one of another form is refused
+abbrev pub part_from : {X : Type 0} → (Data → Option X) → Option Data → Result (Option X) RuleRefusal
+part_from form None = Ok None
+part_from form (Some d) = given_part (form d)
+
+-- a field of a transform
+unfoldable pub part_in : {X : Type 0} → (Data → Option X) → List ℕ → Data → Result (Option X) RuleRefusal
+part_in form key d = part_from form (get key d)
+
+abbrev pub part_of : {X : Type 0} → Result (Option X) RuleRefusal → Option X
+part_of reading = result_unwrap_or reading None
+
+abbrev pub transform_tests : Data → List (Option RuleRefusal)
+transform_tests d =
+      refused_if (is_none (as_object d)) BadTransform
+    ∷ refusal_in (part_in as_new_scheme (codes "scheme") d)
+    ∷ refusal_in (part_in (tested_text is_new_host) (codes "host") d)
+    ∷ refusal_in (part_in (tested_text is_new_port) (codes "port") d)
+    ∷ refusal_in (part_in (tested_text is_new_path) (codes "path") d)
+    ∷ refusal_in (part_in (tested_text is_new_query) (codes "query") d)
+    ∷ refusal_in (part_in as_changes (codes "queryTransform") d)
+    ∷ refused_if (is_some (get (codes "query") d) && is_some (get (codes "queryTransform") d)) BadTransform
+    ∷ refusal_in (part_in (tested_text is_new_fragment) (codes "fragment") d)
+    ∷ refusal_in (part_in short_text (codes "username") d)
+    ∷ refusal_in (part_in short_text (codes "password") d)
+    ∷ []
+
+-- letters of a host are read in lower case
+abbrev pub transform_of : Data → Transform
+transform_of d = record {
+  scheme = part_of (part_in as_new_scheme (codes "scheme") d);
+  host = option_map str_to_ascii_lowercase (part_of (part_in (tested_text is_new_host) (codes "host") d));
+  port = part_of (part_in (tested_text is_new_port) (codes "port") d);
+  path = part_of (part_in (tested_text is_new_path) (codes "path") d);
+  query = part_of (part_in (tested_text is_new_query) (codes "query") d);
+  query_transform = part_of (part_in as_changes (codes "queryTransform") d);
+  fragment = part_of (part_in (tested_text is_new_fragment) (codes "fragment") d);
+  username = part_of (part_in short_text (codes "username") d);
+  password = part_of (part_in short_text (codes "password") d);
+}
+
+-- a transform, unless a field breaks its form
+unfoldable pub transform_in : Data → Result Transform RuleRefusal
+transform_in d = unless_refused (first_refusal (transform_tests d)) (transform_of d)
+
+-- ---- redirects
+
+-- a path inside an extension
+abbrev pub is_extension_path : List ℕ → Bool
+is_extension_path text = starts_with nat_eq text (codes "/")
+
+-- the most bytes of a URL that a rule leads to
+abbrev pub max_url : ℕ
+max_url = 65536
+
+abbrev pub is_no_script : Parts → Bool
+is_no_script url = not (bytes_eq url.scheme (codes "javascript"))
+
+-- the URL Standard reads it, and it is no script
+abbrev pub is_redirect_url : List ℕ → Bool
+is_redirect_url text = nat_le (length text) max_url && option_map_or is_no_script (url_of text) false
+
+-- a substitution needs a regexFilter, and names groups up to its count
+abbrev pub is_substitution : Option ℕ → List ℕ → Bool
+is_substitution None text = false
+is_substitution (Some groups) text = is_ok (substitution_of text groups)
+
+abbrev pub or_bad_redirect : Option Redirect → Result Redirect RuleRefusal
+or_bad_redirect None = Err BadRedirect
+or_bad_redirect (Some target) = Ok target
+
+abbrev pub if_passes : (List ℕ → Bool) → List ℕ → Option (List ℕ)
+if_passes test text = if test text then Some text else None
+
+unfoldable pub extension_in : Data → Result Redirect RuleRefusal
+extension_in d = or_bad_redirect (option_map redirect.ExtensionPath (tested_text is_extension_path d))
+
+unfoldable pub url_in : Data → Result Redirect RuleRefusal
+url_in d = or_bad_redirect (option_map redirect.Url (option_and_then (if_passes is_redirect_url) (as_str d)))
+
+unfoldable pub substitution_in : Option ℕ → Data → Result Redirect RuleRefusal
+substitution_in groups d =
+    or_bad_redirect (option_map redirect.RegexSubstitution (option_and_then (if_passes (is_substitution groups)) (as_str d)))
+
+abbrev pub transformed_by : Result Transform RuleRefusal → Result Redirect RuleRefusal
+transformed_by (Ok transform) = Ok (redirect.Transform transform)
+transformed_by (Err refusal) = Err refusal
+
+-- of the fields `extensionPath`, `transform`, `url` and `regexSubstitution` exactly one is given
+abbrev pub redirect_from : Option ℕ → Option Data → Option Data → Option Data → Option Data → Result Redirect RuleRefusal
+redirect_from groups (Some path) None None None = extension_in path
+redirect_from groups None (Some transform) None None = transformed_by (transform_in transform)
+redirect_from groups None None (Some url) None = url_in url
+redirect_from groups None None None (Some text) = substitution_in groups text
+redirect_from groups path transform url text = Err BadRedirect
+
+abbrev pub redirect_of : Option ℕ → Data → Result Redirect RuleRefusal
+redirect_of groups d =
+    redirect_from groups (get (codes "extensionPath") d) (get (codes "transform") d) (get (codes "url") d)
+    (get (codes "regexSubstitution") d)
+
+abbrev pub redirect_at : Option ℕ → Option Data → Result Redirect RuleRefusal
+redirect_at groups None = Err BadRedirect
+redirect_at groups (Some d) = redirect_of groups d
+
+abbrev pub redirecting : Result Redirect RuleRefusal → Result Action RuleRefusal
+redirecting (Ok target) = Ok (redirect target)
+redirecting (Err refusal) = Err refusal
+
+-- `groups` is the count of groups of the rule's regexFilter, if it has one
+unfoldable pub redirect_in : Option ℕ → Data → Result Redirect RuleRefusal
+redirect_in groups action = redirect_at groups (get (codes "redirect") action)
+
+-- ---- header changes
+
+-- a change as it stands in the list
+pub record Change : Type 0 where
+  pub header : List ℕ
+  pub operation : Operation
+  pub value : Option (List ℕ)
+
+abbrev pub operation_named : List ℕ → Option Operation
+operation_named name =
+    if bytes_eq name (codes "append") then Some Append
+    else (if bytes_eq name (codes "set") then Some Set
+    else (if bytes_eq name (codes "remove") then Some Remove else None))
+
+-- a value that is absent is none
+abbrev pub value_from : Option Data → Option (Option (List ℕ))
+value_from None = Some None
+value_from (Some d) = option_map Some (as_str d)
+
+abbrev pub change_from : Option (List ℕ) → Option Operation → Option (Option (List ℕ)) → Option Change
+change_from (Some header) (Some operation) (Some value) = Some (record { header = header; operation = operation; value = value })
+change_from header operation value = None
+
+abbrev pub as_change : Data → Option Change
+as_change d =
+    change_from (text_at (codes "header") d) (option_and_then operation_named (text_at (codes "operation") d))
+    (value_from (get (codes "value") d))
+
+-- the changes of a list, in their shape alone
+unfoldable pub changes_at : Option Data → Option (List Change)
+changes_at list = list_from as_change list
+
+abbrev pub read_change : Direction → Change → Result HeaderOp HeaderRefusal
+read_change direction change = header_op_of direction change.header change.operation change.value
+
+-- an operation before the others, or the first that is refused
+abbrev pub with_op : Result HeaderOp HeaderRefusal → Result (List HeaderOp) HeaderRefusal → Result (List HeaderOp) HeaderRefusal
+with_op (Err refusal) rest = Err refusal
+with_op (Ok op) (Err refusal) = Err refusal
+with_op (Ok op) (Ok ops) = Ok (op ∷ ops)
+
+abbrev pub ops_of : Direction → List Change → Result (List HeaderOp) HeaderRefusal
+ops_of direction [] = Ok []
+ops_of direction (change ∷ changes) = with_op (read_change direction change) (ops_of direction changes)
+
+abbrev pub or_bad_op : Result (List HeaderOp) HeaderRefusal → Result (List HeaderOp) RuleRefusal
+or_bad_op (Ok ops) = Ok ops
+or_bad_op (Err refusal) = Err (BadHeader (Op refusal))
+
+-- the operations of the changes, or the first that is refused
+unfoldable pub ops_in : Direction → List Change → Result (List HeaderOp) RuleRefusal
+ops_in direction changes = or_bad_op (ops_of direction changes)
+
+abbrev pub is_no_item : Items → Bool
+is_no_item no_items = true
+is_no_item (item d items) = false
+
+-- absent, or a list without items
+abbrev pub is_empty_list : Option Data → Bool
+is_empty_list None = true
+is_empty_list (Some d) = option_map_or is_no_item (as_array d) false
+
+abbrev pub modifying : Result (List HeaderOp) RuleRefusal → Result (List HeaderOp) RuleRefusal → Result Action RuleRefusal
+modifying (Err refusal) response = Err refusal
+modifying (Ok request) (Err refusal) = Err refusal
+modifying (Ok request) (Ok response) = Ok (modify_headers request response)
+
+-- both lists have their shape before an operation is tested, the request's first
+abbrev pub modify_from : Option (List Change) → Option (List Change) → Result Action RuleRefusal
+modify_from (Some request) (Some response) = modifying (ops_in direction.Request request) (ops_in direction.Response response)
+modify_from request response = Err (BadHeader BadShape)
+
+unfoldable pub modify_in : Data → Result Action RuleRefusal
+modify_in action =
+    if is_empty_list (get (codes "requestHeaders") action) && is_empty_list (get (codes "responseHeaders") action)
+    then Err (BadHeader NoHeaders)
+    else modify_from (changes_at (get (codes "requestHeaders") action)) (changes_at (get (codes "responseHeaders") action))
+
+-- ---- the action
+
+-- the action of this type
+abbrev pub action_named : Option ℕ → Data → List ℕ → Result Action RuleRefusal
+action_named groups action name =
+    if bytes_eq name (codes "block") then Ok block
+    else (if bytes_eq name (codes "redirect") then redirecting (redirect_in groups action)
+    else (if bytes_eq name (codes "allow") then Ok allow
+    else (if bytes_eq name (codes "upgradeScheme") then Ok upgrade_scheme
+    else (if bytes_eq name (codes "modifyHeaders") then modify_in action
+    else (if bytes_eq name (codes "allowAllRequests") then Ok allow_all_requests
+    else Err BadAction)))))
+
+-- what stands under `type`
+abbrev pub type_of : Option Data → Option (List ℕ)
+type_of action = option_and_then (text_at (codes "type")) action
+
+abbrev pub or_bad_action : (List ℕ → Result Action RuleRefusal) → Option (List ℕ) → Result Action RuleRefusal
+or_bad_action named None = Err BadAction
+or_bad_action named (Some name) = named name
+
+abbrev pub action_from : Option ℕ → Option Data → Result Action RuleRefusal
+action_from groups None = Err BadAction
+action_from groups (Some action) = or_bad_action (λ name. action_named groups action name) (text_at (codes "type") action)
+
+unfoldable pub action_in : Option ℕ → Option Data → Result Action RuleRefusal
+action_in groups action = action_from groups action
