@@ -4,16 +4,24 @@
 #![tactic(auto)]
 
 mod copied;
+mod fault;
+mod frame;
+mod header;
 mod items;
 mod kind;
 mod kind_set;
+mod method;
 mod no_memory;
+mod part;
+mod plan;
 mod query_pair;
 mod query_transform;
 mod redirect;
 mod request;
+mod rule_name;
 mod scheme;
 mod span;
+mod steps;
 #[cfg(test)]
 mod tests;
 mod text;
@@ -21,16 +29,24 @@ mod transform;
 mod view;
 
 pub use copied::Copied;
+pub use fault::{Failed, count_fault};
+pub use frame::Frame;
+pub use header::Header;
 pub use items::Items;
 pub use kind::Kind;
 pub use kind_set::KindSet;
+pub use method::Method;
 pub use no_memory::NoMemory;
+pub use part::Part;
+pub use plan::Plan;
 pub use query_pair::QueryPair;
 pub use query_transform::QueryTransform;
 pub use redirect::Redirect;
 pub use request::Request;
+pub use rule_name::RuleName;
 pub use scheme::Scheme;
 pub use span::Span;
+pub use steps::Steps;
 pub use text::Text;
 pub use transform::Transform;
 pub use view::View;

@@ -4,6 +4,5 @@ pub mod Transform
 pub mod Target
 pub mod Lines
 pub mod Status
-pub mod Faults
 pub mod Patterns
 pub mod Substitution

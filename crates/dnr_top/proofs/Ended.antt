@@ -2,10 +2,10 @@
 use Rattle.std.proofs.Common.{◌≡◌, ℕ, List, [], Option, Some, None, refl, sym, ap, ◌∙◌, inl, inr, append-nil, subst}
 use Rattle.std.specs.Prelude.{IfSome}
 use Rattle.std.specs.Io.KnownBytes.{Appends}
-use Rattle.dnr_io.specs.Faults.{Rose}
+use Rattle.dnr_base.specs.Faults.{Rose}
 use Rattle.dnr_spec.specs.declared.status.Status.{Status}
 use Rattle.dnr_spec.specs.declared.status.Status.TheVariants.{Done, Refused, Usage, ReadFault, WriteFault, NoMemory, FileTooLong}
-use Rattle.dnr_spec.specs.Faults.{Count}
+use Rattle.dnr_base.specs.Faults.{Count}
 use Rattle.session_spec.specs.FileRefusal.{FileRefusal}
 use Rattle.session_spec.specs.Rule.{Rule}
 use Rattle.session_spec.specs.Words.{Task}

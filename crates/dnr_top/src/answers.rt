@@ -1,7 +1,7 @@
 // The answers to the lines of a script.
 ghost use Rattle.std.specs.Prelude.{◌≡◌, ◌++◌, OnOk, OnErr, option_map, string_bytes};
 ghost use Rattle.std.specs.Io.KnownBytes.{Appends};
-ghost use Rattle.dnr_io.specs.Faults.{HasCause, HasCauseOf};
+ghost use Rattle.dnr_base.specs.Faults.{HasCause, HasCauseOf};
 ghost use Rattle.dnr_io.specs.Sink.{AppendsPart};
 ghost use Rattle.dnr_spec.specs.Lines as lines;
 ghost use Rattle.session_spec.specs.Out.{opening, reply, reply_to, replies};
@@ -98,7 +98,7 @@ fn answer(
     if is_blank(line) {
         return Ok(());
     }
-    let request = read_request(alloc, line)?;
+    let request = read_request(alloc, number, line)?;
     write_reply(alloc, rules, number, &request, into)
 }
 

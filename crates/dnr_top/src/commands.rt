@@ -1,7 +1,7 @@
 // The commands: what is read, answered and written, in order.
 ghost use Rattle.std.specs.Prelude.{◌≡◌, ◌≢◌, ◌↔◌, ℕ, List, [], None, map, IfSome, OnOk, OnErr, string_bytes};
 ghost use Rattle.std.specs.Io.KnownBytes.{Appends};
-ghost use Rattle.dnr_io.specs.Faults.{Rose, HasCauseOf};
+ghost use Rattle.dnr_base.specs.Faults.{Rose, HasCauseOf};
 ghost use Rattle.dnr_io.specs.Sink.{AppendsPart};
 ghost use Rattle.dnr_spec.specs.declared.status.Status.TheVariants as status;
 ghost use Rattle.session_spec.specs.Out.{Out, Ends};

@@ -1,6 +1,6 @@
 // What a command reads before it answers.
 ghost use Rattle.std.specs.Prelude.{◌≡◌, ◌≤◌, IfOk, IfErr, IfSome, OnOk, IsErrOf};
-ghost use Rattle.dnr_io.specs.Faults.{HasCauseOf};
+ghost use Rattle.dnr_base.specs.Faults.{HasCauseOf};
 ghost use Rattle.session_spec.specs.Out.{HoldsRules};
 ghost use Rattle.session_spec.specs.RuleFile.{HaveOwnIds};
 ghost use Rattle.dnr_top.specs.Rule.{rules_seen};

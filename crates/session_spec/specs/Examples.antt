@@ -19,7 +19,7 @@ use Rattle.dnr_base.specs.declared.request.Request.{Request}
 use Rattle.session_spec.specs.State.{RuleSet, State}
 use Rattle.session_spec.specs.Scan.{scan}
 use Rattle.session_spec.specs.Output.{refusal_line}
-use Rattle.dnr_spec.specs.Faults.{Count}
+use Rattle.dnr_base.specs.Faults.{Count}
 use Rattle.session_spec.specs.Words.{task_of}
 use Rattle.session_spec.specs.Out.{Files, opening, replies, Out}
 
@@ -231,8 +231,15 @@ state_of older newer = record {
 -- a request of type `script` to `http://x/`
 abbrev pub script_request : Request
 script_request = record {
+  line = 1;
   view = record { full = codes "http://x/"; cut = 9; scheme = Http; host = record { start = 7; end = 8 } };
+  initiator = None;
   kind = Script;
+  method = Get;
+  tab = negsuc 0;
+  frames = [];
+  request_headers = None;
+  response_headers = None;
 }
 
 -- Across extensions `block` prevails, whatever the priorities and which is newer.

@@ -12,7 +12,7 @@ use Rattle.session_spec.specs.RequestLine.{request_of}
 use Rattle.session_spec.specs.State.{Extension, State}
 use Rattle.session_spec.specs.Scan.{scan}
 use Rattle.session_spec.specs.Output.{verdict_line, bad_line, refusal_line}
-use Rattle.dnr_spec.specs.Faults.{Rose, Count}
+use Rattle.dnr_base.specs.Faults.{Rose, Count}
 use Rattle.session_spec.specs.Words.{Task, task_of}
 
 -- what each name holds, if there is a file of that name
@@ -33,7 +33,7 @@ reply_to state line (Some request) = verdict_line line state.count (scan state r
 
 -- a blank line prints nothing
 abbrev pub reply : State → ℕ → List ℕ → List ℕ
-reply state number line = if is_blank line then [] else reply_to state number (request_of line)
+reply state number line = if is_blank line then [] else reply_to state number (request_of number line)
 
 -- the replies to the lines, which are numbered from this one on
 abbrev pub replies : State → ℕ → List (List ℕ) → List ℕ
