@@ -1,6 +1,6 @@
 -- Where a redirect or an upgrade leads: Chrome's reference of declarativeNetRequest, `Redirect` and
 -- `RuleActionType.upgradeScheme`. URLs are read and written by the URL Standard (4.4, 4.5).
-use Rattle.std.specs.Prelude.{ℕ, Bool, true, false, not, ◌&&◌, nat_le, List, ◌++◌, length, take, drop, slice_index_or, codes, Option, Some, None, option_map, option_and_then, if◌then◌else◌}
+use Rattle.std.specs.Prelude.{⊤, ℕ, Bool, true, false, not, ◌&&◌, nat_le, List, ◌++◌, length, take, drop, slice_index_or, codes, Option, Some, None, option_map, option_and_then, if◌then◌else◌}
 use Rattle.std.specs.Result.{result_ok}
 use Rattle.std.specs.Str.{bytes_eq}
 use Rattle.url.specs.Parser.{parse_url}
@@ -12,6 +12,7 @@ use Rattle.dnr_base.specs.declared.scheme.Scheme.TheVariants.{Http, Https, Ws, W
 use Rattle.dnr_base.specs.declared.span.Span.{Span}
 use Rattle.dnr_base.specs.declared.transform.Transform.{Transform}
 use Rattle.dnr_base.specs.View.{View, text_of}
+use Rattle.dnr_spec.specs.Patterns.{ArePlacesIn}
 use Rattle.dnr_spec.specs.Substitution.{Piece, substitution_of, expansion}
 use Rattle.dnr_spec.specs.Transform.{transformed_text}
 
@@ -53,6 +54,13 @@ new_text (redirect.ExtensionPath path) name view places = Some (extension_text n
 new_text (redirect.Transform transform) name view places = transform_text transform view.full
 new_text (redirect.Url url) name view places = Some url
 new_text (redirect.RegexSubstitution text) name view places = substituted_text text (text_of view) places
+
+-- what a redirect needs of the places: a substitution takes those of a match in the view's text
+abbrev pub HasPlaces : Redirect → View → List (Option Span) → Type 0
+HasPlaces (redirect.ExtensionPath path) view places = ⊤
+HasPlaces (redirect.Transform transform) view places = ⊤
+HasPlaces (redirect.Url url) view places = ⊤
+HasPlaces (redirect.RegexSubstitution text) view places = ArePlacesIn (text_of view) places
 
 -- ---- the target
 

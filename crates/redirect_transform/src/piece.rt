@@ -1,12 +1,10 @@
-ghost use Rattle.std.specs.Prelude.{◌≡◌, IfOk, map, filter, string_bytes};
+ghost use Rattle.std.specs.Prelude.{◌≡◌, ◌==◌, IfOk, map, string_bytes};
 ghost use Rattle.std.specs.List.{slice_split};
-ghost use Rattle.std.specs.Prelude.{◌==◌};
 ghost use Rattle.dnr_spec.specs.Transform as spec;
 
-use crate::counts::counted;
-use dnr_base::{NoMemory, Text};
+use dnr_base::NoMemory;
 use form_urlencoded::decode;
-use std::alloc::Global;
+use std::alloc::{AllocError, Global};
 
 /// A piece of a query that stays text, with its decoded key.
 #[derive(Drop)]
@@ -40,10 +38,10 @@ fn key_of(alloc: Global, piece: &str) -> Result<String, NoMemory>
 
 /// What stands between the `&` of a query.
 ///
-/// `NoMemory`: no memory is left for the list.
-pub fn split_pieces(alloc: Global, query: &str) -> Result<Vec<&str>, NoMemory>
+/// `AllocError`: no memory is left for the list.
+pub fn split_pieces(alloc: Global, query: &str) -> Result<Vec<&str>, AllocError>
     ensures { IfOk result (λ pieces.
         map (λ piece. piece.now) pieces.items ≡ slice_split (λ b. b == 38) query.now) }
 {
-    Ok(query.split('&').collect(alloc)?)
+    query.split('&').collect(alloc)
 }

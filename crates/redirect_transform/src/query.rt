@@ -1,4 +1,4 @@
-ghost use Rattle.std.specs.Prelude.{◌≡◌, ℕ, List, [], IfOk, OnOk, string_bytes};
+ghost use Rattle.std.specs.Prelude.{◌≡◌, ◌&&◌, ℕ, List, [], IfOk, OnOk, nat_le, not, string_bytes};
 ghost use Rattle.dnr_spec.specs.Transform as spec;
 ghost use Rattle.redirect_transform.specs.Counter.{count_of};
 ghost use Rattle.redirect_transform.specs.Piece.{texts_of};
@@ -68,11 +68,19 @@ fn push_left_over(
 {
     let mut before = Counter::new(alloc);
     for pair in pairs {
-        let key = pair.key.as_str();
-        if counts.count(key) <= before.count(key) && !pair.replace_only {
+        if is_appended(counts, &before, pair) {
             push_pair(alloc, query, pair)?;
         }
-        before.add(alloc, key)?;
+        before.add(alloc, pair.key.as_str())?;
     }
     Ok(())
+}
+
+// As many pairs of its key stand before the pair as there are pieces, and it does not only replace.
+fn is_appended(counts: &Counter, before: &Counter, pair: &QueryPair) -> bool
+    ensures { result ≡ (nat_le (count_of counts.now pair.now.key) (count_of before.now pair.now.key)
+        && not pair.now.replace_only) }
+{
+    let key = pair.key.as_str();
+    counts.count(key) <= before.count(key) && !pair.replace_only
 }

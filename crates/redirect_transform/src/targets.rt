@@ -1,9 +1,11 @@
-ghost use Rattle.std.specs.Prelude.{◌≡◌, ◌++◌, List, IfOk, string_bytes, option_map, codes};
-ghost use Rattle.url.specs.Parts.{Parts};
+ghost use Rattle.std.specs.Prelude.{◌≡◌, IfOk, IsAscii, string_bytes, option_map};
+ghost use Rattle.dnr_spec.specs.Patterns.{ArePlacesIn};
 ghost use Rattle.dnr_spec.specs.Target as spec;
 
 use crate::parts::UrlParts;
 use dnr_base::{NoMemory, Redirect, Scheme, Span, Text, Transform, View};
+use dnr_spec::SubstitutionRefusal;
+use regex_host::Substitution;
 use std::alloc::Global;
 use url::{ParseError, Url};
 
@@ -24,6 +26,7 @@ pub fn target(
     view: &View,
     spans: &[Option<Span>; 10],
 ) -> Result<Option<Text>, NoMemory>
+    requires { spec.HasPlaces redirect.now view.now spans.now }
     ensures { IfOk result (λ target. target ≡ spec.target_of redirect.now ext.now view.now spans.now) }
 {
     match redirect {
@@ -33,7 +36,12 @@ pub fn target(
         }
         Redirect::Transform(transform) => transform_target(alloc, transform, view),
         Redirect::Url(url) => target_in(alloc, url.as_str(), view),
-        Redirect::RegexSubstitution(_) => Ok(None),
+        Redirect::RegexSubstitution(substitution) => {
+            match substituted_text(alloc, substitution.as_str(), view.text(), spans)? {
+                Some(text) => target_in(alloc, text.as_str(), view),
+                None => Ok(None),
+            }
+        }
     }
 }
 
@@ -87,6 +95,33 @@ fn extension_text(alloc: Global, ext: &str, path: &str) -> Result<String, NoMemo
     text.push_str(ext)?;
     text.push_str(path)?;
     Ok(text)
+}
+
+// A rule's substitution names no group that its pattern lacks; here each of `\0` to `\9` is read.
+fn substituted_text(
+    alloc: Global,
+    substitution: &str,
+    text: &str,
+    spans: &[Option<Span>; 10],
+) -> Result<Option<String>, NoMemory>
+    requires ascii { IsAscii text.now }
+    requires places { ArePlacesIn text.now spans.now }
+    ensures { IfOk result (λ new.
+        option_map string_bytes new ≡ spec.substituted_text substitution.now text.now spans.now) }
+{
+    let pieces = match Substitution::read(alloc, substitution, 9) {
+        Ok(pieces) => pieces,
+        Err(SubstitutionRefusal::NoMemory) => return Err(NoMemory),
+        Err(SubstitutionRefusal::BadSubstitution) => return Ok(None),
+    };
+    let Some(place) = spans[0] else {
+        return Ok(None);
+    };
+    let expanded = pieces.expand(alloc, text, spans)?;
+    let mut new = String::from_str(alloc, &text[..place.start])?;
+    new.push_str(expanded.as_str())?;
+    new.push_str(&text[place.end..])?;
+    Ok(Some(new))
 }
 
 fn target_in(alloc: Global, text: &str, view: &View) -> Result<Option<Text>, NoMemory>
