@@ -1,0 +1,5 @@
+pub mod Matching
+pub mod Tables
+pub mod Cuts
+pub mod Words
+pub mod White
