@@ -3,3 +3,4 @@ pub mod Tables
 pub mod Cuts
 pub mod Words
 pub mod White
+pub mod Rules

@@ -55,8 +55,8 @@ kept_star label read star h =
 
 read_by : (star ascii : Bool) (label read : List ℕ) → bytes_eq label (codes "*") ≡ star → cond star (Some label) (cond ascii (if_plain (str_to_ascii_lowercase label)) (option_and_then if_plain (domain_to_ascii EMPTY label))) ≡ Some read → HasNoDot read
 read_by true ascii label read e h = kept_star label read e h
-read_by false true label read e h = if_plain-no_dot _ read h
-read_by false false label read e h = converted-no_dot _ read h
+read_by false true label read e h = if_plain-no_dot (str_to_ascii_lowercase label) read h
+read_by false false label read e h = converted-no_dot (domain_to_ascii EMPTY label) read h
 
 pub read_label-no_dot : (label read : List ℕ) → read_label label ≡ Some read → HasNoDot read
 unfolding read_label
