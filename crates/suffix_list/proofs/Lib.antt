@@ -4,3 +4,4 @@ pub mod Cuts
 pub mod Words
 pub mod White
 pub mod Rules
+pub mod Places

@@ -198,8 +198,60 @@ listed_len ls rules = most (λ rule. is_listed rule && matches (labels rule) ls)
 
 listed_hit-ge : (l : List ℕ) (ls : List (List ℕ)) (rules : List Rule) → list_any (λ rule. is_listed rule && fits_labels (labels rule) (l ∷ ls)) rules ≡ true → length (l ∷ ls) ≤ listed_len (l ∷ ls) rules
 listed_hit-ge l ls [] h = absurd (cc)
-listed_hit-ge l ls (rule ∷ rules) h = ?
+listed_hit-ge l ls (rule ∷ rules) h =
+    let n : ℕ = listed_len (l ∷ ls) rules in
+    elim (is_listed rule) as (λ a. ((a && fits_labels (labels rule) (l ∷ ls)) || list_any (λ rule. is_listed rule && fits_labels (labels rule) (l ∷ ls)) rules) ≡ true → length (l ∷ ls) ≤ cond (a && matches (labels rule) (l ∷ ls)) (max (length (labels rule)) n) n)
+    [ true ↦ λ h. elim (fits_labels (labels rule) (l ∷ ls)) as (λ v. fits_labels (labels rule) (l ∷ ls) ≡ v → (v || list_any (λ rule. is_listed rule && fits_labels (labels rule) (l ∷ ls)) rules) ≡ true → length (l ∷ ls) ≤ cond (v || matches (labels rule) ls) (max (length (labels rule)) n) n)
+        [ true ↦ λ e k. (let same = fits-length (labels rule) (l ∷ ls) e in omega arith)
+        | false ↦ λ e k. (let rest : length (l ∷ ls) ≤ n = listed_hit-ge l ls rules k in elim (matches (labels rule) ls) as (λ w. length (l ∷ ls) ≤ cond w (max (length (labels rule)) n) n) [ true ↦ omega arith | false ↦ rest ]) ] refl h
+    | false ↦ λ h. listed_hit-ge l ls rules h ] h
 
-listed_none : (rules : List Rule) → listed_len [] rules ≡ 0
+listed-le : (ls : List (List ℕ)) (rules : List Rule) → listed_len ls rules ≤ length ls
+listed-le ls rules = most-le (λ rule. is_listed rule && matches (labels rule) ls) (length ls) rules (λ rule h. matches-length (labels rule) ls (and_right (is_listed rule) (matches (labels rule) ls) h))
+
+pub listed_hit : (l : List ℕ) (ls : List (List ℕ)) (rules : List Rule) → list_any (λ rule. is_listed rule && fits_labels (labels rule) (l ∷ ls)) rules ≡ true → listed_len (l ∷ ls) rules ≡ length (l ∷ ls)
+listed_hit l ls rules h =
+    let least = listed_hit-ge l ls rules h in
+    let greatest = listed-le (l ∷ ls) rules in
+    omega arith
+
+no_labels : (rule : Rule) → fits_labels (labels rule) [] ≡ false
+no_labels rule = fits_none (text_of rule)
+
+pub listed_none : (rules : List Rule) → listed_len [] rules ≡ 0
 listed_none [] = refl
-listed_none (rule ∷ rules) = ?
+listed_none (rule ∷ rules) =
+    ap (λ b. cond (is_listed rule && b) (max (length (labels rule)) (listed_len [] rules)) (listed_len [] rules)) (no_labels rule)
+    ∙ ap (λ b. cond b (max (length (labels rule)) (listed_len [] rules)) (listed_len [] rules)) (and_false (is_listed rule))
+    ∙ listed_none rules
+
+miss_one : (a v m : Bool) → (a && v) ≡ false → (a && (v || m)) ≡ (a && m)
+miss_one true true m h = absurd (cc)
+miss_one true false m h = refl
+miss_one false v m h = refl
+
+both_false : (a b : Bool) → (a || b) ≡ false → (a ≡ false) × (b ≡ false)
+both_false true b h = absurd (cc)
+both_false false b h = (refl, h)
+
+pub listed_miss : (l : List ℕ) (ls : List (List ℕ)) (rules : List Rule) → list_any (λ rule. is_listed rule && fits_labels (labels rule) (l ∷ ls)) rules ≡ false → listed_len (l ∷ ls) rules ≡ listed_len ls rules
+listed_miss l ls [] h = refl
+listed_miss l ls (rule ∷ rules) h =
+    let none = both_false (is_listed rule && fits_labels (labels rule) (l ∷ ls)) (list_any (λ rule. is_listed rule && fits_labels (labels rule) (l ∷ ls)) rules) h in
+    ap (λ b. cond b (max (length (labels rule)) (listed_len (l ∷ ls) rules)) (listed_len (l ∷ ls) rules)) (miss_one (is_listed rule) (fits_labels (labels rule) (l ∷ ls)) (matches (labels rule) ls) none.0)
+    ∙ ap (λ n. cond (is_listed rule && matches (labels rule) ls) (max (length (labels rule)) n) n) (listed_miss l ls rules none.1)
+
+-- one step of the walk from a name to the rest behind its first dot
+pub listed_at_hit : {Y S : Type 0} (rules : List Rule) (plain starred : HashSet (String Y) S) (others : List ℕ) → AreTables rules plain starred others → (q first : List ℕ) (rest : Option (Bor (List ℕ))) → IsCut q first rest → is_found plain starred q rest ≡ true → listed_len (labels_of q) rules ≡ length (labels_of q)
+listed_at_hit rules plain starred others t q first rest cut found =
+    let whole : labels_of q ≡ first ∷ labels_behind rest = first_cut q first rest cut in
+    let any : list_any (λ rule. is_listed rule && fits_labels (labels rule) (labels_of q)) rules ≡ true = sym (found_is rules plain starred others t q first rest cut) ∙ found in
+    let hit : listed_len (first ∷ labels_behind rest) rules ≡ length (first ∷ labels_behind rest) = listed_hit first (labels_behind rest) rules (sym (ap (λ ls. list_any (λ rule. is_listed rule && fits_labels (labels rule) ls) rules) whole) ∙ any) in
+    ap (λ ls. listed_len ls rules) whole ∙ hit ∙ sym (ap (λ (ls : List (List ℕ)). length ls) whole)
+
+pub listed_at_miss : {Y S : Type 0} (rules : List Rule) (plain starred : HashSet (String Y) S) (others : List ℕ) → AreTables rules plain starred others → (q first : List ℕ) (rest : Option (Bor (List ℕ))) → IsCut q first rest → is_found plain starred q rest ≡ false → listed_len (labels_of q) rules ≡ listed_len (labels_behind rest) rules
+listed_at_miss rules plain starred others t q first rest cut found =
+    let whole : labels_of q ≡ first ∷ labels_behind rest = first_cut q first rest cut in
+    let any : list_any (λ rule. is_listed rule && fits_labels (labels rule) (labels_of q)) rules ≡ false = sym (found_is rules plain starred others t q first rest cut) ∙ found in
+    ap (λ ls. listed_len ls rules) whole
+    ∙ listed_miss first (labels_behind rest) rules (sym (ap (λ ls. list_any (λ rule. is_listed rule && fits_labels (labels rule) ls) rules) whole) ∙ any)

@@ -4,8 +4,6 @@ ghost use Rattle.dnr_spec.specs.Hosts.{labels_of};
 ghost use Rattle.dnr_spec.specs.Suffixes as spec;
 ghost use Rattle.suffix_list.specs.Kept as kept;
 
-use crate::names::{is_domain, label_count, last_labels, without_dot};
-use crate::read::read_rules;
 use crate::rule::Rule;
 use crate::table::Table;
 use dnr_spec::{NoMemory, SuffixRefusal, split_first_label};
