@@ -10,7 +10,7 @@ use Rattle.dnr_spec.specs.Hosts.{labels_of}
 use Rattle.dnr_spec.specs.Suffixes.{fits_label, fits_labels, matches}
 use Rattle.dnr_spec.proofs.Labels.{labels_of-has, HasFirst, join_with_byte-labels_of}
 use Rattle.suffix_list.specs.declared.rule.Rule.{Rule}
-use Rattle.suffix_list.specs.Kept.{AreTables, text_of, labels, has_no_star, is_no_star, is_plain, is_starred, is_listed, is_other, most, places_from}
+use Rattle.suffix_list.specs.Kept.{AreTables, text_of, labels, has_no_star, is_no_star, is_plain, is_starred, is_listed, is_other, most, places_from, is_found, listed_len}
 use Rattle.suffix_list.proofs.Cuts.{IsCut, labels_behind, first_cut}
 
 -- ---- tests
@@ -146,11 +146,6 @@ any_none : (rules : List Rule) → list_any (λ rule. is_starred rule && false) 
 any_none [] = refl
 any_none (rule ∷ rules) = ap (λ b. b || list_any (λ rule. is_starred rule && false) rules) (and_false (is_starred rule)) ∙ any_none rules
 
--- what is found in the tables at a name that was cut at its first dot
-abbrev pub is_found : {Y S : Type 0} → HashSet (String Y) S → HashSet (String Y) S → List ℕ → Option (Bor (List ℕ)) → Bool
-is_found plain starred q None = contains_text plain q
-is_found plain starred q (Some rest) = contains_text plain q || contains_text starred rest.now
-
 pub found_is : {Y S : Type 0} (rules : List Rule) (plain starred : HashSet (String Y) S) (others : List ℕ) → AreTables rules plain starred others → (q first : List ℕ) (rest : Option (Bor (List ℕ))) → IsCut q first rest → is_found plain starred q rest ≡ list_any (λ rule. is_listed rule && fits_labels (labels rule) (labels_of q)) rules
 found_is rules plain starred others t q first None cut =
     t.plain_texts q ∙ sym (or_false (list_any (λ rule. is_plain rule && bytes_eq (text_of rule) q) rules))
@@ -191,10 +186,6 @@ most-same f g [] h = refl
 most-same f g (rule ∷ rules) h =
     ap (λ n. cond (f rule) (max (length (labels rule)) n) n) (most-same f g rules h)
     ∙ ap (λ b. cond b (max (length (labels rule)) (most g rules)) (most g rules)) (h rule)
-
--- the rules of the tables that match
-abbrev pub listed_len : List (List ℕ) → List Rule → ℕ
-listed_len ls rules = most (λ rule. is_listed rule && matches (labels rule) ls) rules
 
 listed_hit-ge : (l : List ℕ) (ls : List (List ℕ)) (rules : List Rule) → list_any (λ rule. is_listed rule && fits_labels (labels rule) (l ∷ ls)) rules ≡ true → length (l ∷ ls) ≤ listed_len (l ∷ ls) rules
 listed_hit-ge l ls [] h = absurd (cc)
@@ -255,3 +246,12 @@ listed_at_miss rules plain starred others t q first rest cut found =
     let any : list_any (λ rule. is_listed rule && fits_labels (labels rule) (labels_of q)) rules ≡ false = sym (found_is rules plain starred others t q first rest cut) ∙ found in
     ap (λ ls. listed_len ls rules) whole
     ∙ listed_miss first (labels_behind rest) rules (sym (ap (λ ls. list_any (λ rule. is_listed rule && fits_labels (labels rule) ls) rules) whole) ∙ any)
+
+apart_by : (e : Bool) (text : List ℕ) → (not e && has_no_star text) ≡ true → (not e && (starts_with nat_eq text (codes "*.") && has_no_star (drop 2 text))) ≡ false
+apart_by true text h = refl
+apart_by false text h =
+    elim (starts_with nat_eq text (codes "*.")) as (λ v. starts_with nat_eq text (codes "*.") ≡ v → (v && has_no_star (drop 2 text)) ≡ false)
+    [ true ↦ λ s. absurd (plain_no_star text h s) | false ↦ λ s. refl ] refl
+
+pub plain_is_apart : (rule : Rule) → is_plain rule ≡ true → is_starred rule ≡ false
+plain_is_apart rule h = apart_by rule.exception (text_of rule) h

@@ -62,3 +62,18 @@ pub record AreTables {Y S : Type 0} (rules : List Rule) (plain starred : HashSet
   pub plain_texts : (q : List ℕ) → contains_text plain q ≡ list_any (λ rule. is_plain rule && bytes_eq (text_of rule) q) rules
   pub starred_texts : (q : List ℕ) → contains_text starred q ≡ list_any (λ rule. is_starred rule && bytes_eq (drop 2 (text_of rule)) q) rules
   pub other_places : others ≡ places_from is_other 0 rules
+
+-- whether a table has the name, or the other one what stands behind its first label
+abbrev pub is_found : {Y S : Type 0} → HashSet (String Y) S → HashSet (String Y) S → List ℕ → Option (Bor (List ℕ)) → Bool
+is_found plain starred name None = contains_text plain name
+is_found plain starred name (Some rest) = contains_text plain name || contains_text starred rest.now
+
+-- how many labels the longest of these rules has that matches, or 0
+abbrev pub listed_len : List (List ℕ) → List Rule → ℕ
+listed_len name rules = most (λ rule. is_listed rule && matches (labels rule) name) rules
+
+abbrev pub other_exception_len : List (List ℕ) → List Rule → ℕ
+other_exception_len name rules = most (λ rule. is_other rule && (rule.exception && matches (labels rule) name)) rules
+
+abbrev pub other_rule_len : List (List ℕ) → List Rule → ℕ
+other_rule_len name rules = most (λ rule. is_other rule && (not rule.exception && matches (labels rule) name)) rules

@@ -2,7 +2,7 @@
 use Rattle.std.specs.Prelude.{◌≡◌, ◌==◌, ℕ, List, map, Bool, true, false, Option, Some, None, Result, Ok, Err, vec_items}
 use Rattle.std.specs.List.{slice_split}
 use Rattle.std.specs.declared.vec.Vec.{Vec}
-use Rattle.dnr_spec.specs.Suffixes.{SuffixRule, is_rule, word_of, read_rule, rules_of, within_limit}
+use Rattle.dnr_spec.specs.Suffixes.{SuffixRule, is_rule, word_of, read_rule, rules_of, within_limit, read_suffixes}
 use Rattle.dnr_spec.specs.declared.suffix_refusal.SuffixRefusal.{SuffixRefusal}
 use Rattle.dnr_spec.specs.declared.suffix_refusal.SuffixRefusal.TheVariants.{NotUtf8, BadRule, TooManyRules, NoMemory}
 use Rattle.suffix_list.specs.declared.rule.Rule.{Rule}
@@ -36,3 +36,7 @@ read_text text = within_limit (rules_of 1 (slice_split (λ b. b == 10) text))
 abbrev pub IsReadText : {A : Type 0} → List ℕ → Result (Vec Rule A) SuffixRefusal → Type 0
 IsReadText text (Ok rules) = read_text text ≡ Ok (map seen (vec_items rules))
 IsReadText text (Err refusal) = IsRefusedAs (read_text text) refusal
+
+-- why bytes are no list
+abbrev pub IsRefused : List ℕ → SuffixRefusal → Type 0
+IsRefused bytes refusal = IsRefusedAs (read_suffixes bytes) refusal

@@ -10,6 +10,7 @@ mod names;
 mod read;
 mod rule;
 mod table;
+mod tables;
 
 pub use dnr_spec::{NoMemory, SuffixRefusal};
 pub use list::SuffixList;

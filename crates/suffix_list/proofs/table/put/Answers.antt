@@ -2,7 +2,7 @@ use Rattle.std.proofs.Common.{true, ◌∙◌, string_bytes}
 use Rattle.std.specs.HashSet.{contains_text}
 use Rattle.std.specs.Str.{bytes_eq}
 use Rattle.std.proofs.lemmas.Map.Text.{hash_set_updates_text}
-use Rattle.suffix_list.proofs.Tables.{cond_or, cond_apart}
+use Rattle.suffix_list.proofs.Put.{cond_or, cond_apart}
 use Rattle.suffix_list.proofs.table.put.Goals as goal
 
 pub returns-clause-added : goal.returns-clause-added
