@@ -81,7 +81,7 @@ registrable_name rules name =
     if is_domain name then last_labels (suffix_len rules (labels_of name) + 1) (labels_of name) else None
 
 -- the registrable domain of a host: its public suffix and one label more
-abbrev pub registrable : List SuffixRule → List ℕ → Option (List ℕ)
+unfoldable pub registrable : List SuffixRule → List ℕ → Option (List ℕ)
 registrable rules host = registrable_name rules (without_dot host)
 
 -- ---- the rules of a file
@@ -109,7 +109,7 @@ abbrev pub if_plain : List ℕ → Option (List ℕ)
 if_plain label = if is_plain_label label then Some label else None
 
 -- a label as hosts have it: letters of ASCII in lower case, and a label past ASCII by the URL Standard's domain to ASCII
-abbrev pub read_label : List ℕ → Option (List ℕ)
+unfoldable pub read_label : List ℕ → Option (List ℕ)
 read_label label =
     if bytes_eq label (codes "*") then Some label
     else (if list_all is_ascii label then if_plain (str_to_ascii_lowercase label)
@@ -153,5 +153,5 @@ abbrev pub within_limit : Result (List SuffixRule) SuffixRefusal → Result (Lis
 within_limit (Err refusal) = Err refusal
 within_limit (Ok rules) = if nat_le (length rules) max_rules then Ok rules else Err TooManyRules
 
-abbrev pub read_suffixes : List ℕ → Result (List SuffixRule) SuffixRefusal
+unfoldable pub read_suffixes : List ℕ → Result (List SuffixRule) SuffixRefusal
 read_suffixes bytes = if is_utf8 bytes then within_limit (rules_of 1 (slice_split (λ b. b == 10) bytes)) else Err NotUtf8

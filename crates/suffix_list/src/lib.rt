@@ -1,0 +1,16 @@
+//! A public suffix list: read once, then asked for the registrable domain of a host.
+//!
+//! What the lines of a list say, and which labels of a host are its public suffix, stands in `dnr_spec`,
+//! `specs/Suffixes.antt`, in the terms of publicsuffix.org.
+#![tactic(auto)]
+
+mod label;
+mod list;
+mod names;
+mod read;
+mod rule;
+mod table;
+mod tables;
+
+pub use dnr_spec::{NoMemory, SuffixRefusal};
+pub use list::SuffixList;

@@ -1,0 +1,105 @@
+ghost use Rattle.std.specs.Prelude.{◌≡◌, ◌&&◌, not, [], ◌∷◌, ◌++◌, ℕ, List, length, OnOk};
+ghost use Rattle.dnr_spec.specs.Hosts.{labels_of};
+ghost use Rattle.dnr_spec.specs.Suffixes.{matches};
+ghost use Rattle.suffix_list.specs.declared.rule.Rule.{Rule};
+ghost use Rattle.suffix_list.specs.Kept as kept;
+
+use crate::names::label_count;
+use crate::rule::Rule;
+use crate::table::Table;
+use dnr_spec::{NoMemory, split_first_label};
+use std::alloc::Global;
+
+// Where the rules of a list are found.
+#[derive(Drop)]
+pub struct Tables {
+    // The texts of the rules without `*`, and what follows a `*` that is the first label alone. Neither has
+    // exceptions.
+    pub plain: Table,
+    pub starred: Table,
+    // The places of all other rules. There are few in a list for use: each is compared with each host.
+    pub others: Vec<usize>,
+}
+
+impl Tables {
+    pub fn new(alloc: Global) -> Tables
+        ensures { kept.AreTables [] result.plain.texts result.starred.texts result.others.items }
+    {
+        Tables {
+            plain: Table::new(alloc),
+            starred: Table::new(alloc),
+            others: Vec::new(alloc),
+        }
+    }
+
+    // Takes the rule at the next place in.
+    pub fn add(&mut self, alloc: Global, rule: &Rule, place: usize) -> Result<(), NoMemory>
+        ensures { OnOk result ((rules : List Rule) → place ≡ length rules
+            → kept.AreTables rules self.old.plain.texts self.old.starred.texts self.old.others.items
+            → kept.AreTables (rules ++ rule.now ∷ []) self.new.plain.texts self.new.starred.texts
+                self.new.others.items) }
+    {
+        if rule.is_plain() {
+            return self.plain.insert(alloc, rule.text.as_str());
+        }
+        if let Some(rest) = rule.behind_star() {
+            return self.starred.insert(alloc, rest);
+        }
+        self.others.push(place)?;
+        Ok(())
+    }
+
+    // How many labels the longest rule of the two tables has that matches a name, or 0.
+    pub fn longest_listed(&self, name: &str) -> usize
+        ensures { (rules : List Rule)
+            → kept.AreTables rules self.now.plain.texts self.now.starred.texts self.now.others.items
+            → result ≡ kept.listed_len (labels_of name.now) rules }
+    {
+        let mut rest = name;
+        let mut count = label_count(name);
+        loop {
+            let (_, behind) = split_first_label(rest);
+            if self.has_rule(rest, behind) {
+                return count;
+            }
+            let Some(others) = behind else {
+                return 0;
+            };
+            rest = others;
+            count -= 1;
+        }
+    }
+
+    // Whether a rule of the tables has just these labels; `behind` stands behind the first dot of the name.
+    fn has_rule(&self, name: &str, behind: Option<&str>) -> bool
+        ensures { result ≡ kept.is_found self.now.plain.texts self.now.starred.texts name.now behind }
+    {
+        match behind {
+            Some(rest) => self.plain.contains(name) || self.starred.contains(rest),
+            None => self.plain.contains(name),
+        }
+    }
+}
+
+// How many labels the longest exception and the longest rule have that match a name, or 0, of the rules at these
+// places.
+pub fn longest_others(rules: &[Rule], others: &[usize], name: &str) -> (usize, usize)
+    requires { others.now ≡ kept.places_from kept.is_other 0 rules.now }
+    ensures exceptions { result.0 ≡ kept.other_exception_len (labels_of name.now) rules.now }
+    ensures rules { result.1 ≡ kept.other_rule_len (labels_of name.now) rules.now }
+{
+    let mut exceptions = 0;
+    let mut plain = 0;
+    for place in others {
+        let rule = &rules[*place];
+        if rule.matches(name) {
+            let count = label_count(rule.text.as_str());
+            if rule.exception {
+                exceptions = count.max(exceptions);
+            } else {
+                plain = count.max(plain);
+            }
+        }
+    }
+    (exceptions, plain)
+}
