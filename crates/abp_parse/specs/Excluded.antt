@@ -1,0 +1,10 @@
+-- A set of the domains that are excluded.
+use Rattle.std.specs.Prelude.{◌≡◌, ℕ, List}
+use Rattle.std.specs.declared.alloc.Global.{Global}
+use Rattle.std.specs.String.{String}
+use Rattle.std.specs.BTreeSet.{BTreeSet, contains_text}
+use Rattle.list_spec.specs.declared.domain_entry.DomainEntry.{DomainEntry}
+use Rattle.list_spec.specs.Entries.{is_excluded}
+
+abbrev pub HasExcluded : BTreeSet (String Global) → List DomainEntry → Type 0
+HasExcluded set entries = (domain : List ℕ) → contains_text set domain ≡ is_excluded entries domain

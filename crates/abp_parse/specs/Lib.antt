@@ -1,0 +1,5 @@
+pub mod Cut
+pub mod Excluded
+pub mod Rest
+pub mod Seen
+pub mod Told
