@@ -4,7 +4,7 @@ use Rattle.std.specs.Io.KnownBytes.{Appends}
 use Rattle.std.specs.declared.alloc.Global.{Global}
 use Rattle.std.proofs.lemmas.List.{drop_more, drop_all}
 use Rattle.dnr_io.specs.Sink.{AppendsPart}
-use Rattle.rule_spec.specs.State.{State}
+use Rattle.session_spec.specs.State.{State}
 use Rattle.session_spec.specs.Out.{reply, replies}
 use Rattle.dnr_top.specs.Answers.{lines_seen, WritesFront}
 

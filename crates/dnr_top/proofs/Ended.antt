@@ -7,7 +7,7 @@ use Rattle.dnr_spec.specs.declared.status.Status.{Status}
 use Rattle.dnr_spec.specs.declared.status.Status.TheVariants.{Done, Refused, Usage, ReadFault, WriteFault, NoMemory, FileTooLong}
 use Rattle.dnr_spec.specs.Faults.{Count}
 use Rattle.session_spec.specs.FileRefusal.{FileRefusal}
-use Rattle.rule_spec.specs.Rule.{Rule}
+use Rattle.session_spec.specs.Rule.{Rule}
 use Rattle.session_spec.specs.Words.{Task}
 use Rattle.session_spec.specs.Output.{refusal_line}
 use Rattle.session_spec.specs.Out.{Files, Ends, HoldsRules, BreaksForm, IsBeginning, opening, replies}

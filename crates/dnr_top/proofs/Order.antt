@@ -2,8 +2,8 @@
 use Rattle.std.proofs.Common.{◌≡◌, ◌⊎◌, ℕ, ◌<◌, List, [], ◌∷◌, Bool, true, false, cond, ◌==◌, nat_lt, map, sym, ◌∙◌, ⊎_elim, inl, inr, arith}
 use Rattle.std.proofs.lemmas.Bool.{cases_Bool, cond-true, cond-false, true≢false}
 use Rattle.std.proofs.lemmas.Bool.Decides.{nat_tests}
-use Rattle.rule_spec.specs.Precedence.{is_before, action_place, beats}
-use Rattle.rule_spec.specs.State.{Live}
+use Rattle.session_spec.specs.Precedence.{is_before, action_place, beats}
+use Rattle.session_spec.specs.State.{Live}
 
 -- ---- the comparison as a fact
 

@@ -11,7 +11,7 @@ use Rattle.serde_json.specs.Data.{Data, item}
 use Rattle.serde_json.specs.declared.value.Value.{Value}
 use Rattle.serde_json.specs.View.{view, items_view}
 use Rattle.session_spec.specs.declared.rule_fault.RuleFault.{RuleFault}
-use Rattle.rule_spec.specs.Rule as spec
+use Rattle.session_spec.specs.Rule as spec
 use Rattle.session_spec.specs.RuleFile.{rule_from, unless_taken, read_rule, read_next, read_from, has_id, HaveOwnIds}
 use Rattle.dnr_top.specs.declared.rule.Rule.{Rule}
 use Rattle.dnr_top.specs.Rule.{rule_seen, rules_seen}

@@ -3,19 +3,19 @@ use Rattle.std.proofs.Common.{◌≡◌, ◌⊎◌, ℕ, List, [], ◌∷◌, Bo
 use Rattle.std.specs.List.{list_any}
 use Rattle.std.proofs.lemmas.Bool.{cases_Bool, cond-true, cond-false, true≢false}
 use Rattle.std.proofs.lemmas.List.{drop_more}
-use Rattle.rule_spec.specs.Rule as spec
+use Rattle.session_spec.specs.Rule as spec
 use Rattle.session_spec.specs.RuleFile.{has_id, HaveOwnIds}
-use Rattle.rule_spec.specs.State.{Live}
-use Rattle.rule_spec.specs.Precedence.{beats, inside}
+use Rattle.session_spec.specs.State.{Live}
+use Rattle.session_spec.specs.Precedence.{beats, inside}
 use Rattle.dnr_base.specs.declared.request.Request.{Request}
 use Rattle.dnr_base.specs.Request.{own_part}
 use Rattle.dnr_base.specs.Kind.{has_kind}
 use Rattle.dnr_base.specs.View.{text_of}
 use Rattle.dnr_spec.specs.UrlFilter.{fits}
-use Rattle.rule_spec.specs.Holds.{holds, fits_url}
+use Rattle.session_spec.specs.Holds.{holds, fits_url}
 use Rattle.dnr_top.specs.declared.scan.Part.{Part}
 use Rattle.dnr_top.specs.Part.{fits_text, is_held}
-use Rattle.rule_spec.specs.Scan.{candidates}
+use Rattle.session_spec.specs.Scan.{candidates}
 use Rattle.session_spec.specs.Out.{local}
 use Rattle.dnr_top.specs.declared.rule.Rule.{Rule}
 use Rattle.dnr_top.specs.Rule.{rule_seen, rules_seen}

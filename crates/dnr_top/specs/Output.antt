@@ -1,6 +1,6 @@
 -- What the program's verdicts and refusals say.
 use Rattle.std.specs.Prelude.{option_map}
-use Rattle.rule_spec.specs.Scan as spec
+use Rattle.session_spec.specs.Scan as spec
 use Rattle.dnr_top.specs.declared.output.RuleName.{RuleName}
 use Rattle.dnr_top.specs.declared.output.Verdict.{Verdict}
 

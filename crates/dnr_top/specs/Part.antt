@@ -2,7 +2,7 @@
 use Rattle.std.specs.Prelude.{ℕ, List, Bool, true, ◌&&◌, Option, Some, None}
 use Rattle.dnr_base.specs.Kind.{has_kind}
 use Rattle.dnr_spec.specs.UrlFilter.{fits}
-use Rattle.rule_spec.specs.Rule.{Rule}
+use Rattle.session_spec.specs.Rule.{Rule}
 use Rattle.dnr_top.specs.declared.scan.Part.{Part}
 
 abbrev pub fits_text : Option (List ℕ) → Part → Bool

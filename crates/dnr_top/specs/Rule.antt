@@ -1,6 +1,6 @@
 -- The rules that the program's rules stand for.
 use Rattle.std.specs.Prelude.{List, map}
-use Rattle.rule_spec.specs.Rule as spec
+use Rattle.session_spec.specs.Rule as spec
 use Rattle.dnr_base.specs.KindSet.{kinds_of}
 use Rattle.dnr_top.specs.declared.rule.Action.{Action}
 use Rattle.dnr_top.specs.declared.rule.Action.TheVariants.{Block, Allow}

@@ -1,7 +1,7 @@
 -- What the reading of a rules file answers.
 use Rattle.std.specs.Prelude.{◌≡◌, List, Result, Ok, Err}
 use Rattle.session_spec.specs.declared.rule_fault.RuleFault.{RuleFault}
-use Rattle.rule_spec.specs.Rule as rule
+use Rattle.session_spec.specs.Rule as rule
 use Rattle.session_spec.specs.FileRefusal as spec
 use Rattle.dnr_top.specs.declared.rule_file.RulesRefusal.{RulesRefusal}
 use Rattle.dnr_top.specs.declared.rule_file.RulesRefusal.TheVariants.{BadFile, NoMemory}

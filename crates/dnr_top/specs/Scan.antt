@@ -1,8 +1,8 @@
 -- The best rule so far.
 use Rattle.std.specs.Prelude.{codes, Bool, Option, Some, None, option_map, if◌then◌else◌}
 use Rattle.std.specs.Borrow.{Bor}
-use Rattle.rule_spec.specs.State.{Live}
-use Rattle.rule_spec.specs.Precedence.{beats}
+use Rattle.session_spec.specs.State.{Live}
+use Rattle.session_spec.specs.Precedence.{beats}
 use Rattle.dnr_top.specs.declared.rule.Rule.{Rule}
 use Rattle.dnr_top.specs.Rule.{rule_seen}
 

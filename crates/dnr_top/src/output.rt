@@ -7,7 +7,7 @@ ghost use Rattle.dnr_top.specs.RuleFile.{refusal_seen};
 
 use crate::rule_file::FileRefusal;
 use dnr_base::NoMemory;
-use rule_spec::Outcome;
+use session_spec::Outcome;
 use serde_json::Value;
 use session_spec::RuleFault;
 use std::alloc::Global;

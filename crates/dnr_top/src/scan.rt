@@ -1,11 +1,11 @@
 // Which rule decides a request: Chrome's reference, "Rule prioritization".
 ghost use Rattle.std.specs.Prelude.{◌≡◌, ◌≤◌, length};
-ghost use Rattle.rule_spec.specs.Holds as held;
+ghost use Rattle.session_spec.specs.Holds as held;
 ghost use Rattle.session_spec.specs.Out.{local, opening};
-ghost use Rattle.rule_spec.specs.Precedence as order;
+ghost use Rattle.session_spec.specs.Precedence as order;
 ghost use Rattle.dnr_base.specs.Request.{own_part};
 ghost use Rattle.session_spec.specs.RuleFile.{HaveOwnIds};
-ghost use Rattle.rule_spec.specs.Scan as spec;
+ghost use Rattle.session_spec.specs.Scan as spec;
 ghost use Rattle.dnr_top.specs.Rule.{action_seen, rule_seen, rules_seen};
 ghost use Rattle.dnr_top.specs.Scan.{live_seen, best_of, stronger_of};
 ghost use Rattle.dnr_top.specs.Part.{fits_text, is_held};
@@ -14,11 +14,11 @@ ghost use Rattle.dnr_top.specs.Output.{verdict_seen};
 use crate::output::{RuleName, Verdict};
 use crate::rule::{Action, Rule};
 use dnr_base::{Kind, Request, Span};
-use rule_spec::Outcome;
+use session_spec::Outcome;
 use url_filter::Pattern;
 
 /// What becomes of a request, where these rules are the ruleset `rules` of the one extension `local`.
-#[tactic(auto, unfolding(rule_spec::specs::Scan::scan))]
+#[tactic(auto, unfolding(session_spec::specs::Scan::scan))]
 pub fn verdict_of(rules: &[Rule], request: &Request) -> Verdict<'static>
     requires { HaveOwnIds (rules_seen rules.now) }
     ensures { verdict_seen result ≡ spec.scan (opening (rules_seen rules.now)) request.now }

@@ -1,5 +1,5 @@
 -- The examples are computed.
-use Rattle.rule_spec.specs.Scan.{scan}
+use Rattle.session_spec.specs.Scan.{scan}
 use Rattle.session_spec.specs.Examples.{request_line}
 use Rattle.std.specs.Prelude.{refl, ◌++◌, [], codes}
 use Rattle.std.proofs.Common.{arith}

@@ -1,7 +1,7 @@
 -- Examples, each computed from the definitions alone.
 use Rattle.std.specs.Prelude.{◌≡◌, ℕ, List, [], ◌∷◌, ◌++◌, codes, Bool, true, false, Some, None, Result, Ok, Err, replicate, bytes_eq, if◌then◌else◌}
 use Rattle.dnr_base.specs.declared.kind.Kind.TheVariants.{Script}
-use Rattle.rule_spec.specs.declared.outcome.Outcome.TheVariants as outcome
+use Rattle.session_spec.specs.declared.outcome.Outcome.TheVariants as outcome
 use Rattle.session_spec.specs.declared.rule_fault.RuleFault.TheVariants as fault
 use Rattle.dnr_base.specs.declared.scheme.Scheme.TheVariants.{Http}
 use Rattle.dnr_spec.specs.declared.status.Status.TheVariants as status
@@ -12,12 +12,12 @@ use Rattle.dnr_base.specs.View.{View, text_of, host_of}
 use Rattle.dnr_spec.specs.UrlView.{view_of}
 use Rattle.dnr_spec.specs.UrlFilter.{fits}
 use Rattle.dnr_spec.specs.Lines.{lines_of}
-use Rattle.rule_spec.specs.Rule.{Action, block, allow, Rule}
+use Rattle.session_spec.specs.Rule.{Action, block, allow, Rule}
 use Rattle.session_spec.specs.FileRefusal.{FileRefusal, bad_json, bad_rule}
 use Rattle.session_spec.specs.RuleFile.{rules_of}
 use Rattle.dnr_base.specs.declared.request.Request.{Request}
-use Rattle.rule_spec.specs.State.{RuleSet, State}
-use Rattle.rule_spec.specs.Scan.{scan}
+use Rattle.session_spec.specs.State.{RuleSet, State}
+use Rattle.session_spec.specs.Scan.{scan}
 use Rattle.session_spec.specs.Output.{refusal_line}
 use Rattle.dnr_spec.specs.Faults.{Count}
 use Rattle.session_spec.specs.Words.{task_of}

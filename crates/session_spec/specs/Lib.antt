@@ -1,3 +1,8 @@
+pub mod Rule
+pub mod Holds
+pub mod State
+pub mod Precedence
+pub mod Scan
 pub mod Json
 pub mod FileRefusal
 pub mod RuleFile

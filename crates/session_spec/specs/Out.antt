@@ -4,13 +4,13 @@ use Rattle.std.specs.Prelude.{◌≡◌, ◌⊎◌, ℕ, ◌+◌, ◌<◌, ◌�
 use Rattle.dnr_spec.specs.declared.status.Status.{Status}
 use Rattle.dnr_spec.specs.declared.status.Status.TheVariants as status
 use Rattle.dnr_spec.specs.Lines.{lines_of, is_within_limits, is_blank}
-use Rattle.rule_spec.specs.Rule.{Rule}
+use Rattle.session_spec.specs.Rule.{Rule}
 use Rattle.session_spec.specs.FileRefusal.{FileRefusal}
 use Rattle.session_spec.specs.RuleFile.{max_file, rules_of}
 use Rattle.dnr_base.specs.declared.request.Request.{Request}
 use Rattle.session_spec.specs.RequestLine.{request_of}
-use Rattle.rule_spec.specs.State.{Extension, State}
-use Rattle.rule_spec.specs.Scan.{scan}
+use Rattle.session_spec.specs.State.{Extension, State}
+use Rattle.session_spec.specs.Scan.{scan}
 use Rattle.session_spec.specs.Output.{verdict_line, bad_line, refusal_line}
 use Rattle.dnr_spec.specs.Faults.{Rose, Count}
 use Rattle.session_spec.specs.Words.{Task, task_of}

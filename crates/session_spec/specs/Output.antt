@@ -1,12 +1,12 @@
 -- The lines that a command writes, as bytes. Texts are written as `serde_json` writes them.
 use Rattle.std.specs.Prelude.{ℕ, List, [], ◌++◌, codes, decimal, Option, Some, None}
 use Rattle.json.specs.Print.{quoted}
-use Rattle.rule_spec.specs.declared.outcome.Outcome.{Outcome}
-use Rattle.rule_spec.specs.declared.outcome.Outcome.TheVariants as outcome
+use Rattle.session_spec.specs.declared.outcome.Outcome.{Outcome}
+use Rattle.session_spec.specs.declared.outcome.Outcome.TheVariants as outcome
 use Rattle.session_spec.specs.declared.rule_fault.RuleFault.{RuleFault}
 use Rattle.session_spec.specs.declared.rule_fault.RuleFault.TheVariants as fault
 use Rattle.session_spec.specs.FileRefusal.{FileRefusal, bad_json, bad_rule}
-use Rattle.rule_spec.specs.Scan.{RuleName, Verdict}
+use Rattle.session_spec.specs.Scan.{RuleName, Verdict}
 
 abbrev pub outcome_name : Outcome → List ℕ
 outcome_name outcome.None = codes "none"

@@ -12,7 +12,7 @@ use Rattle.dnr_base.specs.Kind.{default_kinds}
 use Rattle.dnr_spec.specs.UrlFilter.{pattern_of}
 use Rattle.session_spec.specs.Json.{tree_of, whole_number, text_at, is_object_of}
 use Rattle.session_spec.specs.FileRefusal.{FileRefusal, bad_json, bad_rule}
-use Rattle.rule_spec.specs.Rule.{Condition, Action, block, allow, Rule}
+use Rattle.session_spec.specs.Rule.{Condition, Action, block, allow, Rule}
 
 -- the most bytes of a rules file
 abbrev pub max_file : ℕ

@@ -3,6 +3,7 @@
 #![tactic(auto)]
 
 mod examples;
+mod outcome;
 mod rule_fault;
 
 pub use examples::{
@@ -15,4 +16,5 @@ pub use examples::{
     no_rules_decide_nothing, null_is_present, path_is_no_host, second_of_equal_ids_is_at_fault,
     separator_fits_the_end, smaller_id_prevails, two_files_are_served, usage_is_for_bad_words,
 };
+pub use outcome::Outcome;
 pub use rule_fault::RuleFault;

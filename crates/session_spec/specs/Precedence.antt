@@ -1,8 +1,8 @@
 -- Which rule decides: Chrome's reference, "Rule prioritization" inside an extension and across extensions.
 use Rattle.std.specs.Prelude.{ℕ, List, [], ◌∷◌, Bool, false, not, ◌==◌, nat_lt, nat_le, Option, Some, None, if◌then◌else◌}
 use Rattle.std.specs.List.{find, list_any}
-use Rattle.rule_spec.specs.Rule.{Action, block, allow}
-use Rattle.rule_spec.specs.State.{Live}
+use Rattle.session_spec.specs.Rule.{Action, block, allow}
+use Rattle.session_spec.specs.State.{Live}
 
 -- the order of the actions at equal priority; 1 is for `allowAllRequests`
 abbrev pub action_place : Action → ℕ

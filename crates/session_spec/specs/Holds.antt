@@ -3,7 +3,7 @@ use Rattle.std.specs.Prelude.{ℕ, List, Bool, true, ◌&&◌, Option, Some, Non
 use Rattle.dnr_base.specs.Kind.{has_kind}
 use Rattle.dnr_base.specs.View.{View, text_of}
 use Rattle.dnr_spec.specs.UrlFilter.{fits}
-use Rattle.rule_spec.specs.Rule.{Rule}
+use Rattle.session_spec.specs.Rule.{Rule}
 use Rattle.dnr_base.specs.Request.{Part}
 
 -- the filter fits the URL without its fragment, whatever the case of letters

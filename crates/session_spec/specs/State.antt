@@ -1,6 +1,6 @@
 -- The extensions that are installed, oldest first, and the count of the updates that were accepted.
 use Rattle.std.specs.Prelude.{ℕ, ◌+◌, List, [], ◌∷◌, ◌++◌, map, Bool, if◌then◌else◌}
-use Rattle.rule_spec.specs.Rule.{Rule}
+use Rattle.session_spec.specs.Rule.{Rule}
 
 pub record RuleSet : Type 0 where
   pub id : List ℕ

@@ -1,14 +1,14 @@
 -- The documented precedence scan: what becomes of a request, over all rules in force.
 use Rattle.std.specs.Prelude.{ℕ, List, filter, Option, Some, None, option_map}
 use Rattle.std.specs.List.{filter_map}
-use Rattle.rule_spec.specs.declared.outcome.Outcome.{Outcome}
-use Rattle.rule_spec.specs.declared.outcome.Outcome.TheVariants as outcome
-use Rattle.rule_spec.specs.Rule.{Action, block, allow}
+use Rattle.session_spec.specs.declared.outcome.Outcome.{Outcome}
+use Rattle.session_spec.specs.declared.outcome.Outcome.TheVariants as outcome
+use Rattle.session_spec.specs.Rule.{Action, block, allow}
 use Rattle.dnr_base.specs.declared.request.Request.{Request}
 use Rattle.dnr_base.specs.Request.{own_part}
-use Rattle.rule_spec.specs.Holds.{holds}
-use Rattle.rule_spec.specs.State.{Extension, State, Live, live_rules}
-use Rattle.rule_spec.specs.Precedence.{inside, Winner, across}
+use Rattle.session_spec.specs.Holds.{holds}
+use Rattle.session_spec.specs.State.{Extension, State, Live, live_rules}
+use Rattle.session_spec.specs.Precedence.{inside, Winner, across}
 
 -- a rule by the extension and the ruleset that it stands in
 pub record RuleName : Type 0 where

@@ -1,5 +1,0 @@
-pub mod Rule
-pub mod Holds
-pub mod State
-pub mod Precedence
-pub mod Scan
