@@ -1,3 +1,6 @@
+pub mod Hosts
+pub mod Suffixes
+pub mod Party
 pub mod UrlView
 pub mod UrlFilter
 pub mod Lines
