@@ -1,5 +1,6 @@
 -- What is left behind the first piece of a text.
-use Rattle.std.specs.Prelude.{ℕ, List, [], Bool, Option, None, Some, IsAscii, Bor}
+use Rattle.std.specs.Prelude.{ℕ, List, [], Option, None, Some, IsAscii}
+use Rattle.std.specs.Borrow.{Bor}
 use Rattle.list_spec.specs.Pieces.{pieces_of}
 
 abbrev pub pieces_left : ℕ → Option (Bor (List ℕ)) → List (List ℕ)

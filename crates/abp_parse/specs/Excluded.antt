@@ -1,7 +1,6 @@
 -- A set of the domains that are excluded.
-use Rattle.std.specs.Prelude.{◌≡◌, ℕ, List}
+use Rattle.std.specs.Prelude.{◌≡◌, ℕ, List, String}
 use Rattle.std.specs.declared.alloc.Global.{Global}
-use Rattle.std.specs.String.{String}
 use Rattle.std.specs.BTreeSet.{BTreeSet, contains_text}
 use Rattle.list_spec.specs.declared.domain_entry.DomainEntry.{DomainEntry}
 use Rattle.list_spec.specs.Entries.{is_excluded}

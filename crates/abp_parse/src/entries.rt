@@ -3,9 +3,10 @@ ghost use Rattle.std.specs.Prelude.{◌≡◌, IfOk, IsAscii};
 ghost use Rattle.std.specs.List.{list_all};
 ghost use Rattle.abp_parse.specs.Excluded.{HasExcluded};
 ghost use Rattle.dnr_spec.specs.Domains as domains;
-ghost use Rattle.list_spec.specs.Entries as entries;
+ghost use Rattle.list_spec.specs.Entries as spec;
 ghost use Rattle.list_spec.specs.Pieces as pieces;
 
+use crate::domain::is_domain;
 use crate::text::{cut_at, lower_text};
 use dnr_base::NoMemory;
 use list_spec::DomainEntry;
@@ -28,7 +29,7 @@ pub fn cut_tilde(text: &[u8]) -> (bool, &[u8])
 // The entry of a piece.
 fn entry_of(alloc: Global, piece: &[u8]) -> Result<DomainEntry, NoMemory>
     requires { IsAscii piece.now }
-    ensures { IfOk result (λ entry. entry ≡ entries.entry_of piece.now) }
+    ensures { IfOk result (λ entry. entry ≡ spec.entry_of piece.now) }
 {
     let (excluded, domain) = cut_tilde(piece);
     let domain = lower_text(alloc, domain)?;
@@ -38,7 +39,7 @@ fn entry_of(alloc: Global, piece: &[u8]) -> Result<DomainEntry, NoMemory>
 /// The entries of a value.
 pub fn entries_of(alloc: Global, value: &[u8]) -> Result<Vec<DomainEntry>, NoMemory>
     requires { IsAscii value.now }
-    ensures { IfOk result (λ entries. entries.items ≡ entries.entries_of value.now) }
+    ensures { IfOk result (λ entries. entries.items ≡ spec.entries_of value.now) }
 {
     let mut entries = Vec::new(alloc);
     let mut rest = value;
@@ -67,7 +68,7 @@ fn excluded_of(alloc: Global, entries: &[DomainEntry]) -> Result<BTreeSet<String
 
 // Whether one domain is both listed and excluded.
 fn has_conflict(alloc: Global, entries: &[DomainEntry]) -> Result<bool, NoMemory>
-    ensures { IfOk result (λ answer. answer ≡ entries.has_conflict entries.now) }
+    ensures { IfOk result (λ answer. answer ≡ spec.has_conflict entries.now) }
 {
     let excluded = excluded_of(alloc, entries)?;
     Ok(entries
@@ -77,20 +78,10 @@ fn has_conflict(alloc: Global, entries: &[DomainEntry]) -> Result<bool, NoMemory
 
 /// Whether each entry names a domain, and none is both listed and excluded.
 pub fn is_domain_list(alloc: Global, entries: &[DomainEntry]) -> Result<bool, NoMemory>
-    ensures { IfOk result (λ answer. answer ≡ entries.is_domain_list entries.now) }
+    ensures { IfOk result (λ answer. answer ≡ spec.is_domain_list entries.now) }
 {
     let has_empty = entries.iter().any(|entry| entry.domain.as_str().is_empty());
     Ok(!(has_empty || has_conflict(alloc, entries)?))
-}
-
-// Whether a rule may list this domain.
-fn is_domain(text: &[u8]) -> bool
-    ensures { result ≡ domains.is_domain text.now }
-{
-    !text.is_empty()
-        && text
-            .iter()
-            .all(|byte| byte.is_ascii_alphanumeric() || matches!(byte, b'-' | b'_' | b'.'))
 }
 
 /// Whether a rule may list the domains of all entries.

@@ -64,18 +64,23 @@ fn filter_asked(
     ensures { IfOk result (λ filter. filter_seen filter ≡ lines.filter_asked exception pattern.now (asked_seen asked)) }
 {
     let pattern = read_pattern(alloc, pattern)?;
-    let domains = match asked.domains {
-        Some(domains) => domains,
-        None => Vec::new(alloc),
-    };
+    let Asked {
+        match_case,
+        third_party,
+        domains,
+        kinds,
+        document,
+    } = asked;
+    let domains = Items::build(domains.unwrap_or(Vec::new(alloc)));
+    let kinds = kinds.unwrap_or(KindSet::all_but_main_frame());
     Ok(FilterLine {
         exception,
         pattern,
-        match_case: asked.match_case,
-        third_party: asked.third_party,
-        domains: Items::build(domains),
-        kinds: asked.kinds.unwrap_or(KindSet::all_but_main_frame()),
-        document: asked.document,
+        match_case,
+        third_party,
+        domains,
+        kinds,
+        document,
     })
 }
 

@@ -5,6 +5,7 @@
 #![tactic(auto)]
 
 mod asked;
+mod domain;
 mod entries;
 mod filter;
 mod hiding;

@@ -98,7 +98,7 @@ fn read_value(alloc: Global, name: &[u8], value: &[u8]) -> Result<Vec<DomainEntr
 
 // The domains of an option `domain`.
 fn read_domains(alloc: Global, repeated: bool, written: Written<'_>) -> Result<Vec<DomainEntry>, Fault>
-    requires { IsWrittenInAscii written.entry }
+    requires { IsWrittenInAscii written }
     ensures read { IfOk result (λ entries. entries.items ≡ entries_of (unwrap_or (written_seen written.entry).value [])) }
     ensures told { IsRead (options.domain_fault repeated (written_seen written.entry)) result }
 {
@@ -113,7 +113,7 @@ fn read_domains(alloc: Global, repeated: bool, written: Written<'_>) -> Result<V
 
 // Refuses an option that has a value.
 fn no_value(alloc: Global, written: Written<'_>) -> Result<(), Fault>
-    requires { IsWrittenInAscii written.entry }
+    requires { IsWrittenInAscii written }
     ensures { IsRead (options.plain_fault (written_seen written.entry) None) result }
 {
     match written.value {
@@ -136,7 +136,7 @@ fn read_option(
     written: Written<'_>,
     asked: &mut Asked,
 ) -> Result<(), Fault>
-    requires { IsWrittenInAscii written.entry }
+    requires { IsWrittenInAscii written }
     ensures told { IsRead (options.option_fault exception (is_some asked.old.domains) (written_seen written.entry)) result }
     ensures asked { OnOk result (asked_seen asked.new ≡ options.after_option (asked_seen asked.old) (written_seen written.entry)) }
     ensures domains { OnOk result (is_some asked.new.domains ≡ (is_some asked.old.domains || speaks_of_domains (written_seen written.entry))) }

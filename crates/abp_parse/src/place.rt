@@ -1,5 +1,5 @@
 //! Where the options of a filter begin.
-ghost use Rattle.std.specs.Prelude.{◌≡◌};
+ghost use Rattle.std.specs.Prelude.{◌≡◌, ◌==◌, ◌&&◌, false, None, Some, if◌then◌else◌};
 ghost use Rattle.list_spec.specs.Options as options;
 ghost use Rattle.abp_parse.specs.Rest.{before, rest_of};
 
@@ -62,6 +62,17 @@ impl Rest {
     }
 }
 
+// The place of a `$` that may stand before this rest, or else the place of a later one.
+fn place_here(byte: u8, place: usize, rest: Rest, later: Option<usize>) -> Option<usize>
+    ensures { result ≡ (if byte == 36 && rest.options then Some place else later) }
+{
+    if byte == b'$' && rest.options {
+        Some(place)
+    } else {
+        later
+    }
+}
+
 // The place, from the right to the left.
 fn place_from_the_end(text: &[u8]) -> Option<usize>
     ensures { result ≡ options.options_place text.now }
@@ -76,12 +87,17 @@ fn place_from_the_end(text: &[u8]) -> Option<usize>
     let mut i = text.len();
     while i > 0 {
         i -= 1;
-        if text[i] == b'$' && rest.options {
-            place = Some(i);
-        }
+        place = place_here(text[i], i, rest, place);
         rest = rest.before(text[i]);
     }
     place
+}
+
+// Whether the text has a `$`.
+fn has_dollar(text: &[u8]) -> bool
+    ensures { result ≡ false → options.options_place text.now ≡ None }
+{
+    memchr(b'$', text).is_some()
 }
 
 /// The place of the leftmost `$` behind which the whole rest is a list of options.
@@ -89,6 +105,9 @@ pub fn options_place(text: &[u8]) -> Option<usize>
     ensures { result ≡ options.options_place text.now }
 {
     // Most filters have no `$`.
-    memchr(b'$', text)?;
-    place_from_the_end(text)
+    if has_dollar(text) {
+        place_from_the_end(text)
+    } else {
+        None
+    }
 }

@@ -1,12 +1,11 @@
 //! Parts of a line.
-ghost use Rattle.std.specs.Prelude.{◌≡◌, ◌∷◌, ◌<◌, IfOk, IfSome, IsAscii, length, map};
+ghost use Rattle.std.specs.Prelude.{◌≡◌, ◌∷◌, ◌<◌, IfOk, IfSome, IsAscii, length, map, reverse};
 ghost use Rattle.std.specs.Char.{to_ascii_lowercase};
 ghost use Rattle.list_spec.specs.LineKind as lines;
 ghost use Rattle.list_spec.specs.Pieces as pieces;
 ghost use Rattle.abp_parse.specs.Cut.{is_kept_ascii, pieces_left};
 
 use dnr_base::{NoMemory, Text};
-use memchr::memchr;
 use std::alloc::Global;
 
 // Whether the byte is cut off at the ends of a line.
@@ -23,9 +22,23 @@ fn without_front(bytes: &[u8]) -> &[u8]
     let mut rest = bytes;
     while let Some((first, later)) = rest.split_first() {
         if !is_cut_off(*first) {
-            break;
+            return rest;
         }
         rest = later;
+    }
+    rest
+}
+
+// The line without what is cut off at its end.
+fn without_end(bytes: &[u8]) -> &[u8]
+    ensures { result.now ≡ reverse (lines.without_front (reverse bytes.now)) }
+{
+    let mut rest = bytes;
+    while let Some((last, before)) = rest.split_last() {
+        if !is_cut_off(*last) {
+            return rest;
+        }
+        rest = before;
     }
     rest
 }
@@ -34,14 +47,7 @@ fn without_front(bytes: &[u8]) -> &[u8]
 pub fn trimmed(bytes: &[u8]) -> &[u8]
     ensures { result.now ≡ lines.trimmed bytes.now }
 {
-    let mut rest = without_front(bytes);
-    while let Some((last, before)) = rest.split_last() {
-        if !is_cut_off(*last) {
-            break;
-        }
-        rest = before;
-    }
-    rest
+    without_end(without_front(bytes))
 }
 
 /// The piece of a text before the first such byte, and what stands behind the byte, if there is one.
@@ -50,9 +56,20 @@ pub fn cut_at(separator: u8, text: &[u8]) -> (&[u8], Option<&[u8]>)
     ensures shorter { IfSome result.1 (λ later. length later.now < length text.now) }
     ensures ascii { IsAscii text.now → is_kept_ascii result.0.now result.1 }
 {
-    match memchr(separator, text) {
+    match text.iter().position(|byte| *byte == separator) {
         Some(place) => (&text[..place], Some(&text[place + 1..])),
         None => (text, None),
+    }
+}
+
+// The bytes as a text.
+fn ascii_text(bytes: &[u8]) -> &str
+    requires { IsAscii bytes.now }
+    ensures { result.now ≡ bytes.now }
+{
+    match std::str::from_utf8(bytes) {
+        Ok(text) => text,
+        Err(_) => unreachable!("ASCII is UTF-8"),
     }
 }
 
@@ -63,10 +80,7 @@ pub fn text_of(alloc: Global, bytes: &[u8]) -> Result<Text, NoMemory>
     requires { IsAscii bytes.now }
     ensures { IfOk result (λ text. text ≡ bytes.now) }
 {
-    match std::str::from_utf8(bytes) {
-        Ok(text) => Ok(Text::build(String::from_str(alloc, text)?)),
-        Err(_) => unreachable!("ASCII is UTF-8"),
-    }
+    Ok(Text::build(String::from_str(alloc, ascii_text(bytes))?))
 }
 
 /// A text of these bytes, with letters in lower case.
@@ -76,12 +90,7 @@ pub fn lower_text(alloc: Global, bytes: &[u8]) -> Result<Text, NoMemory>
     requires { IsAscii bytes.now }
     ensures { IfOk result (λ text. text ≡ map to_ascii_lowercase bytes.now) }
 {
-    match std::str::from_utf8(bytes) {
-        Ok(text) => {
-            let mut lower = String::from_str(alloc, text)?;
-            lower.make_ascii_lowercase();
-            Ok(Text::build(lower))
-        }
-        Err(_) => unreachable!("ASCII is UTF-8"),
-    }
+    let mut text = String::from_str(alloc, ascii_text(bytes))?;
+    text.make_ascii_lowercase();
+    Ok(Text::build(text))
 }

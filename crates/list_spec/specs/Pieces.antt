@@ -1,15 +1,10 @@
 -- A text cut into pieces.
 use Rattle.std.specs.Prelude.{ℕ, ◌+◌, List, [], ◌∷◌, drop, take, codes, Bool, ◌==◌, nat_eq, Option, None, Some, if◌then◌else◌}
-use Rattle.std.specs.List.{starts_with}
-
-abbrev pub onto_first : ℕ → List (List ℕ) → List (List ℕ)
-onto_first b [] = (b ∷ []) ∷ []
-onto_first b (piece ∷ pieces) = (b ∷ piece) ∷ pieces
+use Rattle.std.specs.List.{starts_with, slice_split}
 
 -- what stands between the places of this byte: one piece more than there are of it
 abbrev pub pieces_of : ℕ → List ℕ → List (List ℕ)
-pieces_of cut [] = [] ∷ []
-pieces_of cut (b ∷ text) = if b == cut then [] ∷ pieces_of cut text else onto_first b (pieces_of cut text)
+pieces_of cut text = slice_split (λ b. b == cut) text
 
 -- what stands before a place, or all where there is none
 abbrev pub before_place : Option ℕ → List ℕ → List ℕ
