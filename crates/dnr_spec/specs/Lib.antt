@@ -3,6 +3,7 @@ pub mod Suffixes
 pub mod Party
 pub mod UrlView
 pub mod UrlFilter
+pub mod Domains
 pub mod Lines
 pub mod Status
 pub mod Faults

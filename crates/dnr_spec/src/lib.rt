@@ -5,6 +5,7 @@
 //! program. The enumerations here are the words in which both speak.
 #![tactic(auto)]
 
+mod domain_refusal;
 mod host;
 mod pattern_refusal;
 mod status;
@@ -14,6 +15,7 @@ mod tests;
 mod view_refusal;
 
 pub use dnr_base::{Kind, NoMemory, Scheme, Span};
+pub use domain_refusal::DomainRefusal;
 pub use host::{is_ip_host, split_first_label, split_last_label};
 pub use pattern_refusal::PatternRefusal;
 pub use status::Status;

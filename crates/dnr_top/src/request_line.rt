@@ -6,11 +6,11 @@ ghost use Rattle.session_spec.specs.RequestLine as spec;
 ghost use Rattle.dnr_spec.specs.UrlView.{view_of};
 
 use crate::tree::{is_object_of, read_tree};
-use crate::url_view::parse;
 use dnr_base::{Request, View};
 use dnr_spec::{Kind, NoMemory, ViewRefusal};
 use serde_json::Value;
 use std::alloc::Global;
+use url_view::parse;
 
 /// The request of a line, if the line keeps the form: an object with the keys `url` and `type` and no others.
 pub fn read_request(alloc: Global, line: &[u8]) -> Result<Option<Request>, NoMemory>

@@ -17,7 +17,7 @@ use Rattle.dnr_spec.specs.declared.view_refusal.ViewRefusal.TheVariants.{UrlTooL
 use Rattle.dnr_base.specs.Scheme.{scheme_named}
 use Rattle.dnr_base.specs.View.{View, IsView, is_host, begins_host, ends_host}
 use Rattle.dnr_spec.specs.UrlView.{max_url, without_fragment, host_span, if_short, with_host, with_scheme, view_of_full}
-use Rattle.dnr_top.proofs.HostPlace.{without_fragment-serialize, scheme_part-serialize, no_host_span, own_path, own_span, own_host_span}
+use Rattle.url_view.proofs.HostPlace.{without_fragment-serialize, scheme_part-serialize, no_host_span, own_path, own_span, own_host_span}
 
 abbrev pub own_host_text : Parts → List ℕ
 own_host_text url = text_between url BeforeHost AfterHost

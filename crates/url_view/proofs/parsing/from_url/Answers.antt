@@ -3,8 +3,8 @@ use Rattle.std.specs.Prelude.{Ok, string_bytes}
 use Rattle.url.specs.Parts.{serialize}
 use Rattle.dnr_base.specs.View.{IsView}
 use Rattle.dnr_spec.specs.UrlView.{max_url}
-use Rattle.dnr_top.proofs.UrlViews.{scheme_told, host_told, placed, refused_scheme, refused_host, refused_length, given_view, own_view_is_view}
-use Rattle.dnr_top.proofs.url_view.from_url.Goals as goal
+use Rattle.url_view.proofs.UrlViews.{scheme_told, host_told, placed, refused_scheme, refused_host, refused_length, given_view, own_view_is_view}
+use Rattle.url_view.proofs.parsing.from_url.Goals as goal
 
 pub returns-in_default : goal.returns-in_default
 returns-in_default c =

@@ -2,7 +2,7 @@ use Rattle.std.proofs.Common.{◌≡◌, ◌≢◌, ℕ, false, List, ⊎_elim, 
 use Rattle.std.specs.Str.{bytes_eq}
 use Rattle.std.proofs.lemmas.Bool.{cases_Bool}
 use Rattle.std.proofs.lemmas.Slice.Eq.{bytes_eq-Decides}
-use Rattle.dnr_top.proofs.url_view.scheme_named.Goals as goal
+use Rattle.url_view.proofs.parsing.scheme_named.Goals as goal
 
 differs : (text name : List ℕ) → name ≢ text → bytes_eq text name ≡ false
 differs text name other = ⊎_elim (λ same. absurd (other (sym ((bytes_eq-Decides text name).0 same)))) (λ e. e) (cases_Bool (bytes_eq text name))
