@@ -1,4 +1,5 @@
 pub mod Labels
+pub mod Pieces
 pub mod Places
 pub mod Separators
 pub mod Trimmed

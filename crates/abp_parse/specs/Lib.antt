@@ -1,6 +1,6 @@
 pub mod Cut
 pub mod Excluded
-pub mod NextPlace
+pub mod NextSign
 pub mod Rest
 pub mod Seen
 pub mod Told

@@ -47,7 +47,10 @@ fn plain_pattern(alloc: Global, text: &[u8]) -> Result<Pattern, NoMemory>
     match Pattern::read(alloc, text.as_str()) {
         Ok(pattern) => Ok(pattern),
         Err(PatternRefusal::NoMemory) => Err(NoMemory),
-        Err(_) => unreachable!("the text is a pattern"),
+        Err(PatternRefusal::Empty) => unreachable!("the text has a byte"),
+        Err(PatternRefusal::TooLong) => unreachable!("the text is short"),
+        Err(PatternRefusal::AnchorStar) => unreachable!("the text begins otherwise"),
+        Err(PatternRefusal::NotAscii) => unreachable!("the text is ASCII"),
     }
 }
 

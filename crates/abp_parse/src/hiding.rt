@@ -1,7 +1,7 @@
 //! Lines that hide elements of a page.
 ghost use Rattle.std.specs.Prelude.{◌≡◌};
 ghost use Rattle.list_spec.specs.LineKind as lines;
-ghost use Rattle.abp_parse.specs.NextPlace.{IsNextPlace};
+ghost use Rattle.abp_parse.specs.NextSign.{IsNextSign};
 
 use memchr::memchr;
 
@@ -16,11 +16,14 @@ fn begins_hiding(text: &[u8]) -> bool
         || text.starts_with(b"#%#")
 }
 
-// The first place at which a separator may stand.
-fn next_place(text: &[u8]) -> Option<usize>
-    ensures { IsNextPlace text.now result }
+// The rest of the text from the first place on at which a separator may stand.
+fn next_sign(text: &[u8]) -> Option<&[u8]>
+    ensures { IsNextSign text.now result }
 {
-    memchr(b'#', text)
+    match memchr(b'#', text) {
+        Some(place) => Some(&text[place..]),
+        None => None,
+    }
 }
 
 /// Whether the text has a separator between domains and what is hidden on them.
@@ -28,11 +31,14 @@ pub fn hides(text: &[u8]) -> bool
     ensures { result ≡ lines.hides text.now }
 {
     let mut rest = text;
-    while let Some(place) = next_place(rest) {
-        if begins_hiding(&rest[place..]) {
+    while let Some(here) = next_sign(rest) {
+        if begins_hiding(here) {
             return true;
         }
-        rest = &rest[place + 1..];
+        match here.split_first() {
+            Some((_, later)) => rest = later,
+            None => return false,
+        }
     }
     false
 }

@@ -9,7 +9,7 @@ ghost use Rattle.abp_parse.specs.Told.{IsFault, IsRead, IsWrittenInAscii, speaks
 
 use crate::asked::{Asked, Subject, subject_of};
 use crate::entries::{are_domains, cut_tilde, entries_of, is_domain_list};
-use crate::text::{cut_at, lower_text};
+use crate::text::{cut_at, lower_text, place_of};
 use dnr_base::NoMemory;
 use list_spec::{DomainEntry, OptionName, Reason};
 use std::alloc::Global;
@@ -43,7 +43,7 @@ fn written_of(piece: &[u8]) -> Written<'_>
     ensures ascii { IsAscii piece.now → IsWrittenInAscii result }
 {
     let (inverse, text) = cut_tilde(piece);
-    match text.iter().position(|byte| *byte == b'=') {
+    match place_of(b'=', text) {
         Some(place) => Written {
             inverse,
             name: &text[..place],

@@ -1,5 +1,5 @@
 //! Parts of a line.
-ghost use Rattle.std.specs.Prelude.{◌≡◌, ◌∷◌, ◌<◌, IfOk, IfSome, IsAscii, length, map, reverse};
+ghost use Rattle.std.specs.Prelude.{◌≡◌, ◌==◌, ◌∷◌, ◌<◌, IfOk, IfSome, IsAscii, length, map, position, reverse};
 ghost use Rattle.std.specs.Char.{to_ascii_lowercase};
 ghost use Rattle.list_spec.specs.LineKind as lines;
 ghost use Rattle.list_spec.specs.Pieces as pieces;
@@ -50,13 +50,20 @@ pub fn trimmed(bytes: &[u8]) -> &[u8]
     without_end(without_front(bytes))
 }
 
+/// The first place of a byte.
+pub fn place_of(byte: u8, text: &[u8]) -> Option<usize>
+    ensures { result ≡ position (λ b. b == byte) text.now }
+{
+    text.iter().position(|other| *other == byte)
+}
+
 /// The piece of a text before the first such byte, and what stands behind the byte, if there is one.
 pub fn cut_at(separator: u8, text: &[u8]) -> (&[u8], Option<&[u8]>)
     ensures pieces { pieces.pieces_of separator text.now ≡ result.0.now ∷ pieces_left separator result.1 }
     ensures shorter { IfSome result.1 (λ later. length later.now < length text.now) }
     ensures ascii { IsAscii text.now → is_kept_ascii result.0.now result.1 }
 {
-    match text.iter().position(|byte| *byte == separator) {
+    match place_of(separator, text) {
         Some(place) => (&text[..place], Some(&text[place + 1..])),
         None => (text, None),
     }
