@@ -1,3 +1,5 @@
+pub mod Ascii
+pub mod Excluding
 pub mod Labels
 pub mod Pieces
 pub mod Places

@@ -1,6 +1,6 @@
 -- Where the options of a filter begin, read from the end.
 use Rattle.std.proofs.Common.{◌≡◌, ◌≢◌, ◌<◌, ◌≤◌, ◌+◌, ℕ, zero, suc, List, [], ◌∷◌, length, take, drop, get_or, Bool, true, false, cond, ◌&&◌, ◌==◌, nat_lt, refl, sym, ap, ◌∙◌, subst, ⊎_elim, arith, ne_eqb, Option, Some, None, not, lt-ltb, eq-eqb, is_some}
-use Rattle.std.specs.Prelude.{option_map, position}
+use Rattle.std.specs.Prelude.{IfSome, option_map, position}
 use Rattle.std.specs.List.{list_all, slice_split, onto_first, position_or_len}
 use Rattle.std.proofs.lemmas.Bool.{cases_Bool, cond-true, cond-false, le-ltb, eqb-true, eqb-false, ltb-true, ltb-false}
 use Rattle.std.proofs.Math.Bool.{and-true, and-false}
@@ -208,3 +208,21 @@ no_dollar (b ∷ text) others =
 pub no_dollar_told : (text : List ℕ) (place : Option ℕ) → IsFirstByte (is_byte 36) text place → is_some place ≡ false → options_place text ≡ None
 no_dollar_told text None none e = no_dollar text (λ k less e. none k (omega arith) less (eq-eqb (get_or text k 0) 36 e))
 no_dollar_told text (Some place) first e = cc
+
+within_more : (n : ℕ) (t : Bool) (o : Option ℕ) → 0 < n → IfSome o (λ place. suc place < n) → IfSome (cond t (Some 0) (option_map suc o)) (λ place. place < n)
+within_more n true o some within = some
+within_more n false None some within = tt
+within_more n false (Some place) some within = within
+
+further_within : (n : ℕ) (o : Option ℕ) → IfSome o (λ place. place < n) → IfSome o (λ place. suc place < suc n)
+further_within n None within = tt
+further_within n (Some place) within = omega arith
+
+pub options_within : (text : List ℕ) → IfSome (options_place text) (λ place. place < length text)
+options_within [] = tt
+options_within (b ∷ text) =
+    let some : 0 < length (b ∷ text) = omega arith in
+    within_more (length (b ∷ text)) (b == 36 && is_option_list text) (options_place text) some (further_within (length text) (options_place text) (options_within text))
+
+pub place_within : (text : List ℕ) (place : Option ℕ) → place ≡ options_place text → IfSome place (λ p. p < length text)
+place_within text place e = subst (λ (o : Option ℕ). IfSome o (λ p. p < length text)) (sym e) (options_within text)

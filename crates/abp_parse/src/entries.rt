@@ -1,7 +1,7 @@
 //! The domains of a filter's option `domain=`.
-ghost use Rattle.std.specs.Prelude.{◌≡◌, IfOk, IsAscii};
-ghost use Rattle.std.specs.List.{list_all};
-ghost use Rattle.abp_parse.specs.Excluded.{HasExcluded};
+ghost use Rattle.std.specs.Prelude.{◌≡◌, IfOk, OnOk, IsAscii};
+ghost use Rattle.std.specs.List.{list_all, list_any};
+ghost use Rattle.abp_parse.specs.Excluded.{AddsEntry, HasExcluded};
 ghost use Rattle.dnr_spec.specs.Domains as domains;
 ghost use Rattle.list_spec.specs.Entries as spec;
 ghost use Rattle.list_spec.specs.Pieces as pieces;
@@ -53,15 +53,28 @@ pub fn entries_of(alloc: Global, value: &[u8]) -> Result<Vec<DomainEntry>, NoMem
     }
 }
 
+// Puts the domain of an entry in, if it is excluded.
+fn exclude(
+    alloc: Global,
+    excluded: &mut BTreeSet<String>,
+    entry: &DomainEntry,
+) -> Result<(), NoMemory>
+    ensures { OnOk result (AddsEntry excluded.old excluded.new entry.now) }
+{
+    if entry.excluded {
+        let domain = String::from_str(alloc, entry.domain.as_str())?;
+        excluded.insert(domain)?;
+    }
+    Ok(())
+}
+
 // The domains that are excluded.
 fn excluded_of(alloc: Global, entries: &[DomainEntry]) -> Result<BTreeSet<String>, NoMemory>
     ensures { IfOk result (λ excluded. HasExcluded excluded entries.now) }
 {
     let mut excluded = BTreeSet::new(alloc);
     for entry in entries {
-        if entry.excluded {
-            excluded.insert(String::from_str(alloc, entry.domain.as_str())?)?;
-        }
+        exclude(alloc, &mut excluded, entry)?;
     }
     Ok(excluded)
 }
@@ -76,12 +89,22 @@ fn has_conflict(alloc: Global, entries: &[DomainEntry]) -> Result<bool, NoMemory
         .any(|entry| !entry.excluded && excluded.contains(entry.domain.as_str())))
 }
 
+// Whether an entry names no domain.
+fn has_empty(entries: &[DomainEntry]) -> bool
+    ensures { result ≡ list_any spec.is_empty_entry entries.now }
+{
+    entries.iter().any(|entry| entry.domain.as_str().is_empty())
+}
+
 /// Whether each entry names a domain, and none is both listed and excluded.
 pub fn is_domain_list(alloc: Global, entries: &[DomainEntry]) -> Result<bool, NoMemory>
     ensures { IfOk result (λ answer. answer ≡ spec.is_domain_list entries.now) }
 {
-    let has_empty = entries.iter().any(|entry| entry.domain.as_str().is_empty());
-    Ok(!(has_empty || has_conflict(alloc, entries)?))
+    if has_empty(entries) {
+        return Ok(false);
+    }
+    let conflict = has_conflict(alloc, entries)?;
+    Ok(!conflict)
 }
 
 /// Whether a rule may list the domains of all entries.

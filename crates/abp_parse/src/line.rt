@@ -1,6 +1,7 @@
 //! The kind of a line.
-ghost use Rattle.std.specs.Prelude.{◌≡◌, IfOk};
-ghost use Rattle.std.specs.List.{list_any};
+ghost use Rattle.std.specs.Prelude.{◌≡◌, IfOk, IsAscii, IsTrue};
+ghost use Rattle.std.specs.Char.{is_ascii};
+ghost use Rattle.std.specs.List.{list_all, list_any};
 ghost use Rattle.list_spec.specs.LineKind as lines;
 ghost use Rattle.abp_parse.specs.Seen.{line_seen};
 
@@ -61,6 +62,21 @@ pub enum Line {
     Unsupported(Reason),
 }
 
+// Whether it is the first line of a list.
+fn is_header(text: &[u8]) -> bool
+    ensures { result ≡ lines.is_header text.now }
+{
+    text.starts_with(b"[Adblock") && text.ends_with(b"]")
+}
+
+// Whether all of the text is ASCII.
+fn is_ascii(text: &[u8]) -> bool
+    ensures value { result ≡ list_all is_ascii text.now }
+    ensures ascii { IsTrue result → IsAscii text.now }
+{
+    text.is_ascii()
+}
+
 // Whether the text has white space or a control character.
 fn has_space(text: &[u8]) -> bool
     ensures { result ≡ list_any lines.is_space text.now }
@@ -83,11 +99,11 @@ pub fn parse_line(alloc: Global, bytes: &[u8]) -> Result<Line, NoMemory>
         Ok(Line::Blank)
     } else if text.starts_with(b"!") {
         Ok(Line::Comment)
-    } else if text.starts_with(b"[Adblock") && text.ends_with(b"]") {
+    } else if is_header(text) {
         Ok(Line::Header)
     } else if hides(text) {
         Ok(Line::Unsupported(Reason::ElementHiding))
-    } else if !text.is_ascii() {
+    } else if !is_ascii(text) {
         Ok(Line::Unsupported(Reason::NotAscii))
     } else if has_space(text) {
         Ok(Line::Unsupported(Reason::Space))

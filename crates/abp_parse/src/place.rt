@@ -1,5 +1,5 @@
 //! Where the options of a filter begin.
-ghost use Rattle.std.specs.Prelude.{◌≡◌, ◌==◌, ◌&&◌, false, None, Some, if◌then◌else◌};
+ghost use Rattle.std.specs.Prelude.{◌≡◌, ◌==◌, ◌&&◌, ◌<◌, false, None, Some, IfSome, length, if◌then◌else◌};
 ghost use Rattle.list_spec.specs.Options as options;
 ghost use Rattle.abp_parse.specs.Rest.{before, rest_of};
 
@@ -102,7 +102,8 @@ fn has_dollar(text: &[u8]) -> bool
 
 /// The place of the leftmost `$` behind which the whole rest is a list of options.
 pub fn options_place(text: &[u8]) -> Option<usize>
-    ensures { result ≡ options.options_place text.now }
+    ensures place { result ≡ options.options_place text.now }
+    ensures within { IfSome result (λ place. place < length text.now) }
 {
     // Most filters have no `$`.
     if has_dollar(text) {
