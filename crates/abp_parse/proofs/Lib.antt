@@ -1,0 +1,7 @@
+pub mod Ascii
+pub mod Excluding
+pub mod Labels
+pub mod Pieces
+pub mod Places
+pub mod Separators
+pub mod Trimmed

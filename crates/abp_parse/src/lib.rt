@@ -1,0 +1,22 @@
+//! The lines of a filter list, by Adblock Plus, "How to write filters": which are comments, which are
+//! filters and what these ask for, and why the others are no filters that this project supports.
+//!
+//! What a line means stands in `list_spec`, `specs/LineKind.antt`.
+#![tactic(auto)]
+
+mod asked;
+mod domain;
+mod entries;
+mod filter;
+mod hiding;
+mod line;
+mod options;
+mod place;
+mod text;
+#[cfg(test)]
+mod tests;
+
+pub use dnr_base::{Items, KindSet, NoMemory, Text};
+pub use line::{FilterLine, FilterPattern, Line, parse_line};
+pub use list_spec::{DomainEntry, Reason};
+pub use url_filter::Pattern;

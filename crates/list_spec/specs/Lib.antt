@@ -1,0 +1,6 @@
+pub mod Pieces
+pub mod Entries
+pub mod OptionName
+pub mod Options
+pub mod LineKind
+pub mod Examples
