@@ -4,3 +4,4 @@ pub mod Window
 pub mod RawLines
 pub mod Pieces
 pub mod ReadSoFar
+pub mod OpenFilesLemmas

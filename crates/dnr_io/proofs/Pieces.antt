@@ -4,7 +4,7 @@ use Rattle.std.proofs.lemmas.Bool.Decides.{nat_tests}
 use Rattle.std.specs.Prelude.{IfSome}
 use Rattle.std.specs.Io.KnownBytes.{Consumes, IsAtEnd, prepend_known}
 use Rattle.dnr_spec.specs.Lines.{max_line, line_of, max_lines, is_short, raw_lines_of}
-use Rattle.dnr_io.specs.Ahead.{HasNoLf, MovesPiece, IsTooLong}
+use Rattle.dnr_io.specs.Ahead.{HasNoLf, MovesPiece, OverflowsLine}
 use Rattle.dnr_io.specs.Lines.{GivesLine, IsBeyond, StartsTooLong, TakesRaw}
 use Rattle.dnr_io.proofs.RawLines.{raw_ended, raw_last, raw_begins}
 
@@ -63,7 +63,7 @@ too_long all line piece rest left e plain plain_piece long =
     }
 
 -- a line that is too long
-pub overflows : (all : Option (List ℕ)) (before line : List ℕ) (left : Option (List ℕ)) → Consumes all (prepend_known before left) line → HasNoLf line → IsTooLong before line → IfSome all StartsTooLong
+pub overflows : (all : Option (List ℕ)) (before line : List ℕ) (left : Option (List ℕ)) → Consumes all (prepend_known before left) line → HasNoLf line → OverflowsLine before line → IfSome all StartsTooLong
 overflows None before line left taken plain h = tt
 overflows (Some all) before line None taken plain h = absurd taken
 overflows (Some all) before line (Some left) taken plain h =

@@ -23,7 +23,7 @@ pub record MovesPiece (before after line grown : List ℕ) (ended : Bool) : Type
   pub moved : grown ≡ line ++ piece
 
 -- the line would be too long with the first piece
-pub record IsTooLong (before line : List ℕ) : Type 0 where
+pub record OverflowsLine (before line : List ℕ) : Type 0 where
   pub piece : List ℕ
   pub rest : List ℕ
   pub plain : HasNoLf piece

@@ -2,15 +2,14 @@
 use Rattle.std.specs.Prelude.{ℕ, Bool, List, [], Option, Some, option_map, option_and_then, unwrap_or, slice_get, drop}
 use Rattle.std.specs.List.{find}
 use Rattle.std.specs.Str.{bytes_eq}
-use Rattle.std.specs.String.{string_bytes}
 use Rattle.dnr_io.specs.Shelf.{Names}
 use Rattle.dnr_io.specs.declared.files.MemoryFile.{MemoryFile}
 
 abbrev pub bytes_of : MemoryFile → List ℕ
-bytes_of file = file.bytes.items
+bytes_of file = file.bytes
 
 abbrev pub is_named : List ℕ → MemoryFile → Bool
-is_named name file = bytes_eq (string_bytes file.name) name
+is_named name file = bytes_eq file.name name
 
 -- the bytes of the first file of this name
 abbrev pub held_in : List MemoryFile → Names
@@ -27,3 +26,8 @@ bytes_at files place = unwrap_or (option_map bytes_of (option_and_then (slice_ge
 -- what is left of that file where this many bytes of it were given
 abbrev pub left_in : List MemoryFile → Option ℕ → ℕ → List ℕ
 left_in files place given = drop given (bytes_at files place)
+
+-- files, and what is left of the one that is read
+pub record OpenFiles : Type 0 where
+  pub files : List MemoryFile
+  pub left : List ℕ

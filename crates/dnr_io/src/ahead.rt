@@ -1,7 +1,7 @@
 ghost use Rattle.std.specs.Prelude.{◌≡◌, ◌<◌, ◌≤◌, ◌+◌, List, ℕ, [], length, drop, is_some, slice_range, vec_len, IfOk, OnErr, OnOk, IsErrOf, IsTrue, IsFalse};
 ghost use Rattle.std.specs.Io.KnownBytes.{prepend_known, IsAtEnd};
 ghost use Rattle.dnr_spec.specs.Lines.{max_line};
-ghost use Rattle.dnr_io.specs.Ahead.{IsFirstPiece, IsTooLong, MovesPiece};
+ghost use Rattle.dnr_io.specs.Ahead.{IsFirstPiece, OverflowsLine, MovesPiece};
 ghost use Rattle.dnr_base.specs.Faults.{HasCause};
 
 use crate::lines::MAX_LINE;
@@ -66,7 +66,7 @@ impl Ahead {
         requires { length line.old.items ≤ max_line }
         ensures moved { IfOk result (MovesPiece self.old self.new line.old.items line.new.items) }
         ensures short { OnOk result (length line.new.items ≤ max_line) }
-        ensures too_long { IsErrOf result LineRefusal.LineTooLong → IsTooLong self.old line.old.items }
+        ensures too_long { IsErrOf result LineRefusal.LineTooLong → OverflowsLine self.old line.old.items }
         ensures no_fault { IsErrOf result LineRefusal.ReadFault → ⊥ }
     {
         let (piece, ended) = first_piece(self.bytes());

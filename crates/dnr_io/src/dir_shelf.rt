@@ -1,9 +1,11 @@
 ghost use Rattle.std.specs.Prelude.{◌≡◌, ◌≤◌, None, length, OnOk};
+ghost use Rattle.std.specs.Io.{ReadsAtMost};
 
-use dnr_base::count_fault;
 use crate::{Failed, Shelf, ShelfRefusal, Source};
+use dnr_base::count_fault;
 use std::fs;
 use std::io::{ErrorKind, Read};
+use std::marker::Model;
 use std::rt::Files;
 
 /// The files under the current folder. It tells nothing of what they hold.
@@ -12,6 +14,14 @@ pub struct DirShelf<'a, R: Files> {
     rt: &'a R,
     reading: Option<R::File>,
     faults: u64,
+}
+
+impl<'a, R: Files> Model for DirShelf<'a, R> {
+    ghost use Rattle.std.specs.Prelude.{ℕ};
+
+    ghost Value = { ℕ };
+
+    ghost view = { λ shelf. shelf.faults };
 }
 
 impl<'a, R: Files> DirShelf<'a, R> {
@@ -30,7 +40,7 @@ impl<'a, R: Files> DirShelf<'a, R> {
 impl<'a, R: Files> Source for DirShelf<'a, R> {
     ghost left = { λ _. None };
 
-    ghost faults = { λ shelf. shelf.faults };
+    ghost faults = { λ faults. faults };
 
     fn faults(&self) -> u64 {
         self.faults
@@ -40,7 +50,7 @@ impl<'a, R: Files> Source for DirShelf<'a, R> {
         let Some(file) = &mut self.reading else {
             return Ok(0);
         };
-        let Ok(count) = file.read(buf) else {
+        let Ok(count) = read_some(file, buf) else {
             count_fault(&mut self.faults);
             return Err(Failed);
         };
@@ -68,6 +78,20 @@ impl<'a, R: Files> Shelf for DirShelf<'a, R> {
         self.reading = Some(file);
         Ok(())
     }
+}
+
+/// One read, tried again where a signal interrupts it.
+pub fn read_some<R: Read>(reader: &mut R, buf: &mut [u8]) -> Result<usize, Failed>
+    ensures { ReadsAtMost result buf.new }
+{
+    for _ in 0..u64::MAX {
+        match reader.read(buf) {
+            Ok(count) => return Ok(count),
+            Err(error) if error.kind() == ErrorKind::Interrupted => {}
+            Err(_) => return Err(Failed),
+        }
+    }
+    Err(Failed)
 }
 
 // Reads at most one byte past the limit, so that a file without an end is refused too.

@@ -1,13 +1,22 @@
 ghost use Rattle.std.specs.Prelude.{◌≡◌, ◌<◌, Some, []};
-ghost use Rattle.dnr_io.specs.Files.{held_or_empty, left_in};
+ghost use Rattle.dnr_io.specs.Files.{held_or_empty};
 
-use crate::files::{Files, hand_over};
+use crate::files::{OpenFiles, hand_over};
 use crate::{Failed, MemoryFile, Shelf, ShelfRefusal, Source};
+use std::marker::Model;
 
 /// Files in memory, as a shelf that never fails: a name that was not given holds no bytes.
 #[derive(Drop)]
 pub struct FaultlessShelf {
-    inner: Files,
+    inner: OpenFiles,
+}
+
+impl Model for FaultlessShelf {
+    ghost use Rattle.dnr_io.specs.Files.{OpenFiles};
+
+    ghost Value = { OpenFiles };
+
+    ghost view = { λ shelf. shelf.inner };
 }
 
 impl FaultlessShelf {
@@ -18,15 +27,15 @@ impl FaultlessShelf {
         ensures left { ⟦<FaultlessShelf as Source>⟧.left result ≡ Some [] }
     {
         FaultlessShelf {
-            inner: Files::new(files, most),
+            inner: OpenFiles::new(files, most),
         }
     }
 }
 
 impl Source for FaultlessShelf {
-    ghost left = { λ shelf. Some (left_in shelf.inner.files.items shelf.inner.reading shelf.inner.at) };
+    ghost left = { λ shelf. Some shelf.left };
 
-    ghost files = { λ shelf. Some (held_or_empty shelf.inner.files.items) };
+    ghost files = { λ shelf. Some (held_or_empty shelf.files) };
 
     ghost faults = { λ _. 0 };
 
@@ -46,8 +55,7 @@ impl Shelf for FaultlessShelf {
     }
 
     fn start(&mut self, name: &str) -> Result<(), Failed> {
-        self.inner.reading = self.inner.place(name);
-        self.inner.at = 0;
+        self.inner.start_or_end(name);
         Ok(())
     }
 }

@@ -1,6 +1,7 @@
 ghost use Rattle.std.specs.Prelude.{◌≡◌, ◌<◌, ◌≤◌, Some, drop, take, min, length, vec_len};
 
 use crate::{Failed, Source};
+use std::marker::Model;
 
 /// Bytes in memory, as a source that never fails.
 #[derive(Drop)]
@@ -8,22 +9,30 @@ pub struct FaultlessSource {
     bytes: Vec<u8>,
     at: usize,
     most: usize,
-    ghost within: { at ≤ vec_len bytes },
-    ghost gives: { 0 < most },
+}
+
+impl Model for FaultlessSource {
+    ghost use Rattle.std.specs.Prelude.{ℕ, List, drop, ◌≤◌, ◌<◌, vec_len};
+
+    ghost Value = { List ℕ };
+
+    ghost view = { λ source. drop source.at source.bytes.items };
+
+    ghost invariant = { λ source. (source.at ≤ vec_len source.bytes) × (0 < source.most) };
 }
 
 impl FaultlessSource {
     /// A read gives at most `most` bytes.
     pub fn new(bytes: Vec<u8>, most: usize) -> FaultlessSource
         requires { 0 < most }
-        ensures left { ⟦<FaultlessSource as Source>⟧.left result ≡ Some bytes.items }
+        ensures { ⟦<FaultlessSource as Source>⟧.left result ≡ Some bytes.items }
     {
         FaultlessSource { bytes, at: 0, most }
     }
 }
 
 impl Source for FaultlessSource {
-    ghost left = { λ source. Some (drop source.at source.bytes.items) };
+    ghost left = { λ left. Some left };
 
     ghost faults = { λ _. 0 };
 

@@ -1,36 +1,60 @@
-ghost use Rattle.std.specs.Prelude.{◌≡◌, ◌<◌, ◌≤◌, ◌++◌, None, [], length, take, option_map, OnOk, OnErr, IsErrOf};
+ghost use Rattle.std.specs.Prelude.{◌≡◌, ◌<◌, ◌≤◌, ◌^◌, ◌++◌, Some, None, [], length, take, option_map, unwrap_or, OnOk, OnErr, IsErrOf, IsTrue, IsFalse, string_bytes};
 ghost use Rattle.std.specs.List.{position};
-ghost use Rattle.dnr_io.specs.Files.{is_named, held_in, left_in};
+ghost use Rattle.dnr_io.specs.Files.{is_named, held_in, left_in, bytes_at};
 
 use crate::ShelfRefusal;
 use crate::faultless_source::copy_front;
+use dnr_base::{Items, Text};
+use std::marker::Model;
 
 /// A file in memory.
 #[derive(Drop)]
 pub struct MemoryFile {
-    pub name: String,
-    pub bytes: Vec<u8>,
+    /// The name by which it is asked for.
+    pub name: Text,
+    /// All its bytes.
+    pub bytes: Items<u8>,
+}
+
+impl MemoryFile {
+    /// A file of this name and these bytes, which are not copied.
+    pub fn new(name: String, bytes: Vec<u8>) -> MemoryFile
+        ensures { result ≡ record { name = string_bytes name; bytes = bytes.items } }
+    {
+        MemoryFile {
+            name: Text::build(name),
+            bytes: Items::build(bytes),
+        }
+    }
 }
 
 /// Files in memory, of which one at a time is read from first to last.
 #[derive(Drop)]
-pub struct Files {
-    pub files: Vec<MemoryFile>,
-    pub reading: Option<usize>,
-    pub at: usize,
-    pub most: usize,
-    ghost gives: { 0 < most },
+pub struct OpenFiles {
+    files: Vec<MemoryFile>,
+    reading: Option<usize>,
+    at: usize,
+    most: usize,
 }
 
-impl Files {
-    /// A read gives at most `most` bytes.
-    pub fn new(files: Vec<MemoryFile>, most: usize) -> Files
+impl Model for OpenFiles {
+    ghost use Rattle.std.specs.Prelude.{◌<◌};
+    ghost use Rattle.dnr_io.specs.Files.{OpenFiles, left_in};
+
+    ghost Value = { OpenFiles };
+
+    ghost view = { λ f. record { files = f.files.items; left = left_in f.files.items f.reading f.at } };
+
+    ghost invariant = { λ f. 0 < f.most };
+}
+
+impl OpenFiles {
+    /// Files of which none is read. A read gives at most `most` bytes.
+    pub fn new(files: Vec<MemoryFile>, most: usize) -> OpenFiles
         requires { 0 < most }
-        ensures files { result.files.items ≡ files.items }
-        ensures reading { result.reading ≡ None }
-        ensures at { result.at ≡ 0 }
+        ensures { result ≡ record { files = files.items; left = [] } }
     {
-        Files {
+        OpenFiles {
             files,
             reading: None,
             at: 0,
@@ -38,18 +62,9 @@ impl Files {
         }
     }
 
-    /// The place of the first file of a name.
-    pub fn place(&self, name: &str) -> Option<usize>
-        ensures { result ≡ position (is_named name.now) self.now.files.items }
-    {
-        self.files
-            .iter()
-            .position(|file| file.name.as_str() == name)
-    }
-
     /// The bytes of the first file of a name.
     pub fn held(&self, name: &str) -> Option<&[u8]>
-        ensures { option_map (λ bytes. bytes.now) result ≡ held_in self.now.files.items name.now }
+        ensures { option_map (λ bytes. bytes.now) result ≡ held_in self.now.files name.now }
     {
         self.files
             .iter()
@@ -57,27 +72,59 @@ impl Files {
             .map(|file| file.bytes.as_slice())
     }
 
+    /// Reads on in the first file of a name, from its first byte, and says whether there is one. Where
+    /// there is none, nothing changes.
+    pub fn start(&mut self, name: &str) -> bool
+        ensures found { IsTrue result → Some self.new.left ≡ held_in self.old.files name.now }
+        ensures missing { IsFalse result → self.new ≡ self.old }
+        ensures files { self.new.files ≡ self.old.files }
+    {
+        let place = place_of(&self.files, name);
+        if place.is_none() {
+            return false;
+        }
+        self.reading = place;
+        self.at = 0;
+        true
+    }
+
+    /// The same, where a name that no file has stands for no bytes.
+    pub fn start_or_end(&mut self, name: &str)
+        ensures left { self.new.left ≡ unwrap_or (held_in self.old.files name.now) [] }
+        ensures files { self.new.files ≡ self.old.files }
+    {
+        self.reading = place_of(&self.files, name);
+        self.at = 0;
+    }
+
     /// Takes the first bytes that are left of the file that is read into `buf`, and says how many.
     pub fn read(&mut self, buf: &mut [u8]) -> usize
         ensures bound { result ≤ length buf.new }
-        ensures bytes { left_in self.old.files.items self.old.reading self.old.at
-            ≡ take result buf.new ++ left_in self.new.files.items self.new.reading self.new.at }
-        ensures end { result ≡ 0 → 0 < length buf.new → left_in self.new.files.items self.new.reading self.new.at ≡ [] }
-        ensures files { self.new.files.items ≡ self.old.files.items }
+        ensures bytes { self.old.left ≡ take result buf.new ++ self.new.left }
+        ensures end { result ≡ 0 → 0 < length buf.new → self.new.left ≡ [] }
+        ensures files { self.new.files ≡ self.old.files }
     {
-        let count = copy_front(self.left(), buf, self.most);
+        let count = copy_front(left_of(&self.files, self.reading, self.at), buf, self.most);
         self.at += count;
         count
     }
+}
 
-    // The bytes that are left of the file that is read.
-    fn left(&self) -> &[u8]
-        ensures { result.now ≡ left_in self.now.files.items self.now.reading self.now.at }
-    {
-        match self.reading.and_then(|place| self.files.get(place)) {
-            Some(file) => file.bytes.get(self.at..).unwrap_or(&[]),
-            None => &[],
-        }
+// The place of the first file of a name.
+fn place_of(files: &[MemoryFile], name: &str) -> Option<usize>
+    ensures { result ≡ position (is_named name.now) files.now }
+{
+    files.iter().position(|file| file.name.as_str() == name)
+}
+
+// The bytes that are left of the file at a place, of which so many were given.
+fn left_of(files: &[MemoryFile], place: Option<usize>, given: usize) -> &[u8]
+    ensures left { result.now ≡ left_in files.now place given }
+    ensures small { length (bytes_at files.now place) < 2 ^ 64 }
+{
+    match place.and_then(|place| files.get(place)) {
+        Some(file) => file.bytes.as_slice().get(given..).unwrap_or(&[]),
+        None => &[],
     }
 }
 

@@ -1,15 +1,24 @@
 ghost use Rattle.std.specs.Prelude.{◌≡◌, ◌<◌, Some, []};
-ghost use Rattle.dnr_io.specs.Files.{held_in, left_in};
+ghost use Rattle.dnr_io.specs.Files.{held_in};
 
-use crate::files::{Files, hand_over};
-use dnr_base::Plan;
+use crate::files::{OpenFiles, hand_over};
 use crate::{Failed, MemoryFile, Shelf, ShelfRefusal, Source};
+use dnr_base::Plan;
+use std::marker::Model;
 
 /// Files in memory, as a shelf that fails at listed calls and at a name that was not given.
 #[derive(Drop)]
 pub struct MemoryShelf {
-    inner: Files,
+    inner: OpenFiles,
     plan: Plan,
+}
+
+impl Model for MemoryShelf {
+    ghost use Rattle.dnr_io.specs.Memory.{ShelfInMemory};
+
+    ghost Value = { ShelfInMemory };
+
+    ghost view = { λ shelf. record { files = shelf.inner.files; left = shelf.inner.left; plan = shelf.plan } };
 }
 
 impl MemoryShelf {
@@ -18,21 +27,22 @@ impl MemoryShelf {
     /// fail.
     pub fn new(files: Vec<MemoryFile>, most: usize, failing: Vec<u64>) -> MemoryShelf
         requires { 0 < most }
+        ensures value { result ≡ record { files = files.items; left = []; plan = record { failing = failing.items; calls = 0; faults = 0 } } }
         ensures files { ⟦<MemoryShelf as Source>⟧.files result ≡ Some (held_in files.items) }
         ensures left { ⟦<MemoryShelf as Source>⟧.left result ≡ Some [] }
         ensures faults { ⟦<MemoryShelf as Source>⟧.faults result ≡ 0 }
     {
         MemoryShelf {
-            inner: Files::new(files, most),
+            inner: OpenFiles::new(files, most),
             plan: Plan::new(failing),
         }
     }
 }
 
 impl Source for MemoryShelf {
-    ghost left = { λ shelf. Some (left_in shelf.inner.files.items shelf.inner.reading shelf.inner.at) };
+    ghost left = { λ shelf. Some shelf.left };
 
-    ghost files = { λ shelf. Some (held_in shelf.inner.files.items) };
+    ghost files = { λ shelf. Some (held_in shelf.files) };
 
     ghost faults = { λ shelf. shelf.plan.faults };
 
@@ -65,13 +75,10 @@ impl Shelf for MemoryShelf {
         if self.plan.fails() {
             return Err(Failed);
         }
-        let place = self.inner.place(name);
-        if place.is_none() {
+        if !self.inner.start(name) {
             self.plan.count_fault();
             return Err(Failed);
         }
-        self.inner.reading = place;
-        self.inner.at = 0;
         Ok(())
     }
 }

@@ -1,8 +1,13 @@
-ghost use Rattle.std.specs.Prelude.{◌≡◌, ◌<◌, [], Some};
+ghost use Rattle.std.specs.Prelude.{◌≡◌, ◌<◌, ℕ, [], Some, length, IfOk, IsErr, IsTrue};
+ghost use Rattle.std.specs.Io.{WritesAtMost};
+ghost use Rattle.std.specs.Io.KnownBytes.{WriteAppends};
+ghost use Rattle.dnr_base.specs.Faults.{HasCause, next_count};
+ghost use Rattle.dnr_base.specs.Plan.{fails_next};
 
-use dnr_base::Plan;
 use crate::{Failed, FaultlessSink, Sink};
+use dnr_base::Plan;
 use std::alloc::Global;
+use std::marker::Model;
 
 /// A sink that keeps what it takes, and fails at listed calls.
 #[derive(Drop)]
@@ -12,11 +17,20 @@ pub struct MemorySink {
     plan: Plan,
 }
 
+impl Model for MemorySink {
+    ghost use Rattle.dnr_io.specs.Memory.{SinkInMemory};
+
+    ghost Value = { SinkInMemory };
+
+    ghost view = { λ sink. record { taken = sink.bytes.items; plan = sink.plan } };
+}
+
 impl MemorySink {
     /// A write takes at most `most` bytes. The writes of the numbers in `failing`, counted from 1, fail,
     /// and so does one for which there is no memory.
     pub fn new(alloc: Global, most: usize, failing: Vec<u64>) -> MemorySink
         requires { 0 < most }
+        ensures value { result ≡ record { taken = []; plan = record { failing = failing.items; calls = 0; faults = 0 } } }
         ensures taken { ⟦<MemorySink as Sink>⟧.taken result ≡ Some [] }
         ensures faults { ⟦<MemorySink as Sink>⟧.faults result ≡ 0 }
     {
@@ -36,7 +50,7 @@ impl MemorySink {
 }
 
 impl Sink for MemorySink {
-    ghost taken = { λ sink. Some sink.bytes.items };
+    ghost taken = { λ sink. Some sink.taken };
 
     ghost faults = { λ sink. sink.plan.faults };
 
@@ -44,7 +58,15 @@ impl Sink for MemorySink {
         self.plan.faults()
     }
 
-    fn write(&mut self, piece: &[u8]) -> Result<usize, Failed> {
+    fn write(&mut self, piece: &[u8]) -> Result<usize, Failed>
+        ensures bound { WritesAtMost result piece.now }
+        ensures progress { IfOk result (λ count. 0 < length piece.now → 0 < count) }
+        ensures bytes { WriteAppends (Some self.old.taken) (Some self.new.taken) result piece.now }
+        ensures cause { HasCause self.old.plan.faults self.new.plan.faults result }
+        ensures fails { IsTrue (fails_next self.old.plan) → IsErr result }
+        ensures calls { self.new.plan.calls ≡ next_count self.old.plan.calls }
+        ensures failing { self.new.plan.failing ≡ self.old.plan.failing }
+    {
         if self.plan.fails() {
             return Err(Failed);
         }

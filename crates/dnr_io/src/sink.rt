@@ -1,4 +1,4 @@
-ghost use Rattle.std.specs.Prelude.{◌≡◌, ◌<◌, ℕ, List, Option, length, IfOk, OnOk, OnErr};
+ghost use Rattle.std.specs.Prelude.{◌≡◌, ◌<◌, ℕ, List, Option, length, is_some, IfOk, OnOk, OnErr};
 ghost use Rattle.std.specs.Io.{WritesAtMost};
 ghost use Rattle.std.specs.Io.KnownBytes.{Appends, WriteAppends};
 ghost use Rattle.dnr_base.specs.Faults.{HasCause};
@@ -8,7 +8,7 @@ use crate::Failed;
 
 /// What takes bytes from first to last.
 pub trait Sink {
-    /// The bytes that were taken, where the sink tells them. A sink that tells goes on telling.
+    /// The bytes that were taken, where the sink tells them.
     ghost taken: { Self → Option (List ℕ) };
 
     /// How many faults there were.
@@ -25,6 +25,7 @@ pub trait Sink {
         ensures bound { WritesAtMost result piece.now }
         ensures progress { IfOk result (λ count. 0 < length piece.now → 0 < count) }
         ensures bytes { WriteAppends (taken self.old) (taken self.new) result piece.now }
+        ensures told { is_some (taken self.new) ≡ is_some (taken self.old) }
         ensures cause { HasCause (faults self.old) (faults self.new) result };
 }
 
@@ -34,6 +35,7 @@ pub trait Sink {
 pub fn write_all<K: Sink>(sink: &mut K, bytes: &[u8]) -> Result<(), Failed>
     ensures written { OnOk result (Appends (K.taken sink.old) (K.taken sink.new) bytes.now) }
     ensures part { OnErr result (AppendsPart (K.taken sink.old) (K.taken sink.new) bytes.now) }
+    ensures told { is_some (K.taken sink.new) ≡ is_some (K.taken sink.old) }
     ensures cause { HasCause (K.faults sink.old) (K.faults sink.new) result }
 {
     let mut rest = bytes;

@@ -133,7 +133,7 @@ fn files(alloc: Global) -> Result<Vec<MemoryFile>, AllocError> {
     let name = String::from_str(alloc, "rules/easy.json")?;
     let bytes = Vec::from_slice(alloc, b"[1, 2]")?;
     let mut files = Vec::new(alloc);
-    files.push(MemoryFile { name, bytes })?;
+    files.push(MemoryFile::new(name, bytes))?;
     Ok(files)
 }
 

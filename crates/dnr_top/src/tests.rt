@@ -73,10 +73,8 @@ fn words(alloc: Global, texts: &[&str]) -> Result<Vec<String>, AllocError> {
 fn files(alloc: Global, rules: &[u8], script: &[u8]) -> Result<Vec<MemoryFile>, AllocError> {
     let mut files = Vec::new(alloc);
     for (name, bytes) in [("r.json", rules), ("q.jsonl", script)] {
-        files.push(MemoryFile {
-            name: String::from_str(alloc, name)?,
-            bytes: Vec::from_slice(alloc, bytes)?,
-        })?;
+        let name = String::from_str(alloc, name)?;
+        files.push(MemoryFile::new(name, Vec::from_slice(alloc, bytes)?))?;
     }
     Ok(files)
 }
@@ -532,10 +530,8 @@ fn the_last_value_of_a_key_counts(rt: HostRuntime) -> Result<(), Fail> {
 /// One file alone, of this name.
 fn one_file(alloc: Global, name: &str) -> Result<Vec<MemoryFile>, AllocError> {
     let mut files = Vec::new(alloc);
-    files.push(MemoryFile {
-        name: String::from_str(alloc, name)?,
-        bytes: Vec::from_slice(alloc, b"[]")?,
-    })?;
+    let name = String::from_str(alloc, name)?;
+    files.push(MemoryFile::new(name, Vec::from_slice(alloc, b"[]")?))?;
     Ok(files)
 }
 
