@@ -3,9 +3,9 @@ pub mod Suffixes
 pub mod Party
 pub mod UrlView
 pub mod UrlFilter
-pub mod Domains
 pub mod Transform
 pub mod Target
+pub mod Domains
 pub mod Lines
 pub mod Status
 pub mod Order
