@@ -65,8 +65,7 @@ fn is_label_byte(byte: u8) -> bool
 pub(crate) fn is_covered(domain: &str, host: &str) -> bool
     ensures { result ≡ spec.covers domain.now host.now }
 {
-    domain == host
-        || (is_subdomain(domain.as_bytes(), host.as_bytes()) && !is_ip_host(host))
+    domain == host || (is_subdomain(domain.as_bytes(), host.as_bytes()) && !is_ip_host(host))
 }
 
 // Whether the host ends with a dot and the domain.
