@@ -14,7 +14,7 @@ pub covered : (held : Option (Box Kept Global)) (kept : Box Kept Global) (inside
     → answer ≡ covers_some (entries_of held) host
 covered held kept inside boxed table host answer invariant some opened there unboxed told =
     let list = kept.value.entries.items in
-    let own : IsTable list kept.value.table = subst IsKept some invariant in
+    let own : IsTable list kept.value.table = (subst IsKept some invariant).0 in
     let whole : kept.value.table ≡ Some boxed = ap (λ (k : Kept). k.table) (sym opened) ∙ there in
     let has : HasTexts boxed.value list = subst (IsTable list) whole own in
     told ∙ ap (λ (t : BTreeSet (String Global)). covers_by (contains_text t) host) unboxed

@@ -2,3 +2,4 @@ pub mod Labels
 pub mod Ends
 pub mod Tables
 pub mod Covered
+pub mod Lowered

@@ -3,7 +3,8 @@ ghost use Rattle.std.specs.Prelude.{◌≡◌, ◌∷◌, nat_eq};
 ghost use Rattle.std.specs.Str.{bytes_eq};
 ghost use Rattle.std.specs.List.{list_all, ends_with};
 ghost use Rattle.dnr_spec.specs.Domains as spec;
-ghost use Rattle.dnr_spec.specs.Hosts as hosts;
+
+use dnr_spec::is_ip_host;
 
 // An address between brackets, or labels with a dot between each two.
 pub(crate) fn is_domain(text: &[u8]) -> bool
@@ -60,38 +61,11 @@ fn is_label_byte(byte: u8) -> bool
     byte.is_ascii_alphanumeric() || byte == b'-' || byte == b'_'
 }
 
-// Whether the host is an IP address.
-pub(crate) fn is_ip_host(host: &[u8]) -> bool
-    ensures { result ≡ hosts.is_ip_host host.now }
-{
-    host.starts_with(b"[") || ends_in_number(host)
-}
-
-// Whether the last label is a number. Of the label that is being read, `begun` says that it has a byte, and
-// `digits` that it has no other bytes than digits.
-fn ends_in_number(host: &[u8]) -> bool
-    ensures { result ≡ hosts.ends_in_number (hosts.labels_of host.now) }
-{
-    let mut begun = false;
-    let mut digits = true;
-    for byte in host {
-        if *byte == b'.' {
-            begun = false;
-            digits = true;
-        } else {
-            begun = true;
-            digits = digits && byte.is_ascii_digit();
-        }
-    }
-    begun && digits
-}
-
 // Whether the domain covers the host.
 pub(crate) fn is_covered(domain: &str, host: &str) -> bool
     ensures { result ≡ spec.covers domain.now host.now }
 {
-    domain == host
-        || (is_subdomain(domain.as_bytes(), host.as_bytes()) && !is_ip_host(host.as_bytes()))
+    domain == host || (is_subdomain(domain.as_bytes(), host.as_bytes()) && !is_ip_host(host))
 }
 
 // Whether the host ends with a dot and the domain.

@@ -1,4 +1,4 @@
-ghost use Rattle.std.specs.Prelude.{◌≡◌, [], List, map, position, not, Ok, IfOk, IfErr};
+ghost use Rattle.std.specs.Prelude.{◌≡◌, [], List, map, position, not, None, Ok, IfOk, IfErr};
 ghost use Rattle.dnr_spec.specs.Domains as spec;
 ghost use Rattle.dnr_spec.specs.Domains.{domains_of, covers_some, lower_case};
 ghost use Rattle.domain_set.specs.Refused.{IsRefused};
@@ -65,6 +65,7 @@ impl DomainSet {
 
     // The set of a list of domains.
     fn of_domains(alloc: Global, list: &[Text]) -> Result<DomainSet, NoMemory>
+        requires { position (λ entry. not (spec.is_domain entry)) list.now ≡ None }
         ensures { IfOk result (λ set. set ≡ map lower_case list.now) }
     {
         let mut entries = Vec::with_capacity(alloc, list.len())?;
@@ -76,6 +77,7 @@ impl DomainSet {
 
     // The set of these entries, with a table where they are many.
     fn of_entries(alloc: Global, entries: Vec<Text>) -> Result<DomainSet, NoMemory>
+        requires { domains_of entries.items ≡ Ok entries.items }
         ensures { IfOk result (λ set. set ≡ entries.items) }
     {
         if entries.is_empty() {
@@ -104,9 +106,11 @@ impl DomainSet {
         }
     }
 
-    /// The entries, in lower case, in the order of the list that was read, with its repeats.
+    /// The entries, in lower case, in the order of the list that was read, with its repeats. Read again they
+    /// give the same set.
     pub fn entries(&self) -> &[Text]
-        ensures { result.now ≡ self.now }
+        ensures value { result.now ≡ self.now }
+        ensures kept { domains_of self.now ≡ Ok self.now }
     {
         match &self.kept {
             None => &[],

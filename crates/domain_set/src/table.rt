@@ -4,8 +4,8 @@ ghost use Rattle.std.specs.BTreeSet.{contains_text};
 ghost use Rattle.domain_set.specs.Table.{HasTexts};
 ghost use Rattle.domain_set.specs.Rests.{some_rest, covers_by};
 
-use crate::domain::is_ip_host;
 use dnr_base::{NoMemory, Text};
+use dnr_spec::is_ip_host;
 use std::alloc::Global;
 use std::collections::BTreeSet;
 
@@ -39,5 +39,5 @@ fn has_rest(table: &Table, host: &str) -> bool
 pub(crate) fn covers(table: &Table, host: &str) -> bool
     ensures { result ≡ covers_by (contains_text table.now) host.now }
 {
-    table.contains(host) || (has_rest(table, host) && !is_ip_host(host.as_bytes()))
+    table.contains(host) || (has_rest(table, host) && !is_ip_host(host))
 }
