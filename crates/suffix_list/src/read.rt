@@ -40,6 +40,7 @@ pub fn read_rules(alloc: Global, text: &str) -> Result<Vec<Rule>, SuffixRefusal>
 }
 
 // The rule of a line, or none where it is empty or a comment.
+#[tactic(auto, unfolding(crate::specs::Reading::read_line))]
 fn read_line(alloc: Global, line: &str, number: u32) -> Result<Option<Rule>, SuffixRefusal>
     ensures { reading.IsReadLine line.now number result }
 {
