@@ -6,3 +6,4 @@ pub mod White
 pub mod Rules
 pub mod Places
 pub mod Text
+pub mod Lengths

@@ -5,7 +5,7 @@ use Rattle.std.specs.Prelude.{slice_get}
 use Rattle.std.specs.List.{list_any, filter}
 use Rattle.std.specs.Str.{bytes_eq}
 use Rattle.std.specs.HashSet.{HashSet, contains_text}
-use Rattle.std.proofs.lemmas.List.{append_assoc}
+use Rattle.std.proofs.lemmas.List.{append_assoc, take_all}
 use Rattle.std.proofs.lemmas.List.Folds.{list_any-append}
 use Rattle.suffix_list.specs.declared.rule.Rule.{Rule}
 use Rattle.suffix_list.proofs.Rules.{plain_is_apart}
@@ -85,7 +85,8 @@ places-below test place (rule ∷ rules) k h =
     | false ↦ λ l. (let rest = places-below test (place + 1) rules k l in omega arith) ] h
 
 at_end : (before rules : List Rule) (rule : Rule) → slice_get (before ++ rule ∷ rules) (length before) ≡ Some rule
-at_end before rules rule = ?
+at_end [] rules rule = refl
+at_end (first ∷ before) rules rule = at_end before rules rule
 
 -- the rules at the places of those that pass, where others stand before them
 pub at_places : (test : Rule → Bool) (before rules : List Rule) (place : ℕ) → place ≡ length before → rules_at (before ++ rules) (places_from test place rules) ≡ filter test rules
@@ -144,6 +145,6 @@ longest_step test rules others k rule n within here so_far =
 pub longest_end : (test : Rule → Bool) (rules : List Rule) (others : List ℕ) (k n : ℕ) → others ≡ places_from is_other 0 rules → length others ≤ k → n ≡ most test (rules_at rules (take k others)) → n ≡ most (λ rule. is_other rule && test rule) rules
 longest_end test rules others k n at end so_far =
     so_far
-    ∙ ap (λ ns. most test (rules_at rules ns)) (take_of_length-le others end ∙ at)
+    ∙ ap (λ ns. most test (rules_at rules ns)) (take_all k others end ∙ at)
     ∙ ap (most test) (at_places is_other [] rules 0 refl)
     ∙ most-filter is_other test rules

@@ -1,5 +1,5 @@
 -- The rules of the lines that were read so far.
-use Rattle.std.proofs.Common.{◌≡◌, ℕ, ◌+◌, ◌<◌, ◌≤◌, List, [], ◌∷◌, ◌++◌, length, get_or, drop, map, Bool, true, false, cond, Option, Some, None, Result, Ok, Err, MatchBool, suc, refl, sym, ap, ◌∙◌, length-append, drop-cons, add-one, arith}
+use Rattle.std.proofs.Common.{◌≡◌, ℕ, ◌+◌, ◌<◌, ◌≤◌, List, [], ◌∷◌, ◌++◌, length, get_or, drop, map, Bool, true, false, cond, Option, Some, None, Result, Ok, Err, MatchBool, suc, refl, sym, ap, ◌∙◌, length-append, drop-cons, add-one, eqb, arith}
 use Rattle.std.specs.Prelude.{nat_le}
 use Rattle.std.specs.List.{slice_split}
 use Rattle.std.proofs.Math.Seq.{drop-length}
@@ -8,7 +8,7 @@ use Rattle.std.proofs.lemmas.List.{append_assoc, append-nil}
 use Rattle.dnr_spec.specs.Suffixes.{SuffixRule, is_rule, word_of, read_rule, with_rule, rules_of, within_limit, max_rules}
 use Rattle.dnr_spec.specs.declared.suffix_refusal.SuffixRefusal.{SuffixRefusal}
 use Rattle.dnr_spec.specs.declared.suffix_refusal.SuffixRefusal.TheVariants.{NotUtf8, BadRule, TooManyRules, NoMemory}
-use Rattle.suffix_list.specs.Reading.{read_line, line_rule, line_answer, IsRefusedAs}
+use Rattle.suffix_list.specs.Reading.{read_line, line_rule, line_answer, read_text, IsRefusedAs}
 
 -- the rules before those of the result
 abbrev pub before_all : List SuffixRule → Result (List SuffixRule) SuffixRefusal → Result (List SuffixRule) SuffixRefusal
@@ -71,7 +71,7 @@ pub record IsLineAt (lines : List (List ℕ)) (place : ℕ) (line : List ℕ) : 
 at_line : (lines : List (List ℕ)) (place : ℕ) (line : List ℕ) → IsLineAt lines place line → drop place lines ≡ line ∷ drop (place + 1) lines
 at_line lines place line at =
     let cut : drop place lines ≡ get_or lines place line ∷ drop (suc place) lines = drop-cons lines place line at.within in
-    cut ∙ ap (λ l. l ∷ drop (suc place) lines) (sym at.is) ∙ ap (λ n. line ∷ drop n lines) (sym add-one)
+    cut ∙ ap (λ l. l ∷ drop (suc place) lines) (sym at.is) ∙ ap (λ n. line ∷ drop n lines) (sym (add-one place))
 
 pub so_far_same : (lines : List (List ℕ)) (place : ℕ) (too_many : Bool) (kept : List SuffixRule) (line : List ℕ) → IsReadSoFar lines place too_many kept → IsLineAt lines place line → read_line (place + 1) line ≡ Ok None → IsReadSoFar lines (place + 1) too_many kept
 so_far_same lines place too_many kept line s at h = record {
@@ -143,3 +143,7 @@ refused_as inner outer NotUtf8 h r = h r
 refused_as inner outer (BadRule number) h r = h r
 refused_as inner outer TooManyRules h r = h r
 refused_as inner outer NoMemory h r = tt
+
+pub text_of : (text : List ℕ) → read_text text ≡ within_limit (rules_of 1 (slice_split (λ b. eqb b 10) text))
+unfolding read_text
+text_of text = refl
