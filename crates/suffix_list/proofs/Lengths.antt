@@ -2,7 +2,7 @@
 use Rattle.std.proofs.Common.{◌≡◌, ℕ, ◌+◌, ◌-◌, ◌<◌, ◌≤◌, max, List, [], ◌∷◌, length, map, Bool, true, false, not, ◌&&◌, ◌||◌, cond, suc, zero, refl, sym, ap, ◌∙◌, nat_eq, codes, drop, arith}
 use Rattle.std.specs.Prelude.{nat_lt}
 use Rattle.std.specs.List.{filter, starts_with}
-use Rattle.std.proofs.lemmas.Bool.{lt-ltb}
+use Rattle.std.proofs.lemmas.Bool.{cond-true, cond-false, lt-ltb, le-ltb}
 use Rattle.std.proofs.lemmas.Bool.Decides.{nat_tests}
 use Rattle.dnr_spec.specs.Hosts.{labels_of}
 use Rattle.dnr_spec.specs.Suffixes as spec
@@ -10,11 +10,6 @@ use Rattle.dnr_spec.specs.Suffixes.{SuffixRule, greatest, label_counts, suffix_c
 use Rattle.dnr_spec.proofs.Labels.{labels_of-has}
 use Rattle.suffix_list.specs.declared.rule.Rule.{Rule}
 use Rattle.suffix_list.specs.Kept.{seen, text_of, labels, has_no_star, is_plain, is_starred, is_other, is_listed, most, listed_len, is_matching_exception, is_matching_rule, other_exception_len, other_rule_len}
-use Rattle.suffix_list.proofs.Rules.{matches-length, most-le}
-
-and_right : (a b : Bool) → (a && b) ≡ true → b ≡ true
-and_right true b h = h
-and_right false b h = absurd (cc)
 
 has_labels : (rule : Rule) → 0 < length (labels rule)
 has_labels rule = let has = labels_of-has (text_of rule) in let len : length (labels rule) ≡ length (has.first ∷ has.rest) = ap (λ (ls : List (List ℕ)). length ls) has.is in omega arith
@@ -108,13 +103,13 @@ suffix_len-found rules name =
     ∙ ap (λ n. len_by n (most (is_matching_rule name) rules)) (sym (exceptions_are_others name rules))
     ∙ ap (λ n. len_by (other_exception_len name rules) n) (rules_are_somewhere name rules)
 
--- ---- no more than the name has
+-- ---- as they are counted
 
-pub other_exception-le : (rules : List Rule) (name : List (List ℕ)) → other_exception_len name rules ≤ length name
-other_exception-le rules name = most-le _ (length name) rules (λ rule h. matches-length (labels rule) name (and_right rule.exception (matches (labels rule) name) (and_right (is_other rule) (is_matching_exception name rule) h)))
+pub suffix_some : (rules : List Rule) (name : List (List ℕ)) (n : ℕ) → n ≡ other_exception_len name rules → 0 < n → n - 1 ≡ suffix_len (map seen rules) name
+suffix_some rules name n e h = sym (suffix_len-found rules name ∙ ap (λ m. len_by m (max (other_rule_len name rules) (listed_len name rules))) (sym e) ∙ cond-true (nat_lt 0 n) (n - 1) _ (lt-ltb 0 n h))
 
-pub other_rule-le : (rules : List Rule) (name : List (List ℕ)) → other_rule_len name rules ≤ length name
-other_rule-le rules name = most-le _ (length name) rules (λ rule h. matches-length (labels rule) name (and_right (not rule.exception) (matches (labels rule) name) (and_right (is_other rule) (is_matching_rule name rule) h)))
-
-pub listed-le : (rules : List Rule) (name : List (List ℕ)) → listed_len name rules ≤ length name
-listed-le rules name = most-le _ (length name) rules (λ rule h. matches-length (labels rule) name (and_right (is_listed rule) (matches (labels rule) name) h))
+pub suffix_none : (rules : List Rule) (name : List (List ℕ)) (n o l : ℕ) → n ≡ other_exception_len name rules → n ≤ 0 → o ≡ other_rule_len name rules → l ≡ listed_len name rules → max (max o l) 1 ≡ suffix_len (map seen rules) name
+suffix_none rules name n o l e h f g =
+    sym (suffix_len-found rules name ∙ ap (λ m. len_by m (max (other_rule_len name rules) (listed_len name rules))) (sym e)
+    ∙ cond-false (nat_lt 0 n) (n - 1) (max (max (other_rule_len name rules) (listed_len name rules)) 1) (le-ltb 0 n h)
+    ∙ ap (λ m. max (max m (listed_len name rules)) 1) (sym f) ∙ ap (λ m. max (max o m) 1) (sym g))

@@ -7,3 +7,4 @@ pub mod Rules
 pub mod Places
 pub mod Text
 pub mod Lengths
+pub mod Registrable

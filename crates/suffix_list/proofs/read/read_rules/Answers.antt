@@ -1,8 +1,8 @@
-use Rattle.std.proofs.Common.{◌≡◌, ◌+◌, ◌<◌, ◌≤◌, ℕ, List, [], ◌∷◌, ◌++◌, length, map, length-map, eqb, Bool, true, false, Option, Some, None, Ok, Err, lit<, sym, ap, ◌∙◌, rules, arith}
+use Rattle.std.proofs.Common.{◌≡◌, ◌+◌, ◌<◌, ◌≤◌, ℕ, List, [], ◌∷◌, ◌++◌, length, map, eqb, Bool, true, false, Option, Some, None, Ok, Err, lit<, sym, ap, ◌∙◌, rules, arith}
 use Rattle.std.specs.List.{slice_split}
 use Rattle.std.proofs.lemmas.Iterator.Consumers.{YieldsList-turn, YieldsList-end, YieldsList-at}
 use Rattle.std.proofs.lemmas.Iterator.Splits.{YieldsList-from_str_split}
-use Rattle.std.proofs.lemmas.List.{length_push}
+use Rattle.std.proofs.lemmas.List.{length_push, length-map, map-append}
 use Rattle.std.proofs.lemmas.Result.{err_from_is_err_and}
 use Rattle.dnr_spec.specs.Suffixes.{rules_of, within_limit}
 use Rattle.suffix_list.specs.Kept.{seen}
@@ -21,14 +21,14 @@ returns-in_err-rule c =
     (λ h. text_of c.args.text.now ∙ ap within_limit (so_far_refused _ (length c.loop-line.yielded) c.loop-line.too_many _ c.in-Some.line.now c.in_err-rule.field-0.0 c.loop-line.invariant.3 at (sym (ap (λ n. read_line (n + 1) c.in-Some.line.now) number) ∙ h)))
     c.in_err-rule.ensures)
 
-pub loop-line-preserved-in-Continue-branch-3 : goal.loop-line-preserved-in-Continue-branch-3
-loop-line-preserved-in-Continue-branch-3 c =
+pub loop-line-preserved-in-Ok-1 : goal.loop-line-preserved-in-Ok
+loop-line-preserved-in-Ok-1 c =
     let turn = YieldsList-turn (YieldsList-at c.into_iter-line-iterator.ensures.into_iter_gives (YieldsList-from_str_split 10 c.args.text.now (lit< tt) c.split-line-items.ensures.text c.split-line-items.ensures.has_more c.split-line-items.ensures.pattern)) c.loop-line.yielded _ c.loop-line.yielded_by _ _ c.in-Some.line c.in-Some.is c.next.ensures.steps in
     let at : IsLineAt (slice_split (λ b. eqb b 10) c.args.text.now) (length c.loop-line.yielded) c.in-Some.line.now = record { within = turn.0; is = turn.1 } in
     let number : c.loop-line.number ≡ length c.loop-line.yielded = c.loop-line.invariant.2 in
     let read : read_line (length c.loop-line.yielded + 1) c.in-Some.line.now ≡ Ok (Some (seen c.in-Some-2.rule)) = sym (ap (λ n. read_line (n + 1) c.in-Some.line.now) number) ∙ (rw c.in-Some-2.is at c.in_ok-rule.ensures) in
-    let small : length (map seen c.loop-line.rules.items) < 65536 = omega (arith, length-map seen c.loop-line.rules.items) in
-    let kept : map seen c.push.new.self.items ≡ map seen c.loop-line.rules.items ++ seen c.in-Some-2.rule ∷ [] = ? in
+    let small : length (map seen c.loop-line.rules.items) < 65536 = omega (arith, length-map c.loop-line.rules.items seen) in
+    let kept : map seen c.push.new.self.items ≡ map seen c.loop-line.rules.items ++ seen c.in-Some-2.rule ∷ [] = ap (λ rs. map seen rs) c.in-Ok.ensures.items ∙ map-append seen c.loop-line.rules.items (c.in-Some-2.rule ∷ []) in
     rw (length_push c.loop-line.yielded c.in-Some.line, kept) (tt, tt, omega arith, so_far_push _ (length c.loop-line.yielded) c.loop-line.too_many (map seen c.loop-line.rules.items) c.in-Some.line.now (seen c.in-Some-2.rule) c.loop-line.invariant.3 at read small)
 
 pub loop-line-preserved-else-len-lt-MAX_RULES : goal.loop-line-preserved-else-len-lt-MAX_RULES
@@ -37,7 +37,7 @@ loop-line-preserved-else-len-lt-MAX_RULES c =
     let at : IsLineAt (slice_split (λ b. eqb b 10) c.args.text.now) (length c.loop-line.yielded) c.in-Some.line.now = record { within = turn.0; is = turn.1 } in
     let number : c.loop-line.number ≡ length c.loop-line.yielded = c.loop-line.invariant.2 in
     let read : read_line (length c.loop-line.yielded + 1) c.in-Some.line.now ≡ Ok (Some (seen c.in-Some-2.rule)) = sym (ap (λ n. read_line (n + 1) c.in-Some.line.now) number) ∙ (rw c.in-Some-2.is at c.in_ok-rule.ensures) in
-    let full : 65536 ≤ length (map seen c.loop-line.rules.items) = omega (arith, length-map seen c.loop-line.rules.items) in
+    let full : 65536 ≤ length (map seen c.loop-line.rules.items) = omega (arith, length-map c.loop-line.rules.items seen) in
     rw (length_push c.loop-line.yielded c.in-Some.line) (tt, tt, omega arith, so_far_full _ (length c.loop-line.yielded) c.loop-line.too_many (map seen c.loop-line.rules.items) c.in-Some.line.now (seen c.in-Some-2.rule) c.loop-line.invariant.3 at read full)
 
 pub loop-line-preserved : goal.loop-line-preserved
