@@ -21,7 +21,7 @@ returns-in_err-rule c =
     (λ h. text_of c.args.text.now ∙ ap within_limit (so_far_refused _ (length c.loop-line.yielded) c.loop-line.too_many _ c.in-Some.line.now c.in_err-rule.field-0.0 c.loop-line.invariant.3 at (sym (ap (λ n. read_line (n + 1) c.in-Some.line.now) number) ∙ h)))
     c.in_err-rule.ensures)
 
-pub loop-line-preserved-in-Ok-1 : goal.loop-line-preserved-in-Ok
+pub loop-line-preserved-in-Ok-1 : goal.loop-line-preserved-in-Ok-1
 loop-line-preserved-in-Ok-1 c =
     let turn = YieldsList-turn (YieldsList-at c.into_iter-line-iterator.ensures.into_iter_gives (YieldsList-from_str_split 10 c.args.text.now (lit< tt) c.split-line-items.ensures.text c.split-line-items.ensures.has_more c.split-line-items.ensures.pattern)) c.loop-line.yielded _ c.loop-line.yielded_by _ _ c.in-Some.line c.in-Some.is c.next.ensures.steps in
     let at : IsLineAt (slice_split (λ b. eqb b 10) c.args.text.now) (length c.loop-line.yielded) c.in-Some.line.now = record { within = turn.0; is = turn.1 } in

@@ -1,4 +1,4 @@
-use Rattle.std.proofs.Common.{◌≡◌, ◌<◌, ℕ, List, length, get_or, max, ap, sym, ◌∙◌, arith}
+use Rattle.std.proofs.Common.{◌≡◌, ◌<◌, ℕ, List, length, get_or, max, ap, ◌∙◌, arith}
 use Rattle.dnr_spec.specs.Hosts.{labels_of}
 use Rattle.suffix_list.specs.Kept.{is_other, places_from, is_matching_exception, is_matching_rule}
 use Rattle.suffix_list.proofs.Places.{places-below, longest_step, longest_end}

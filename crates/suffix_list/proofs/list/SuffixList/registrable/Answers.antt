@@ -1,4 +1,4 @@
-use Rattle.std.proofs.Common.{◌≡◌, ◌+◌, true, false, sym, ap, ◌∙◌, rules, arith}
+use Rattle.std.proofs.Common.{◌≡◌, ◌+◌, false, sym, ap, ◌∙◌, rules}
 use Rattle.dnr_spec.specs.Hosts.{labels_of}
 use Rattle.dnr_spec.specs.Suffixes.{is_domain, last_labels}
 use Rattle.suffix_list.proofs.Registrable.{no_domain, of_domain}
