@@ -24,10 +24,11 @@ pub first_cut : (text first : List ℕ) (rest : Option (Bor (List ℕ))) → IsC
 first_cut text first None h = h
 first_cut text first (Some rest) h = h
 
--- what is left of a name, once it has so many labels
-pub last_labels_is : (count left : ℕ) (rest : List ℕ) (labels : List (List ℕ)) → left ≡ length (labels_of rest) → count ≤ left → left ≤ count → drop (left - count) (labels_of rest) ≡ drop (length labels - count) labels → count ≤ length labels → Some rest ≡ last_labels count labels
-last_labels_is count left rest labels is above below same enough =
-    let none : left - count ≡ 0 = omega arith in
-    let whole : drop (left - count) (labels_of rest) ≡ labels_of rest = ap (λ n. drop n (labels_of rest)) none in
-    let joined : join_with_byte 46 (drop (length labels - count) labels) ≡ rest = ap (join_with_byte 46) (sym same ∙ whole) ∙ join_with_byte-labels_of rest in
-    ap (λ (t : List ℕ). Some t) (sym joined) ∙ sym (cond-true (nat_le count (length labels)) _ _ (le-leb count (length labels) enough))
+-- what is left of a name, once it has one label more than the suffix
+pub labels_from_is : (suffix left : ℕ) (rest : List ℕ) (labels : List (List ℕ)) → left ≡ length (labels_of rest) → suffix + 1 ≤ left → left ≤ suffix + 1 → drop (left - (suffix + 1)) (labels_of rest) ≡ drop (length labels - (suffix + 1)) labels → suffix + 1 ≤ length labels → Some rest ≡ last_labels (suffix + 1) labels
+labels_from_is suffix left rest labels is above below same enough =
+    let none : left - (suffix + 1) ≡ 0 = omega arith in
+    let whole : drop (left - (suffix + 1)) (labels_of rest) ≡ labels_of rest = ap (λ n. drop n (labels_of rest)) none in
+    let joined : join_with_byte 46 (drop (length labels - (suffix + 1)) labels) ≡ rest = ap (join_with_byte 46) (sym same ∙ whole) ∙ join_with_byte-labels_of rest in
+    ap (λ (t : List ℕ). Some t) (sym joined) ∙ sym (cond-true (nat_le (suffix + 1) (length labels)) _ _ (le-leb (suffix + 1) (length labels) enough))
+

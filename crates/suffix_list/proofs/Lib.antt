@@ -6,3 +6,5 @@ pub mod White
 pub mod Rules
 pub mod Places
 pub mod Text
+pub mod Lengths
+pub mod Registrable

@@ -1,14 +1,15 @@
 -- The tables of a list, as they are built, and the places of its other rules.
-use Rattle.std.proofs.Common.{◌≡◌, ℕ, ◌+◌, ◌<◌, ◌≤◌, max, List, [], ◌∷◌, ◌++◌, length, get_or, take, drop, map, Bool, true, false, not, ◌&&◌, ◌||◌, cond, suc, zero, String, refl, sym, ap, ◌∙◌, length-append, arith}
-use Rattle.std.proofs.lemmas.Grind.{common_steps}
+use Rattle.std.proofs.Common.{◌≡◌, ℕ, ◌+◌, ◌<◌, ◌≤◌, max, List, [], ◌∷◌, ◌++◌, length, get_or, take, drop, map, Bool, true, false, Option, Some, None, not, ◌&&◌, ◌||◌, cond, suc, zero, String, refl, sym, ap, ◌∙◌, length-append, arith}
+use Rattle.std.proofs.lemmas.Grind.{common_steps, take_at_read}
+use Rattle.std.specs.Prelude.{slice_get}
 use Rattle.std.specs.List.{list_any, filter}
 use Rattle.std.specs.Str.{bytes_eq}
 use Rattle.std.specs.HashSet.{HashSet, contains_text}
-use Rattle.std.proofs.lemmas.List.{append_assoc}
+use Rattle.std.proofs.lemmas.List.{append_assoc, take_all}
 use Rattle.std.proofs.lemmas.List.Folds.{list_any-append}
 use Rattle.suffix_list.specs.declared.rule.Rule.{Rule}
 use Rattle.suffix_list.proofs.Rules.{plain_is_apart}
-use Rattle.suffix_list.specs.Kept.{AreTables, text_of, labels, is_plain, is_starred, is_other, most, places_from}
+use Rattle.suffix_list.specs.Kept.{AreTables, text_of, labels, is_plain, is_starred, is_other, most, places_from, rules_at, with_rule}
 
 or_false : (b : Bool) → (b || false) ≡ b
 or_false true = refl
@@ -83,18 +84,32 @@ places-below test place (rule ∷ rules) k h =
     [ true ↦ below_first (places_from test (place + 1) rules) place (length rules) k (λ j l. places-below test (place + 1) rules j l)
     | false ↦ λ l. (let rest = places-below test (place + 1) rules k l in omega arith) ] h
 
--- the rule at a place, read through a longer list
-pub at_places : (d : Rule) (test : Rule → Bool) (before rules : List Rule) (place : ℕ) → place ≡ length before → map (λ i. get_or (before ++ rules) i d) (places_from test place rules) ≡ filter test rules
-at_places d test before [] place at = refl
-at_places d test before (rule ∷ rules) place at =
+at_end : (before rules : List Rule) (rule : Rule) → slice_get (before ++ rule ∷ rules) (length before) ≡ Some rule
+at_end [] rules rule = refl
+at_end (first ∷ before) rules rule = at_end before rules rule
+
+-- the rules at the places of those that pass, where others stand before them
+pub at_places : (test : Rule → Bool) (before rules : List Rule) (place : ℕ) → place ≡ length before → rules_at (before ++ rules) (places_from test place rules) ≡ filter test rules
+at_places test before [] place at = refl
+at_places test before (rule ∷ rules) place at =
     let all : (before ++ rule ∷ []) ++ rules ≡ before ++ rule ∷ rules = append_assoc before (rule ∷ []) rules in
     let next : place + 1 ≡ length (before ++ rule ∷ []) = omega (arith, length-append {A = Rule}) in
-    let rest : map (λ i. get_or ((before ++ rule ∷ []) ++ rules) i d) (places_from test (place + 1) rules) ≡ filter test rules = at_places d test (before ++ rule ∷ []) rules (place + 1) next in
-    let here : get_or (before ++ rule ∷ rules) place d ≡ rule = grind (arith, common_steps, at) in
-    let more : map (λ i. get_or (before ++ rule ∷ rules) i d) (places_from test (place + 1) rules) ≡ filter test rules = ap (λ (rs : List Rule). map (λ i. get_or rs i d) (places_from test (place + 1) rules)) (sym all) ∙ rest in
-    elim (test rule) as (λ v. map (λ i. get_or (before ++ rule ∷ rules) i d) (cond v (place ∷ places_from test (place + 1) rules) (places_from test (place + 1) rules)) ≡ cond v (rule ∷ filter test rules) (filter test rules))
-    [ true ↦ ap (λ (r : Rule). r ∷ map (λ i. get_or (before ++ rule ∷ rules) i d) (places_from test (place + 1) rules)) here ∙ ap (λ (rs : List Rule). rule ∷ rs) more
+    let rest : rules_at ((before ++ rule ∷ []) ++ rules) (places_from test (place + 1) rules) ≡ filter test rules = at_places test (before ++ rule ∷ []) rules (place + 1) next in
+    let here : slice_get (before ++ rule ∷ rules) place ≡ Some rule = ap (λ n. slice_get (before ++ rule ∷ rules) n) at ∙ at_end before rules rule in
+    let more : rules_at (before ++ rule ∷ rules) (places_from test (place + 1) rules) ≡ filter test rules = ap (λ (rs : List Rule). rules_at rs (places_from test (place + 1) rules)) (sym all) ∙ rest in
+    elim (test rule) as (λ v. rules_at (before ++ rule ∷ rules) (cond v (place ∷ places_from test (place + 1) rules) (places_from test (place + 1) rules)) ≡ cond v (rule ∷ filter test rules) (filter test rules))
+    [ true ↦ ap (λ o. with_rule o (rules_at (before ++ rule ∷ rules) (places_from test (place + 1) rules))) here ∙ ap (λ (rs : List Rule). rule ∷ rs) more
     | false ↦ more ]
+
+with_rule-append : (found : Option Rule) (rules more : List Rule) → with_rule found (rules ++ more) ≡ with_rule found rules ++ more
+with_rule-append None rules more = refl
+with_rule-append (Some rule) rules more = refl
+
+rules_at-append : (rules : List Rule) (places more : List ℕ) → rules_at rules (places ++ more) ≡ rules_at rules places ++ rules_at rules more
+rules_at-append rules [] more = refl
+rules_at-append rules (place ∷ places) more =
+    ap (with_rule (slice_get rules place)) (rules_at-append rules places more)
+    ∙ with_rule-append (slice_get rules place) (rules_at rules places) (rules_at rules more)
 
 -- ---- the longest rule of some
 
@@ -112,3 +127,24 @@ most-filter pass test (rule ∷ rules) =
     let rest : most test (filter pass rules) ≡ most (λ rule. pass rule && test rule) rules = most-filter pass test rules in
     elim (pass rule) as (λ v. most test (cond v (rule ∷ filter pass rules) (filter pass rules)) ≡ cond (v && test rule) (max (length (labels rule)) (most (λ rule. pass rule && test rule) rules)) (most (λ rule. pass rule && test rule) rules))
     [ true ↦ ap (λ n. cond (test rule) (max (length (labels rule)) n) n) rest | false ↦ rest ]
+
+max_if : (b : Bool) (len n : ℕ) → max (cond b len 0) n ≡ cond b (max len n) n
+max_if true len n = refl
+max_if false len n = omega arith
+
+-- one place more
+pub longest_step : (test : Rule → Bool) (rules : List Rule) (others : List ℕ) (k : ℕ) (rule : Rule) (n : ℕ) → k < length others → slice_get rules (get_or others k 0) ≡ Some rule → n ≡ most test (rules_at rules (take k others)) → max (cond (test rule) (length (labels rule)) 0) n ≡ most test (rules_at rules (take (k + 1) others))
+longest_step test rules others k rule n within here so_far =
+    let cut : take (k + 1) others ≡ take k others ++ get_or others k 0 ∷ [] = (take_at_read others k 0 within).1 in
+    let at : rules_at rules (take (k + 1) others) ≡ rules_at rules (take k others) ++ rule ∷ [] = ap (rules_at rules) cut ∙ rules_at-append rules (take k others) (get_or others k 0 ∷ []) ∙ ap (λ o. rules_at rules (take k others) ++ with_rule o []) here in
+    max_if (test rule) (length (labels rule)) n
+    ∙ ap (λ m. cond (test rule) (max (length (labels rule)) m) m) so_far
+    ∙ sym (most-more test (rules_at rules (take k others)) rule)
+    ∙ ap (most test) (sym at)
+
+pub longest_end : (test : Rule → Bool) (rules : List Rule) (others : List ℕ) (k n : ℕ) → others ≡ places_from is_other 0 rules → length others ≤ k → n ≡ most test (rules_at rules (take k others)) → n ≡ most (λ rule. is_other rule && test rule) rules
+longest_end test rules others k n at end so_far =
+    so_far
+    ∙ ap (λ ns. most test (rules_at rules ns)) (take_all k others end ∙ at)
+    ∙ ap (most test) (at_places is_other [] rules 0 refl)
+    ∙ most-filter is_other test rules

@@ -1,5 +1,5 @@
 -- The rules as a list keeps them: their labels in one text.
-use Rattle.std.specs.Prelude.{ℕ, ◌+◌, ◌≡◌, max, List, [], ◌∷◌, length, drop, map, String, string_bytes, codes, nat_eq, Bool, true, false, not, ◌==◌, ◌&&◌, ◌||◌, Option, Some, None, MatchOption, if◌then◌else◌}
+use Rattle.std.specs.Prelude.{ℕ, ◌+◌, ◌≡◌, max, List, [], ◌∷◌, length, drop, map, slice_get, String, string_bytes, codes, nat_eq, Bool, true, false, not, ◌==◌, ◌&&◌, ◌||◌, Option, Some, None, MatchOption, if◌then◌else◌}
 use Rattle.std.specs.List.{list_all, list_any, starts_with}
 use Rattle.std.specs.HashSet.{HashSet, contains_text}
 use Rattle.std.specs.Str.{bytes_eq}
@@ -72,8 +72,26 @@ is_found plain starred name (Some rest) = contains_text plain name || contains_t
 abbrev pub listed_len : List (List ℕ) → List Rule → ℕ
 listed_len name rules = most (λ rule. is_listed rule && matches (labels rule) name) rules
 
+abbrev pub is_matching_exception : List (List ℕ) → Rule → Bool
+is_matching_exception name rule = rule.exception && matches (labels rule) name
+
+abbrev pub is_matching_rule : List (List ℕ) → Rule → Bool
+is_matching_rule name rule = not rule.exception && matches (labels rule) name
+
+abbrev pub len_if : (Rule → Bool) → Rule → ℕ
+len_if test rule = if test rule then length (labels rule) else 0
+
 abbrev pub other_exception_len : List (List ℕ) → List Rule → ℕ
-other_exception_len name rules = most (λ rule. is_other rule && (rule.exception && matches (labels rule) name)) rules
+other_exception_len name rules = most (λ rule. is_other rule && is_matching_exception name rule) rules
 
 abbrev pub other_rule_len : List (List ℕ) → List Rule → ℕ
-other_rule_len name rules = most (λ rule. is_other rule && (not rule.exception && matches (labels rule) name)) rules
+other_rule_len name rules = most (λ rule. is_other rule && is_matching_rule name rule) rules
+
+-- the rules at these places
+abbrev pub with_rule : Option Rule → List Rule → List Rule
+with_rule None rules = rules
+with_rule (Some rule) rules = rule ∷ rules
+
+abbrev pub rules_at : List Rule → List ℕ → List Rule
+rules_at rules [] = []
+rules_at rules (place ∷ places) = with_rule (slice_get rules place) (rules_at rules places)

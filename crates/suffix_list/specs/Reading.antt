@@ -18,19 +18,19 @@ abbrev pub line_rule : ℕ → Option SuffixRule → Result (Option SuffixRule) 
 line_rule number None = Err (BadRule number)
 line_rule number (Some rule) = Ok (Some rule)
 
-abbrev pub line_answer : ℕ → List ℕ → Bool → Result (Option SuffixRule) SuffixRefusal
-line_answer number word true = line_rule number (read_rule word)
-line_answer number word false = Ok None
+abbrev pub line_answer : ℕ → Option SuffixRule → Bool → Result (Option SuffixRule) SuffixRefusal
+line_answer number rule true = line_rule number rule
+line_answer number rule false = Ok None
 
-abbrev pub read_line : ℕ → List ℕ → Result (Option SuffixRule) SuffixRefusal
-read_line number line = line_answer number (word_of line) (is_rule (word_of line))
+unfoldable pub read_line : ℕ → List ℕ → Result (Option SuffixRule) SuffixRefusal
+read_line number line = line_answer number (read_rule (word_of line)) (is_rule (word_of line))
 
 abbrev pub IsReadLine : List ℕ → ℕ → Result (Option Rule) SuffixRefusal → Type 0
 IsReadLine line number (Ok None) = read_line number line ≡ Ok None
 IsReadLine line number (Ok (Some rule)) = read_line number line ≡ Ok (Some (seen rule))
 IsReadLine line number (Err refusal) = IsRefusedAs (read_line number line) refusal
 
-abbrev pub read_text : List ℕ → Result (List SuffixRule) SuffixRefusal
+unfoldable pub read_text : List ℕ → Result (List SuffixRule) SuffixRefusal
 read_text text = within_limit (rules_of 1 (slice_split (λ b. b == 10) text))
 
 abbrev pub IsReadText : {A : Type 0} → List ℕ → Result (Vec Rule A) SuffixRefusal → Type 0

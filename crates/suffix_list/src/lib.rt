@@ -11,6 +11,8 @@ mod read;
 mod rule;
 mod table;
 mod tables;
+#[cfg(test)]
+mod tests;
 
 pub use dnr_spec::{NoMemory, SuffixRefusal};
 pub use list::SuffixList;

@@ -1,11 +1,11 @@
-ghost use Rattle.std.specs.Prelude.{◌≡◌, ◌≤◌, ◌<◌, length, map, Ok, IfOk, IfErr};
+ghost use Rattle.std.specs.Prelude.{◌≡◌, ◌<◌, length, map, Ok, IfOk, IfErr};
 ghost use Rattle.std.specs.Option.{option_copied};
 ghost use Rattle.dnr_spec.specs.Hosts.{labels_of};
 ghost use Rattle.dnr_spec.specs.Suffixes as spec;
 ghost use Rattle.suffix_list.specs.Kept as kept;
 ghost use Rattle.suffix_list.specs.Reading.{IsRefused};
 
-use crate::names::{is_domain, last_labels, without_dot};
+use crate::names::{is_domain, labels_from, without_dot};
 use crate::read::read_rules;
 use crate::rule::Rule;
 use crate::tables::{Tables, longest_others};
@@ -59,7 +59,10 @@ impl SuffixList {
             return Err(SuffixRefusal::NotUtf8);
         };
         let rules = read_rules(alloc, text)?;
-        SuffixList::build(alloc, rules).map_err(|_| SuffixRefusal::NoMemory)
+        match SuffixList::build(alloc, rules) {
+            Ok(list) => Ok(list),
+            Err(NoMemory) => Err(SuffixRefusal::NoMemory),
+        }
     }
 
     // The tables for these rules.
@@ -89,13 +92,12 @@ impl SuffixList {
         if !is_domain(name) {
             return None;
         }
-        last_labels(name, self.suffix_len(name) + 1)
+        labels_from(name, self.suffix_len(name))
     }
 
     // How many labels the public suffix of a name has.
     fn suffix_len(&self, name: &str) -> usize
-        ensures value { result ≡ spec.suffix_len self.now (labels_of name.now) }
-        ensures bound { result ≤ length (labels_of name.now) }
+        ensures { result ≡ spec.suffix_len self.now (labels_of name.now) }
     {
         let (exception, other) = longest_others(self.rules.as_slice(), self.tables.others.as_slice(), name);
         if exception > 0 {

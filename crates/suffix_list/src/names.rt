@@ -1,4 +1,4 @@
-ghost use Rattle.std.specs.Prelude.{◌≡◌, ◌<◌, ◌==◌, count_by, length};
+ghost use Rattle.std.specs.Prelude.{◌≡◌, ◌+◌, ◌==◌, count_by, length};
 ghost use Rattle.std.specs.List.{list_any};
 ghost use Rattle.std.specs.Option.{option_copied};
 ghost use Rattle.dnr_spec.specs.Hosts.{labels_of};
@@ -53,17 +53,16 @@ fn dot_count(name: &[u8]) -> usize
     name.iter().filter(|b| **b == b'.').count()
 }
 
-// The last labels of a name, this many, where there are so many.
-pub fn last_labels(name: &str, count: usize) -> Option<&str>
-    requires { 0 < count }
-    ensures { option_copied result ≡ spec.last_labels count (labels_of name.now) }
+// The last labels of a name, one more than its suffix has, where there are so many.
+pub fn labels_from(name: &str, suffix: usize) -> Option<&str>
+    ensures { option_copied result ≡ spec.last_labels (suffix + 1) (labels_of name.now) }
 {
     let mut rest = name;
     let mut left = label_count(name);
-    if left < count {
+    if left <= suffix {
         return None;
     }
-    while left > count {
+    while left - 1 > suffix {
         let (_, others) = split_first_label(rest);
         rest = others?;
         left -= 1;

@@ -27,7 +27,9 @@ pub fn read_rules(alloc: Global, text: &str) -> Result<Vec<Rule>, SuffixRefusal>
         number += 1;
         if let Some(rule) = read_line(alloc, line, number)? {
             if rules.len() < MAX_RULES {
-                rules.push(rule).map_err(|_| SuffixRefusal::NoMemory)?;
+                let Ok(()) = rules.push(rule) else {
+                    return Err(SuffixRefusal::NoMemory);
+                };
             } else {
                 too_many = true;
             }
@@ -40,6 +42,7 @@ pub fn read_rules(alloc: Global, text: &str) -> Result<Vec<Rule>, SuffixRefusal>
 }
 
 // The rule of a line, or none where it is empty or a comment.
+#[tactic(auto, unfolding(crate::specs::Reading::read_line))]
 fn read_line(alloc: Global, line: &str, number: u32) -> Result<Option<Rule>, SuffixRefusal>
     ensures { reading.IsReadLine line.now number result }
 {

@@ -1,8 +1,9 @@
-ghost use Rattle.std.specs.Prelude.{◌≡◌, length};
+ghost use Rattle.std.specs.Prelude.{◌≡◌};
 ghost use Rattle.dnr_spec.specs.Hosts.{labels_of};
 ghost use Rattle.dnr_spec.specs.Suffixes as spec;
 ghost use Rattle.suffix_list.specs.Kept as kept;
 
+use crate::names::label_count;
 use dnr_spec::split_last_label;
 
 // A rule with its labels in one text, a dot between each two.
@@ -35,11 +36,26 @@ impl Rule {
         }
     }
 
-    // Whether it matches a name.
-    pub fn matches(&self, name: &str) -> bool
-        ensures { result ≡ spec.matches (kept.labels self.now) (labels_of name.now) }
+    // How many labels it has, where it is an exception that matches a name, or 0.
+    pub fn exception_len(&self, name: &str) -> usize
+        ensures { result ≡ kept.len_if (kept.is_matching_exception (labels_of name.now)) self.now }
     {
-        matches_name(self.text.as_str(), name)
+        if self.exception && matches_name(self.text.as_str(), name) {
+            label_count(self.text.as_str())
+        } else {
+            0
+        }
+    }
+
+    // How many labels it has, where it is no exception and matches a name, or 0.
+    pub fn rule_len(&self, name: &str) -> usize
+        ensures { result ≡ kept.len_if (kept.is_matching_rule (labels_of name.now)) self.now }
+    {
+        if !self.exception && matches_name(self.text.as_str(), name) {
+            label_count(self.text.as_str())
+        } else {
+            0
+        }
     }
 }
 

@@ -1,6 +1,5 @@
-ghost use Rattle.std.specs.Prelude.{◌≡◌, ◌&&◌, not, [], ◌∷◌, ◌++◌, ℕ, List, length, OnOk};
+ghost use Rattle.std.specs.Prelude.{◌≡◌, ◌<◌, [], ◌∷◌, ◌++◌, List, length, slice_get, OnOk};
 ghost use Rattle.dnr_spec.specs.Hosts.{labels_of};
-ghost use Rattle.dnr_spec.specs.Suffixes.{matches};
 ghost use Rattle.suffix_list.specs.declared.rule.Rule.{Rule};
 ghost use Rattle.suffix_list.specs.Kept as kept;
 
@@ -40,10 +39,12 @@ impl Tables {
                 self.new.others.items) }
     {
         if rule.is_plain() {
-            return self.plain.insert(alloc, rule.text.as_str());
+            self.plain.insert(alloc, rule.text.as_str())?;
+            return Ok(());
         }
         if let Some(rest) = rule.behind_star() {
-            return self.starred.insert(alloc, rest);
+            self.starred.insert(alloc, rest)?;
+            return Ok(());
         }
         self.others.push(place)?;
         Ok(())
@@ -72,7 +73,7 @@ impl Tables {
 
     // Whether a rule of the tables has just these labels; `behind` stands behind the first dot of the name.
     fn has_rule(&self, name: &str, behind: Option<&str>) -> bool
-        ensures { result ≡ kept.is_found self.now.plain.texts self.now.starred.texts name.now behind }
+        ensures { result ≡ kept.is_found self.now.plain.texts self.now.starred.texts name.now behind.entry }
     {
         match behind {
             Some(rest) => self.plain.contains(name) || self.starred.contains(rest),
@@ -91,15 +92,16 @@ pub fn longest_others(rules: &[Rule], others: &[usize], name: &str) -> (usize, u
     let mut exceptions = 0;
     let mut plain = 0;
     for place in others {
-        let rule = &rules[*place];
-        if rule.matches(name) {
-            let count = label_count(rule.text.as_str());
-            if rule.exception {
-                exceptions = count.max(exceptions);
-            } else {
-                plain = count.max(plain);
-            }
-        }
+        let rule = rule_at(rules, *place);
+        exceptions = rule.exception_len(name).max(exceptions);
+        plain = rule.rule_len(name).max(plain);
     }
     (exceptions, plain)
+}
+
+fn rule_at(rules: &[Rule], place: usize) -> &Rule
+    requires { place < length rules.now }
+    ensures { slice_get rules.now place ≡ Some result.now }
+{
+    &rules[place]
 }
