@@ -8,7 +8,7 @@ use Rattle.std.proofs.Math.Seq.{drop-append_seam, get_or-append_seam}
 use Rattle.std.proofs.lemmas.Option.{same_Some}
 use Rattle.std.proofs.lemmas.Str.{IsUtf8-drop, IsCharBoundary-before_ascii, IsCharBoundary-after_ascii}
 use Rattle.dnr_base.specs.declared.span.Span.{Span}
-use Rattle.dnr_spec.specs.Substitution.{Piece, byte, group, pieces_of, then_pieces, escaped, names_group, written, expansion, substitution_of, max_substitution}
+use Rattle.dnr_spec.specs.Substitution.{Piece, byte, group, pieces_of, then_pieces, escaped, names_group, written, expansion, substitution_of, max_substitution, or_bad}
 use Rattle.dnr_spec.specs.declared.substitution_refusal.SubstitutionRefusal.TheVariants.{BadSubstitution}
 use Rattle.regex_host.specs.Substitution.{pieces_in}
 
@@ -82,7 +82,7 @@ written_literal text spans (b ∷ literal) pieces = ap (λ (bytes : List ℕ). b
 pub literal_expansion : (text : List ℕ) (spans : List (Option Span)) (rest : List ℕ) → HasNoEscape rest → expansion (pieces_in rest) text spans ≡ rest
 literal_expansion text spans rest plain =
     let e : pieces_of 9 (rest ++ []) ≡ Some (map byte rest ++ []) = pieces_behind 9 rest [] plain in
-    let f : pieces_of 9 rest ≡ Some (map byte rest ++ []) = rw append-nil at e in
+    let f : pieces_of 9 rest ≡ Some (map byte rest ++ []) = subst (λ (t : List ℕ). pieces_of 9 t ≡ Some (map byte rest ++ [])) (append-nil rest) e in
     rw f (written_literal text spans rest [] ∙ append-nil rest)
 
 -- what is told of a text with a backslash behind the literal, of which `behind` are the pieces of the rest
@@ -169,6 +169,16 @@ is_read groups text short h =
     let found = some_is (pieces_of groups text) h in
     let nine = pieces_by_nine groups text found.0 found.1 in
     (rw nine refl, rw (long, found.1, nine) refl)
+
+chosen_read : (b : Bool) (o p : Option (List Piece)) (pieces : List Piece) → ((xs : List Piece) → o ≡ Some xs → p ≡ Some xs)
+    → cond b (Err BadSubstitution) (or_bad o) ≡ Ok pieces → cond b (Err BadSubstitution) (or_bad p) ≡ Ok pieces
+chosen_read true o p pieces imply h = cc
+chosen_read false None p pieces imply h = cc
+chosen_read false (Some xs) p pieces imply h = rw (imply xs refl) h
+
+pub read_by_nine : (text : List ℕ) (groups : ℕ) (pieces : List Piece) → substitution_of text groups ≡ Ok pieces → substitution_of text 9 ≡ Ok pieces
+read_by_nine text groups pieces h =
+    chosen_read (nat_lt max_substitution (length text)) (pieces_of groups text) (pieces_of 9 text) pieces (pieces_by_nine groups text) h
 
 -- ---- what follows a backslash is ASCII
 

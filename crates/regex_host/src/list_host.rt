@@ -14,7 +14,8 @@ pub struct ListHost<H> {
     alloc: Global,
     below: H,
     plan: Plan,
-    asked: Vec<Text>,
+    /// The patterns of all calls that there was memory to keep, in their order.
+    pub asked: Vec<Text>,
 }
 
 impl<H: RegexHost> ListHost<H> {
@@ -29,13 +30,6 @@ impl<H: RegexHost> ListHost<H> {
             plan: Plan::new(failing),
             asked: Vec::new(alloc),
         }
-    }
-
-    /// The patterns of all calls that there was memory to keep, in their order.
-    pub fn asked(&self) -> &[Text]
-        ensures { result.now ≡ self.now.asked.items }
-    {
-        self.asked.as_slice()
     }
 
     // Keeps the pattern of a call, and fails it where it is listed.

@@ -1,7 +1,7 @@
-ghost use Rattle.std.specs.Prelude.{◌≡◌, ◌<◌, IsAscii, IsSome, IfOk, IfErr, is_some, option_map, length, slice_index, Some, Ok};
+ghost use Rattle.std.specs.Prelude.{◌≡◌, ◌<◌, ℕ, List, IsAscii, IsSome, IfOk, IfErr, is_some, option_map, length, slice_index, Some, Ok};
 ghost use Rattle.dnr_spec.specs.Patterns.{ArePlacesIn};
 ghost use Rattle.dnr_spec.specs.Substitution as spec;
-ghost use Rattle.dnr_spec.specs.Substitution.{pieces_of, substitution_of, expansion};
+ghost use Rattle.dnr_spec.specs.Substitution.{Piece, pieces_of, substitution_of, expansion};
 ghost use Rattle.regex_host.specs.Substitution.{IsRefused};
 
 use dnr_base::{Copied, NoMemory, Span, Text};
@@ -57,6 +57,12 @@ impl Substitution {
             Err(_) => Err(SubstitutionRefusal::NoMemory),
         }
     }
+
+    /// What is a substitution for a pattern with some count of groups is one for nine groups too, and of the
+    /// same pieces. This is a law of all texts, and the function does nothing.
+    pub fn stays_with_more_groups()
+        ensures { (text : List ℕ) (groups : ℕ) (pieces : List Piece) → substitution_of text groups ≡ Ok pieces → substitution_of text 9 ≡ Ok pieces }
+    {}
 
     /// The same substitution once more.
     ///
