@@ -1,6 +1,6 @@
 -- The values of each header, change by change.
-use Rattle.std.proofs.Common.{◌≡◌, ◌⊎◌, ℕ, List, [], ◌∷◌, ◌++◌, map, filter, fold, take, length, ◌+◌, ◌<◌, get_or, bytes_eq, Bool, true, false, cond, not, Option, Some, None, option_map, option_to_list, refl, sym, ap, ◌∙◌, subst, ⊎_elim, append_assoc, append-nil}
-use Rattle.std.proofs.lemmas.Bool.{cases_Bool, cond-true, cond-false, true≢false}
+use Rattle.std.proofs.Common.{◌≡◌, ℕ, List, [], ◌∷◌, ◌++◌, map, filter, fold, bytes_eq, true, false, cond, not, Option, Some, None, option_map, option_to_list, refl, sym, ap, ◌∙◌, ⊎_elim, append-nil}
+use Rattle.std.proofs.lemmas.Bool.{cases_Bool, cond-true, cond-false}
 use Rattle.dnr_base.specs.declared.operation.Operation.{Operation}
 use Rattle.dnr_base.specs.declared.operation.Operation.TheVariants.{Append, Set, Remove}
 use Rattle.dnr_base.specs.declared.header.Header.{Header}

@@ -1,17 +1,16 @@
 -- What is kept of a direction goes on as the definition does.
-use Rattle.std.proofs.Common.{◌≡◌, ◌⊎◌, ℕ, ◌+◌, List, [], ◌∷◌, ◌++◌, bytes_eq, Bool, true, false, cond, not, ◌&&◌, nat_lt, is_some, Option, Some, None, Result, Ok, Err, IfOk, refl, sym, ap, ◌∙◌, subst, ⊎_elim, inl, inr, arith}
-use Rattle.std.specs.List.{list_any}
-use Rattle.std.proofs.lemmas.Bool.{cases_Bool, cond-true, cond-false, true≢false}
+use Rattle.std.proofs.Common.{◌≡◌, ℕ, ◌+◌, List, [], ◌∷◌, ◌++◌, bytes_eq, Bool, true, false, cond, not, ◌&&◌, nat_lt, is_some, Option, Some, None, Result, Ok, Err, IfOk, refl, sym, ap, ◌∙◌, subst, ⊎_elim, arith}
+use Rattle.std.proofs.lemmas.Bool.{cases_Bool, cond-true, cond-false}
 use Rattle.dnr_base.specs.declared.no_memory.NoMemory.{NoMemory}
 use Rattle.dnr_base.specs.declared.direction.Direction.{Direction}
 use Rattle.dnr_base.specs.declared.direction.Direction.TheVariants.{Request, Response}
 use Rattle.dnr_base.specs.declared.offered.Offered.{Offered}
-use Rattle.dnr_spec.specs.Headers.{is_same_direction, takes_effect, max_effective, forbids}
+use Rattle.dnr_spec.specs.Headers.{is_same_direction, takes_effect, max_effective}
 use Rattle.header_actions.specs.declared.effects.Effects.{Effects}
 use Rattle.header_actions.specs.declared.standing.Standing.{Standing}
 use Rattle.header_actions.specs.Effects.{First, first_on, count_on, lets, IsSettled, with_first, with_taken, first_kept, admits, Keeps, Takes, Goes}
 use Rattle.header_actions.specs.Standing.{Stands, Tells}
-use Rattle.header_actions.proofs.Settled.{not_not, bytes_same, bytes_turned, direction_same, first_on_other, first_on_same, settled_nothing, settled_more, count_more}
+use Rattle.header_actions.proofs.Settled.{not_not, bytes_same, bytes_turned, first_on_other, first_on_same, settled_more, count_more}
 
 -- ---- the first change that is kept
 

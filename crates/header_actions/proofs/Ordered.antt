@@ -1,11 +1,10 @@
 -- What is kept name by name, in ascending order of the names, is the list in order.
-use Rattle.std.proofs.Common.{◌≡◌, ◌⊎◌, ℕ, List, [], ◌∷◌, ◌++◌, map, filter, flat_map, bytes_eq, Bool, true, false, cond, not, Option, Some, None, refl, sym, ap, ◌∙◌, subst, ⊎_elim, inl, inr, append_assoc, append-nil}
+use Rattle.std.proofs.Common.{◌≡◌, ◌⊎◌, ℕ, List, [], ◌∷◌, ◌++◌, map, filter, bytes_eq, Bool, true, false, cond, not, Option, Some, None, refl, sym, ap, ◌∙◌, subst, ⊎_elim, inl, inr}
 use Rattle.std.specs.List.{AllByRecursion}
 use Rattle.std.specs.List.Sorted.{IsStrictlySortedBy}
 use Rattle.std.specs.declared.cmp.Ordering.{Ordering}
 use Rattle.std.specs.declared.cmp.Ordering.TheVariants.{Less, Equal, Greater}
 use Rattle.std.specs.Ordering.{nat_cmp, is_lt, is_eq, ordering_reverse}
-use Rattle.std.specs.Cmp.{IsTotalOrder}
 use Rattle.std.specs.Cmp.Lexicographic.{slice_cmp}
 use Rattle.std.specs.Borrow.{Bor}
 use Rattle.std.specs.BTreeMap.{is_at}
@@ -15,7 +14,7 @@ use Rattle.std.proofs.lemmas.Cmp.{nat_list_cmp_total}
 use Rattle.std.proofs.lemmas.Map.Text.{is_eq-slice_cmp}
 use Rattle.dnr_base.specs.declared.header.Header.{Header}
 use Rattle.dnr_spec.specs.Headers.{without, placed, in_order}
-use Rattle.header_actions.specs.Table.{values_of, Texts, texts_of, kept_of, headers_of, listed, by_name}
+use Rattle.header_actions.specs.Table.{values_of, Texts, kept_of, headers_of, listed, by_name}
 use Rattle.header_actions.proofs.Settled.{bytes_same, bytes_eq_itself, bytes_turned}
 use Rattle.header_actions.proofs.Changed.{values_there, values_without_same, values_without_other}
 

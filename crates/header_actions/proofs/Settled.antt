@@ -1,5 +1,5 @@
 -- The first change of a header alone says what may follow, behind any changes that took effect.
-use Rattle.std.proofs.Common.{◌≡◌, ◌⊎◌, ℕ, ◌+◌, ◌==◌, List, [], ◌∷◌, ◌++◌, bytes_eq, Bool, true, false, cond, not, ◌&&◌, ◌||◌, nat_lt, Option, Some, None, option_map, find, count_by, refl, sym, ap, ◌∙◌, zero-add, subst, ⊎_elim, inl, inr, arith}
+use Rattle.std.proofs.Common.{◌≡◌, ℕ, ◌+◌, ◌==◌, List, [], ◌∷◌, ◌++◌, bytes_eq, Bool, true, false, cond, not, ◌&&◌, ◌||◌, Option, Some, None, option_map, find, refl, sym, ap, ◌∙◌, zero-add, ⊎_elim}
 use Rattle.std.specs.List.{list_any}
 use Rattle.std.proofs.lemmas.Bool.{cases_Bool, cond-true, cond-false, true≢false}
 use Rattle.std.proofs.lemmas.List.Folds.{list_any-append}
@@ -10,8 +10,8 @@ use Rattle.dnr_base.specs.declared.operation.Operation.TheVariants.{Append, Set,
 use Rattle.dnr_base.specs.declared.direction.Direction.{Direction}
 use Rattle.dnr_base.specs.declared.direction.Direction.TheVariants.{Request, Response}
 use Rattle.dnr_base.specs.declared.offered.Offered.{Offered}
-use Rattle.dnr_spec.specs.Headers.{is_same_direction, is_on_header_of, forbids, may_follow, takes_effect}
-use Rattle.header_actions.specs.Effects.{First, first_on, count_on, lets, IsSettled, with_first, with_taken}
+use Rattle.dnr_spec.specs.Headers.{is_same_direction, forbids, may_follow, takes_effect}
+use Rattle.header_actions.specs.Effects.{First, first_on, count_on, lets, IsSettled, with_first}
 
 -- ---- tests
 

@@ -1,5 +1,5 @@
 -- Why a change is not read: the definition refuses it so, or it reads it and memory ran out.
-use Rattle.std.specs.Prelude.{◌≡◌, Result, Ok, Err}
+use Rattle.std.specs.Prelude.{◌≡◌, Result, Err}
 use Rattle.std.specs.Prelude.{IsOk}
 use Rattle.dnr_spec.specs.Headers.{HeaderOp}
 use Rattle.dnr_spec.specs.declared.header_refusal.HeaderRefusal.{HeaderRefusal}

@@ -1,4 +1,4 @@
-use Rattle.std.proofs.Common.{rules, arith, ◌≡◌, ap, ◌∙◌, ◌++◌, ◌+◌, drop}
+use Rattle.std.proofs.Common.{arith, ◌≡◌, ap, ◌∙◌, ◌++◌, ◌+◌, drop}
 use Rattle.std.proofs.lemmas.Grind.{common_steps}
 use Rattle.dnr_spec.specs.Headers.{effective, effective_from}
 use Rattle.header_actions.specs.Effects.{with_taken}

@@ -1,6 +1,5 @@
-use Rattle.std.proofs.Common.{arith, ◌≡◌, ◌+◌, List, [], ◌∷◌, ◌++◌, take, Some, ◌∙◌, sym, ap}
+use Rattle.std.proofs.Common.{arith, ◌≡◌, ◌+◌, [], ◌∷◌, ◌++◌, take, Some, ◌∙◌, sym, ap}
 use Rattle.std.proofs.lemmas.List.{take_more}
-use Rattle.dnr_base.specs.declared.header.Header.{Header}
 use Rattle.dnr_base.specs.declared.operation.Operation.TheVariants.{Append}
 use Rattle.dnr_spec.specs.Headers.{HeaderOp, changed}
 use Rattle.header_actions.specs.Table.{values_of, values_under}

@@ -1,9 +1,8 @@
-use Rattle.std.proofs.Common.{rules, arith, refl, ap, sym, ◌∙◌, ◌≡◌, cond, Some, None, is_some, bytes_eq}
-use Rattle.std.proofs.lemmas.Grind.{common_steps}
+use Rattle.std.proofs.Common.{refl, ap, sym, ◌∙◌, ◌≡◌, cond, Some, None, is_some, bytes_eq}
 use Rattle.std.proofs.lemmas.Map.Text.{hash_map_updates_str}
 use Rattle.header_actions.specs.declared.effects.Effects.{Effects}
 use Rattle.header_actions.specs.Effects.{first_kept}
-use Rattle.header_actions.proofs.Considered.{kept_new, kept_old, none_of}
+use Rattle.header_actions.proofs.Considered.{kept_new, none_of}
 use Rattle.header_actions.proofs.effects.Effects.remember.Goals as goal
 
 pub returns : goal.returns
