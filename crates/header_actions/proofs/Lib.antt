@@ -1,0 +1,6 @@
+mod Names
+mod Settled
+mod Considered
+mod Planned
+mod Changed
+mod Ordered

@@ -1,0 +1,4 @@
+pub mod Refused
+pub mod Effects
+pub mod Standing
+pub mod Table
