@@ -3,12 +3,12 @@ ghost use Rattle.std.specs.Prelude.{◌≡◌, IfOk};
 use crate::{Copied, NoMemory, Text};
 use std::alloc::Global;
 
-/// A header of a request or a response, of which a list may have several of one name.
+/// One value of a header. A header with several values stands once for each.
 #[derive(Debug, Drop)]
 pub struct Header {
-    /// Its name, in lower case.
+    /// The header's name, in lower case.
     pub name: Text,
-    /// Its value, as it is sent.
+    /// The value.
     pub value: Text,
 }
 

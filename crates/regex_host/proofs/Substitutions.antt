@@ -1,13 +1,24 @@
 -- The pieces of a text, one backslash after another.
-use Rattle.std.proofs.Common.{◌≡◌, ◌≢◌, ℕ, zero, suc, ◌+◌, ◌-◌, ◌<◌, ◌≤◌, List, [], ◌∷◌, ◌++◌, length, map, drop, get_or, Bool, true, false, cond, ◌==◌, ◌&&◌, Option, Some, None, IsSome, is_some, option_map, refl, sym, ap, ◌∙◌, subst, arith, nat_le, ne_eqb, append-nil, true≢false}
-use Rattle.std.specs.Prelude.{slice_index, unwrap_or}
+use Rattle.std.proofs.Common.{◌≡◌, ◌≢◌, ℕ, zero, suc, ◌+◌, ◌-◌, ◌<◌, ◌≤◌, List, [], ◌∷◌, ◌++◌, length, map, drop, get_or, Bool, true, false, cond, ◌==◌, ◌&&◌, Option, Some, None, IsSome, is_some, option_map, refl, sym, ap, ◌∙◌, subst, arith, nat_le, ne_eqb, append-nil, append_assoc, length-append, true≢false, nat_lt, IsUtf8, IsCharBoundary}
+use Rattle.std.specs.Prelude.{slice_index, unwrap_or, Result, Ok, Err}
 use Rattle.std.specs.List.{flat_map}
 use Rattle.std.proofs.lemmas.Bool.{cond-true, cond-false}
 use Rattle.std.proofs.lemmas.Bool.Decides.{nat_tests}
+use Rattle.std.proofs.Math.Seq.{drop-append_seam, get_or-append_seam}
 use Rattle.std.proofs.lemmas.Option.{same_Some}
+use Rattle.std.proofs.lemmas.Str.{IsUtf8-drop, IsCharBoundary-before_ascii, IsCharBoundary-after_ascii}
 use Rattle.dnr_base.specs.declared.span.Span.{Span}
-use Rattle.dnr_spec.specs.Substitution.{Piece, byte, group, pieces_of, then_pieces, escaped, names_group, written, expansion}
+use Rattle.dnr_spec.specs.Substitution.{Piece, byte, group, pieces_of, then_pieces, escaped, names_group, written, expansion, substitution_of, max_substitution}
+use Rattle.dnr_spec.specs.declared.substitution_refusal.SubstitutionRefusal.TheVariants.{BadSubstitution}
 use Rattle.regex_host.specs.Substitution.{pieces_in}
+
+is_none_is : {A : Type 0} (o : Option A) → is_some o ≡ false → o ≡ None
+is_none_is None h = refl
+is_none_is (Some x) h = cc
+
+some_is : {A : Type 0} (o : Option A) → is_some o ≡ true → (x : A) × (o ≡ Some x)
+some_is None h = cc
+some_is (Some x) h = (x, refl)
 
 -- ---- one byte or one backslash at the front
 
@@ -106,17 +117,18 @@ expansion_step text spans rest literal (c ∷ later) e plain h =
 
 -- ---- from a count of groups to all that can be named
 
-named_by_nine : (groups c : ℕ) (a b d : Bool) (piece : Piece) → (a ≡ true → b ≡ true) → cond a (Some (group (c - 48))) None ≡ Some piece
-    → cond b (Some (group (c - 48))) None ≡ Some piece
-named_by_nine groups c true true d piece imply h = h
-named_by_nine groups c true false d piece imply h = let e : false ≡ true = imply refl in cc
-named_by_nine groups c false b d piece imply h = cc
+same_choice : (slash a b : Bool) (one other piece : Piece) → (a ≡ true → b ≡ true)
+    → cond slash (Some one) (cond a (Some other) None) ≡ Some piece → cond slash (Some one) (cond b (Some other) None) ≡ Some piece
+same_choice true a b one other piece imply h = h
+same_choice false true b one other piece imply h = rw (imply refl) h
+same_choice false false b one other piece imply h = cc
 
 names_by_nine : (groups c : ℕ) → names_group groups c ≡ true → names_group 9 c ≡ true
 names_by_nine groups c h = grind (arith, nat_tests)
 
 escaped_by_nine : (groups c : ℕ) (piece : Piece) → escaped groups c ≡ Some piece → escaped 9 c ≡ Some piece
-escaped_by_nine groups c piece h = ?
+escaped_by_nine groups c piece h =
+    same_choice (c == 92) (names_group groups c) (names_group 9 c) (byte 92) (group (c - 48)) piece (names_by_nine groups c) h
 
 then_by_nine : (o p : Option Piece) (q r : Option (List Piece)) (pieces : List Piece) → ((x : Piece) → o ≡ Some x → p ≡ Some x)
     → ((xs : List Piece) → q ≡ Some xs → r ≡ Some xs) → then_pieces o q ≡ Some pieces → then_pieces p r ≡ Some pieces
@@ -138,3 +150,58 @@ pieces_by_nine groups (b ∷ c ∷ rest) pieces h =
     (then_by_nine (escaped groups c) (escaped 9 c) _ _ pieces (escaped_by_nine groups c) (pieces_by_nine groups rest))
     (then_by_nine (Some (byte b)) (Some (byte b)) _ _ pieces (λ x e. e) (pieces_by_nine groups (c ∷ rest)))
     h
+
+-- ---- what is read
+
+pub too_long : (groups : ℕ) (text : List ℕ) → max_substitution < length text → substitution_of text groups ≡ Err BadSubstitution
+too_long groups text h = let long : nat_lt max_substitution (length text) ≡ true = grind (arith, nat_tests, h) in rw long refl
+
+pub not_read : (groups : ℕ) (text : List ℕ) → length text ≤ max_substitution → is_some (pieces_of groups text) ≡ false
+    → substitution_of text groups ≡ Err BadSubstitution
+not_read groups text short h =
+    let long : nat_lt max_substitution (length text) ≡ false = grind (arith, nat_tests, short) in
+    rw (long, is_none_is (pieces_of groups text) h) refl
+
+pub is_read : (groups : ℕ) (text : List ℕ) → length text ≤ max_substitution → is_some (pieces_of groups text) ≡ true
+    → IsSome (pieces_of 9 text) × (substitution_of text groups ≡ Ok (pieces_in text))
+is_read groups text short h =
+    let long : nat_lt max_substitution (length text) ≡ false = grind (arith, nat_tests, short) in
+    let found = some_is (pieces_of groups text) h in
+    let nine = pieces_by_nine groups text found.0 found.1 in
+    (rw nine refl, rw (long, found.1, nine) refl)
+
+-- ---- what follows a backslash is ASCII
+
+low_choice : (c : ℕ) (slash digit : Bool) (one other : Piece) → (slash ≡ true → c < 128) → (digit ≡ true → c < 128)
+    → IsSome (cond slash (Some one) (cond digit (Some other) None)) → c < 128
+low_choice c true digit one other first second h = first refl
+low_choice c false true one other first second h = second refl
+low_choice c false false one other first second h = cc
+
+slash_is_ascii : (c : ℕ) → (c == 92) ≡ true → c < 128
+slash_is_ascii c h = grind (arith, nat_tests)
+
+digit_is_ascii : (groups c : ℕ) → names_group groups c ≡ true → c < 128
+digit_is_ascii groups c h = grind (arith, nat_tests)
+
+pub escape_is_ascii : (groups c : ℕ) → IsSome (escaped groups c) → c < 128
+escape_is_ascii groups c h =
+    low_choice c (c == 92) (names_group groups c) (byte 92) (group (c - 48)) (slash_is_ascii c) (digit_is_ascii groups c) h
+
+-- ---- where the text may be cut
+
+-- what stands behind a backslash is text
+pub text_behind : (rest literal behind : List ℕ) → rest ≡ literal ++ (92 ∷ behind) → IsUtf8 rest → IsUtf8 behind
+text_behind rest literal behind e text =
+    let whole : IsUtf8 (literal ++ (92 ∷ behind)) = subst IsUtf8 e text in
+    let at : get_or (literal ++ (92 ∷ behind)) (length literal) 0 ≡ 92 = get_or-append_seam literal 92 behind 0 in
+    let rest_is : drop (length literal) (literal ++ (92 ∷ behind)) ≡ 92 ∷ behind = drop-append_seam literal (92 ∷ behind) in
+    let inside : length literal < length (literal ++ (92 ∷ behind)) = omega (arith, length-append literal (92 ∷ behind)) in
+    let slash : IsUtf8 (92 ∷ behind) = subst IsUtf8 rest_is (IsUtf8-drop _ (length literal) whole (IsCharBoundary-before_ascii _ (length literal) inside (omega (arith, at)))) in
+    IsUtf8-drop (92 ∷ behind) 1 slash (IsCharBoundary-after_ascii (92 ∷ behind) 0 slash (omega arith) (omega arith))
+
+pub escape_ends : (groups : ℕ) (behind : List ℕ) → IsUtf8 behind → 0 < length behind → IsSome (escaped groups (slice_index behind 0)) → IsCharBoundary behind 1
+escape_ends groups behind text some h = IsCharBoundary-after_ascii behind 0 text some (escape_is_ascii groups (slice_index behind 0) h)
+
+pub joined : (old middle new literal w r e whole : List ℕ) → middle ≡ old ++ literal → new ≡ middle ++ w → e ≡ literal ++ (w ++ r) → old ++ e ≡ whole → new ++ r ≡ whole
+joined old middle new literal w r e whole first second third fourth = rw (second, first) (simp append_assoc (ap (λ (t : List ℕ). old ++ t) (sym third) ∙ fourth))

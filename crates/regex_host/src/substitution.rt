@@ -44,7 +44,10 @@ impl Substitution {
         ensures read { IfOk result (λ pieces. substitution_of text.now groups ≡ Ok pieces) }
         ensures refused { IfErr result (IsRefused text.now groups) }
     {
-        if text.len() > MAX_SUBSTITUTION || !is_substitution(text.as_bytes(), groups) {
+        if text.len() > MAX_SUBSTITUTION {
+            return Err(SubstitutionRefusal::BadSubstitution);
+        }
+        if !is_substitution(text.as_bytes(), groups) {
             return Err(SubstitutionRefusal::BadSubstitution);
         }
         match String::from_str(alloc, text) {
