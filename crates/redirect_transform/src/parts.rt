@@ -1,5 +1,6 @@
-ghost use Rattle.std.specs.Prelude.{◌≡◌, ◌++◌, List, ℕ, IfOk, OnOk, string_bytes, unwrap_or};
+ghost use Rattle.std.specs.Prelude.{◌≡◌, ◌++◌, [], IfOk, OnOk, string_bytes, unwrap_or, if◌then◌else◌};
 ghost use Rattle.std.specs.Option.{option_map_or};
+ghost use Rattle.form_urlencoded.specs.Form.{is_nonempty};
 ghost use Rattle.dnr_base.specs.Scheme.{scheme_text};
 ghost use Rattle.dnr_spec.specs.Transform as spec;
 
@@ -52,7 +53,7 @@ impl<'a> UrlParts<'a> {
         text.push_str("://")?;
         push_user(&mut text, self.username, self.password)?;
         text.push_str(self.host)?;
-        push_port(&mut text, self.port)?;
+        push_marked(&mut text, ":", self.port)?;
         text.push_str(self.path)?;
         text.push_str(self.query)?;
         text.push_str(self.fragment)?;
@@ -92,20 +93,19 @@ fn push_user(text: &mut String, username: &str, password: &str) -> Result<(), No
         return Ok(());
     }
     text.push_str(username)?;
-    if !password.is_empty() {
-        text.push_str(":")?;
-        text.push_str(password)?;
-    }
+    push_marked(text, ":", password)?;
     text.push_str("@")?;
     Ok(())
 }
 
-fn push_port(text: &mut String, port: &str) -> Result<(), NoMemory>
-    ensures { OnOk result (string_bytes text.new ≡ string_bytes text.old ++ spec.port_text port.now) }
+// The part behind its mark, unless it is empty.
+fn push_marked(text: &mut String, mark: &str, part: &str) -> Result<(), NoMemory>
+    ensures { OnOk result (string_bytes text.new
+        ≡ string_bytes text.old ++ (if is_nonempty part.now then mark.now ++ part.now else [])) }
 {
-    if !port.is_empty() {
-        text.push_str(":")?;
-        text.push_str(port)?;
+    if !part.is_empty() {
+        text.push_str(mark)?;
+        text.push_str(part)?;
     }
     Ok(())
 }
