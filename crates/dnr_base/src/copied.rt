@@ -12,3 +12,12 @@ pub trait Copied {
     fn copied(&self, alloc: Global) -> Result<Self, NoMemory>
         ensures { IfOk result (λ copy. copy ≡ self.now) };
 }
+
+impl<T: Copied> Copied for Option<T> {
+    fn copied(&self, alloc: Global) -> Result<Option<T>, NoMemory> {
+        match self {
+            Some(value) => Ok(Some(value.copied(alloc)?)),
+            None => Ok(None),
+        }
+    }
+}

@@ -1,4 +1,4 @@
-// The lines that a command writes. Texts are written as JSON by `serde_json`.
+//! The lines that a command writes. Texts are written as JSON by `serde_json`.
 ghost use Rattle.std.specs.Prelude.{◌≡◌, ◌++◌, codes, decimal, OnOk, IfOk, option_map, string_bytes};
 ghost use Rattle.json.specs.Print.{quoted};
 ghost use Rattle.session_spec.specs.Output as spec;

@@ -6,6 +6,8 @@
 mod domain;
 mod set;
 mod table;
+#[cfg(test)]
+mod tests;
 
 pub use dnr_spec::DomainRefusal;
 pub use set::DomainSet;

@@ -9,5 +9,6 @@ pub mod RuleFile
 pub mod RequestLine
 pub mod Output
 pub mod Words
+pub mod Answers
 pub mod Out
 pub mod Examples

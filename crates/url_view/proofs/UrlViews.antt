@@ -1,11 +1,11 @@
 -- The view of a URL is made of the places of its parts.
-use Rattle.std.proofs.Common.{◌≡◌, ℕ, ◌-◌, ◌<◌, ◌≤◌, Bool, true, false, cond, not, ◌||◌, ◌==◌, ◌⊎◌, List, [], ◌∷◌, ◌++◌, length, get_or, drop, Option, Some, None, sym, refl, ap, ◌∙◌, inl, inr, ⊎_elim, append_assoc, append-nil, arith, length-append, lit≤, lt-ltb, le-ltb}
+use Rattle.std.proofs.Common.{◌≡◌, ℕ, ◌+◌, ◌-◌, ◌<◌, ◌≤◌, Bool, true, false, cond, not, ◌||◌, ◌==◌, ◌⊎◌, List, [], ◌∷◌, ◌++◌, length, get_or, drop, Option, Some, None, sym, refl, ap, ◌∙◌, inl, inr, ⊎_elim, append_assoc, append-nil, arith, length-append, lit≤, lt-ltb, le-ltb}
 use Rattle.std.specs.Prelude.{Result, Ok, Err, is_some, unwrap_or, option_map, decimal, codes, slice_range, if◌then◌else◌}
 use Rattle.std.specs.List.{concat}
 use Rattle.std.proofs.lemmas.Bool.{cond-true, cond-false, cases_Bool, true≢false, both_ways, eq-eqb, or_left, or_right}
 use Rattle.std.proofs.lemmas.List.{get_or_at, get_or-append_right}
 use Rattle.url.specs.declared.slicing.Position.TheVariants.{BeforeHost, AfterHost, AfterPassword, AfterQuery}
-use Rattle.url.specs.Input.{when, is_empty}
+use Rattle.url.specs.Input.{when, is_empty, split_once}
 use Rattle.url.specs.Host.{host_text}
 use Rattle.url.specs.Parts.{Parts, has_authority, has_credentials, host_or_empty, needs_guard, pieces, serialize, text_before, text_between, offset, IsValid}
 use Rattle.url.proofs.PiecesLemmas.{option_cases, concat-split, slice-upto, upto_ordered, upto-le, steps}
@@ -15,7 +15,7 @@ use Rattle.dnr_base.specs.declared.scheme.Scheme.{Scheme}
 use Rattle.dnr_spec.specs.declared.view_refusal.ViewRefusal.{ViewRefusal}
 use Rattle.dnr_spec.specs.declared.view_refusal.ViewRefusal.TheVariants.{UrlTooLong, BadScheme, BadHost}
 use Rattle.dnr_base.specs.Scheme.{scheme_named}
-use Rattle.dnr_base.specs.View.{View, IsView, is_host, begins_host, ends_host}
+use Rattle.dnr_base.specs.View.{View, IsView, fragment_place, is_host, begins_host, ends_host}
 use Rattle.dnr_spec.specs.UrlView.{max_url, without_fragment, host_span, if_short, with_host, with_scheme, view_of_full}
 use Rattle.url_view.proofs.HostPlace.{without_fragment-serialize, scheme_part-serialize, no_host_span, own_path, own_span, own_host_span}
 
@@ -153,6 +153,18 @@ ended url valid some =
     (λ mark. or_right _ _ (ap ends_host at ∙ mark))
     (ends_host-behind url.port url.path url.query (concat (drop 12 xs)) (own_path url valid some))
 
+cut_step : (here : Bool) (b : ℕ) (bytes front : List ℕ) (back : Option (List ℕ)) (place : ℕ) → place ≡ length front
+    → cond (not here) (1 + place) 0 ≡ length (cond {A = List ℕ × Option (List ℕ)} here ([], Some bytes) (b ∷ front, back)).0
+cut_step true b bytes front back place e = refl
+cut_step false b bytes front back place e = omega (arith, e)
+
+-- the fragment begins where the text before the first `#` ends
+fragment_place-is : (full : List ℕ) → fragment_place full ≡ length (without_fragment full)
+unfolding split_once
+fragment_place-is [] = refl
+fragment_place-is (b ∷ full) =
+    let later = split_once 35 full in cut_step (b == 35) b full later.0 later.1 (fragment_place full) (fragment_place-is full)
+
 pub own_view_is_view : (url : Parts) → IsValid url → (scheme : Scheme) → is_host (own_host_text url) ≡ true → IsView (own_view url scheme)
 own_view_is_view url valid scheme h =
     let some = authority_of_host url h in
@@ -166,6 +178,7 @@ own_view_is_view url valid scheme h =
       order = omega arith;
       within = upto_ordered (pieces url) 7 13 (lit≤ tt);
       cut = upto-le (pieces url) 13;
+      fragment = sym (fragment_place-is (serialize url) ∙ ap length (without_fragment-serialize url valid));
       host = rw (own_slice url) h;
       before = begun url some;
       behind = ended url valid some;

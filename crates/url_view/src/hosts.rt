@@ -33,7 +33,7 @@ fn is_address(host: &[u8]) -> bool
     ensures { result ≡ hosts.is_address host.now }
 {
     match host {
-        [b'[', address @ .., b']'] => are_address_bytes(address),
+        [b'[', address @ .., b']'] => !address.is_empty() && are_address_bytes(address),
         _ => false,
     }
 }
