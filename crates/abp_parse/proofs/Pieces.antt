@@ -22,8 +22,7 @@ pub some_cut : (cut : ℕ) (text : List ℕ) (place : ℕ) → position (λ b. b
 some_cut cut text place found =
     let p : ℕ → Bool = λ b. b == cut in
     let told = told_place p text place (nat_lt (position_or_len p text) (length text)) refl found in
-    let inside : position_or_len p text < length text = told.1 in
-    (
+    let inside : position_or_len p text < length text = told.1 in (
       subst (λ (n : ℕ). n < length text) told.0 inside,
       slice_split_first p text 0 inside ∙ ap (λ (n : ℕ). take n text ∷ slice_split p (drop (n + 1) text)) told.0,
     )

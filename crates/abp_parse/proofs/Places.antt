@@ -171,11 +171,11 @@ step_left text i rest later less left =
       within = omega arith;
       rest_is = ap (before (get_or text i 0)) left.rest_is ∙ ap rest_of (sym (drop_more text i 0 less));
       place_is =
-        ap (λ (r : Rest). cond (get_or text i 0 == 36 && r.options) (Some i) later) left.rest_is
-        ∙ ap (λ (t : Bool). cond (get_or text i 0 == 36 && t) (Some i) later) (options_told (rest_of behind) (pieces_of 44 behind) (told behind))
-        ∙ ap (cond (get_or text i 0 == 36 && is_option_list behind) (Some i)) left.place_is
-        ∙ sym (here i (get_or text i 0 == 36 && is_option_list behind) (options_place behind))
-        ∙ ap (λ (l : List ℕ). further i (options_place l)) (sym (drop_more text i 0 less));
+          ap (λ (r : Rest). cond (get_or text i 0 == 36 && r.options) (Some i) later) left.rest_is
+          ∙ ap (λ (t : Bool). cond (get_or text i 0 == 36 && t) (Some i) later) (options_told (rest_of behind) (pieces_of 44 behind) (told behind))
+          ∙ ap (cond (get_or text i 0 == 36 && is_option_list behind) (Some i)) left.place_is
+          ∙ sym (here i (get_or text i 0 == 36 && is_option_list behind) (options_place behind))
+          ∙ ap (λ (l : List ℕ). further i (options_place l)) (sym (drop_more text i 0 less));
     }
 
 pub before_left : (text : List ℕ) (i j : ℕ) (rest : Rest) (later : Option ℕ) → j ≡ i + 1 → i < length text → IsLeft text j rest later

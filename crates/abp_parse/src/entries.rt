@@ -84,9 +84,7 @@ fn has_conflict(alloc: Global, entries: &[DomainEntry]) -> Result<bool, NoMemory
     ensures { IfOk result (λ answer. answer ≡ spec.has_conflict entries.now) }
 {
     let excluded = excluded_of(alloc, entries)?;
-    Ok(entries
-        .iter()
-        .any(|entry| !entry.excluded && excluded.contains(entry.domain.as_str())))
+    Ok(entries.iter().any(|entry| !entry.excluded && excluded.contains(entry.domain.as_str())))
 }
 
 // Whether an entry names no domain.

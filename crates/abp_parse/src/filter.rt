@@ -105,9 +105,7 @@ fn line_of_pattern(
     } else if pattern.starts_with(b"||*") {
         Ok(Line::Unsupported(Reason::AnchorStar))
     } else {
-        Ok(Line::Filter(filter_asked(
-            alloc, exception, pattern, asked,
-        )?))
+        Ok(Line::Filter(filter_asked(alloc, exception, pattern, asked)?))
     }
 }
 

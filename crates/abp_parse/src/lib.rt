@@ -12,9 +12,9 @@ mod hiding;
 mod line;
 mod options;
 mod place;
-mod text;
 #[cfg(test)]
 mod tests;
+mod text;
 
 pub use dnr_base::{Items, KindSet, NoMemory, Text};
 pub use line::{FilterLine, FilterPattern, Line, parse_line};

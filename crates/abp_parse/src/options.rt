@@ -102,7 +102,11 @@ fn read_value(alloc: Global, name: &[u8], value: &[u8]) -> Result<Vec<DomainEntr
 }
 
 // The domains of an option `domain`.
-fn read_domains(alloc: Global, repeated: bool, written: Written<'_>) -> Result<Vec<DomainEntry>, Fault>
+fn read_domains(
+    alloc: Global,
+    repeated: bool,
+    written: Written<'_>,
+) -> Result<Vec<DomainEntry>, Fault>
     requires { IsWrittenInAscii written }
     ensures read { IfOk result (λ entries. entries.items ≡ entries_of (unwrap_or (written_seen written.entry).value [])) }
     ensures told { IsRead (options.domain_fault repeated (written_seen written.entry)) result }
