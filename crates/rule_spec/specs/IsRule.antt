@@ -13,7 +13,7 @@ use Rattle.dnr_spec.specs.UrlFilter.{pattern_of}
 use Rattle.dnr_spec.specs.Patterns.{groups_of}
 use Rattle.dnr_spec.specs.Domains.{domains_of}
 use Rattle.dnr_spec.specs.Headers.{HeaderOp, header_op_of}
-use Rattle.dnr_spec.specs.Target.{IsRedirect}
+use Rattle.rule_spec.specs.Redirects.{IsRedirect}
 use Rattle.rule_spec.specs.Rule.{Condition, Action, block, redirect, allow, upgrade_scheme, modify_headers, allow_all_requests, Rule}
 
 -- ids and priorities are whole numbers from 1 to 2,147,483,647
@@ -31,9 +31,9 @@ is_regex_filter text = nat_le 1 (length text) && nat_le (length text) max_regex 
 abbrev pub is_number : ℕ → Bool
 is_number n = nat_le 1 n && nat_le n max_number
 
--- domains as they are kept: each of a domain's form, in lower case
+-- domains as they are kept: those that some list is read as
 abbrev pub AreDomains : List (List ℕ) → Type 0
-AreDomains domains = domains_of domains ≡ Ok domains
+AreDomains domains = (list : List (List ℕ)) × (domains_of list ≡ Ok domains)
 
 -- a list that is given is not empty
 abbrev pub IsGivenWhole : {X : Type 0} → Option (List X) → Type 0
@@ -58,9 +58,13 @@ is_frame_kind kind = same_kind kind MainFrame || same_kind kind SubFrame
 abbrev pub are_frame_kinds : List Kind → Bool
 are_frame_kinds kinds = nat_le 1 (length kinds) && list_all is_frame_kind kinds
 
--- an operation as it is kept: reading its parts gives it
+-- an operation as it is kept: one that is read with some name
 abbrev pub IsOperation : Direction → HeaderOp → Type 0
-IsOperation direction op = header_op_of direction op.name op.operation op.value ≡ Ok op
+IsOperation direction op = (name : List ℕ) × (header_op_of direction name op.operation op.value ≡ Ok op)
+
+abbrev pub AreOperations : Direction → List HeaderOp → Type 0
+AreOperations direction [] = Unit {0}
+AreOperations direction (op ∷ ops) = IsOperation direction op × AreOperations direction ops
 
 -- the count of groups of the regexFilter, if there is one
 abbrev pub filter_groups : Condition → Option ℕ
@@ -72,7 +76,7 @@ IsAction condition (redirect target) = IsRedirect (filter_groups condition) targ
 IsAction condition allow = Unit {0}
 IsAction condition upgrade_scheme = Unit {0}
 IsAction condition (modify_headers request response) =
-    (0 < length request + length response) × All (IsOperation Request) request × All (IsOperation Response) response
+    (0 < length request + length response) × AreOperations Request request × AreOperations Response response
 IsAction condition allow_all_requests = IsTrue (are_frame_kinds condition.kinds)
 
 pub record IsRule (rule : Rule) : Type 0 where

@@ -1,5 +1,6 @@
 pub mod RulePath
 pub mod Rule
+pub mod Redirects
 pub mod IsRule
 pub mod Holds
 pub mod Reaches

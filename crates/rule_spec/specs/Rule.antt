@@ -1,5 +1,5 @@
 -- A rule: Chrome's reference of declarativeNetRequest, `Rule`, `RuleCondition` and `RuleAction`.
-use Rattle.std.specs.Prelude.{ℕ, ℤ, List, Bool, Option, Some, None}
+use Rattle.std.specs.Prelude.{ℕ, ℤ, List, Bool, true, false, Option, Some, None}
 use Rattle.dnr_base.specs.declared.kind.Kind.{Kind}
 use Rattle.dnr_base.specs.declared.method.Method.{Method}
 use Rattle.dnr_base.specs.declared.redirect.Redirect.{Redirect}
@@ -48,3 +48,12 @@ verb_of allow = Some verb.Allow
 verb_of upgrade_scheme = Some verb.UpgradeScheme
 verb_of (modify_headers request response) = None
 verb_of allow_all_requests = Some verb.AllowAllRequests
+
+-- a rule of this action is unsafe: it may send a request elsewhere or change its headers
+abbrev pub is_unsafe : Action → Bool
+is_unsafe block = false
+is_unsafe (redirect target) = true
+is_unsafe allow = false
+is_unsafe upgrade_scheme = false
+is_unsafe (modify_headers request response) = true
+is_unsafe allow_all_requests = false

@@ -12,6 +12,7 @@ use Rattle.dnr_base.specs.Kind.{all_kinds, default_kinds, has_kind}
 use Rattle.dnr_spec.specs.declared.pattern_refusal.PatternRefusal.{PatternRefusal}
 use Rattle.dnr_spec.specs.declared.domain_refusal.DomainRefusal.{DomainRefusal}
 use Rattle.dnr_spec.specs.UrlFilter.{pattern_of}
+use Rattle.dnr_spec.specs.Patterns.{groups_of}
 use Rattle.dnr_spec.specs.Domains.{domains_of}
 use Rattle.rule_spec.specs.declared.rule_kind.RuleKind.{RuleKind}
 use Rattle.rule_spec.specs.declared.rule_kind.RuleKind.TheVariants.{Static, Dynamic, Session}
@@ -21,7 +22,7 @@ use Rattle.rule_spec.specs.declared.rule_refusal.RuleRefusal.{RuleRefusal}
 use Rattle.rule_spec.specs.declared.rule_refusal.RuleRefusal.TheVariants.{NotObject, BadId, DuplicateId, BadPriority, BadField, BothFilters, BadUrlFilter, BadRegex, BadDomain, EmptyList, BothTypeLists, AllowAllTypes, TabsNotSession, HostFault}
 use Rattle.rule_spec.specs.declared.placed_refusal.PlacedRefusal.{PlacedRefusal}
 use Rattle.rule_spec.specs.Rule.{Condition, Action, block, Rule}
-use Rattle.rule_spec.specs.IsRule.{is_number, is_regex_filter, is_frame_kind, filter_groups}
+use Rattle.rule_spec.specs.IsRule.{is_number, is_regex_filter, is_frame_kind, IsRule}
 use Rattle.session_spec.specs.Json.{whole_number, text_at}
 use Rattle.session_spec.specs.RuleFields.{first_refusal, refused_if, refusal_in, unless_refused, Fields, fields_in}
 use Rattle.session_spec.specs.RuleAction.{type_of, action_in}
@@ -55,30 +56,28 @@ abbrev pub empty_test : {X : Type 0} → RulePath → Option (List X) → Option
 empty_test field None = None
 empty_test field (Some list) = refused_if (length list == 0) (EmptyList field)
 
--- what is tested before the pattern of the regexFilter
-abbrev pub filter_tests : Fields → List (Option RuleRefusal)
-filter_tests f =
+-- what is tested of the filters before the pattern of the regexFilter
+abbrev pub tests_before_pattern : Fields → List (Option RuleRefusal)
+tests_before_pattern f =
       refused_if (is_some f.url_filter && is_some f.regex_filter) BothFilters
     ∷ url_filter_test f.url_filter
     ∷ []
 
-abbrev pub condition_tests : Fields → List (Option RuleRefusal)
-condition_tests f =
-    filter_tests f ++
-      regex_filter_test f.regex_filter
-    ∷ refusal_in (domains_in path.InitiatorDomains f.initiators)
+abbrev pub filter_tests : Fields → List (Option RuleRefusal)
+filter_tests f = tests_before_pattern f ++ regex_filter_test f.regex_filter ∷ []
+
+-- the filters pass, or the first test that fails
+unfoldable pub filters_in : Fields → Result (Unit {0}) RuleRefusal
+filters_in f = unless_refused (first_refusal (filter_tests f)) tt
+
+abbrev pub domain_tests : Fields → List (Option RuleRefusal)
+domain_tests f =
+      refusal_in (domains_in path.InitiatorDomains f.initiators)
     ∷ refusal_in (domains_in path.ExcludedInitiatorDomains f.not_initiators)
     ∷ refusal_in (domains_in path.Domains f.old_initiators)
     ∷ refusal_in (domains_in path.ExcludedDomains f.old_not_initiators)
     ∷ refusal_in (domains_in path.RequestDomains f.hosts)
     ∷ refusal_in (domains_in path.ExcludedRequestDomains f.not_hosts)
-    ∷ empty_test path.InitiatorDomains f.initiators
-    ∷ empty_test path.Domains f.old_initiators
-    ∷ empty_test path.RequestDomains f.hosts
-    ∷ empty_test path.ResourceTypes f.kinds
-    ∷ empty_test path.RequestMethods f.methods
-    ∷ empty_test path.TabIds f.tabs
-    ∷ refused_if (is_some f.kinds && is_some f.not_kinds) BothTypeLists
     ∷ []
 
 -- the first of two lists that is given
@@ -89,22 +88,56 @@ either (Some x) other = Some x
 abbrev pub list_of : {X : Type 0} → Result (Option X) RuleRefusal → Option X
 list_of reading = result_unwrap_or reading None
 
+-- the domain lists of a condition
+pub record DomainLists : Type 0 where
+  pub initiators : Option (List (List ℕ))
+  pub not_initiators : List (List ℕ)
+  pub hosts : Option (List (List ℕ))
+  pub not_hosts : List (List ℕ)
+
+abbrev pub domain_lists_of : Fields → DomainLists
+domain_lists_of f = record {
+  initiators = either (list_of (domains_in path.InitiatorDomains f.initiators)) (list_of (domains_in path.Domains f.old_initiators));
+  not_initiators =
+    unwrap_or (either (list_of (domains_in path.ExcludedInitiatorDomains f.not_initiators)) (list_of (domains_in path.ExcludedDomains f.old_not_initiators))) [];
+  hosts = list_of (domains_in path.RequestDomains f.hosts);
+  not_hosts = unwrap_or (list_of (domains_in path.ExcludedRequestDomains f.not_hosts)) [];
+}
+
+-- the domain lists, or the first that is at fault
+unfoldable pub domain_lists_in : Fields → Result DomainLists RuleRefusal
+domain_lists_in f = unless_refused (first_refusal (domain_tests f)) (domain_lists_of f)
+
+abbrev pub list_tests : Fields → List (Option RuleRefusal)
+list_tests f =
+      empty_test path.InitiatorDomains f.initiators
+    ∷ empty_test path.Domains f.old_initiators
+    ∷ empty_test path.RequestDomains f.hosts
+    ∷ empty_test path.ResourceTypes f.kinds
+    ∷ empty_test path.RequestMethods f.methods
+    ∷ empty_test path.TabIds f.tabs
+    ∷ refused_if (is_some f.kinds && is_some f.not_kinds) BothTypeLists
+    ∷ []
+
+-- no list is given and empty, and not both lists of types are given
+unfoldable pub lists_in : Fields → Result (Unit {0}) RuleRefusal
+lists_in f = unless_refused (first_refusal (list_tests f)) tt
+
 -- the types on which the rule holds: those listed, or all but the excluded ones, or all but `main_frame`
 abbrev pub kinds_from : Option (List Kind) → Option (List Kind) → List Kind
 kinds_from (Some kinds) excluded = kinds
 kinds_from None (Some excluded) = filter (λ kind. not (has_kind excluded kind)) all_kinds
 kinds_from None None = default_kinds
 
-abbrev pub condition_of : Fields → Condition
-condition_of f = record {
+abbrev pub condition_of : Fields → DomainLists → Condition
+condition_of f lists = record {
   url_filter = f.url_filter;
   regex_filter = f.regex_filter;
   case_sensitive = unwrap_or f.case_sensitive false;
-  initiators = either (list_of (domains_in path.InitiatorDomains f.initiators)) (list_of (domains_in path.Domains f.old_initiators));
-  not_initiators =
-    unwrap_or (either (list_of (domains_in path.ExcludedInitiatorDomains f.not_initiators)) (list_of (domains_in path.ExcludedDomains f.old_not_initiators))) [];
-  hosts = list_of (domains_in path.RequestDomains f.hosts);
-  not_hosts = unwrap_or (list_of (domains_in path.ExcludedRequestDomains f.not_hosts)) [];
+  initiators = lists.initiators;
+  not_initiators = lists.not_initiators;
+  hosts = lists.hosts;
+  not_hosts = lists.not_hosts;
   third_party = f.third_party;
   kinds = kinds_from f.kinds f.not_kinds;
   methods = f.methods;
@@ -112,10 +145,6 @@ condition_of f = record {
   tabs = f.tabs;
   not_tabs = unwrap_or f.not_tabs [];
 }
-
--- the condition of these fields, or the first refusal
-unfoldable pub condition_in : Fields → Result Condition RuleRefusal
-condition_in f = unless_refused (first_refusal (condition_tests f)) (condition_of f)
 
 -- ---- the rule
 
@@ -150,11 +179,15 @@ no_fields = record {
 abbrev pub fields_at : Data → Fields
 fields_at d = result_unwrap_or (fields_in (condition_at d)) no_fields
 
-abbrev pub condition_or_none : Result Condition RuleRefusal → Condition
-condition_or_none reading = result_unwrap_or reading (condition_of no_fields)
+abbrev pub no_lists : DomainLists
+no_lists = record { initiators = None; not_initiators = []; hosts = None; not_hosts = []; }
 
+abbrev pub lists_at : Data → DomainLists
+lists_at d = result_unwrap_or (domain_lists_in (fields_at d)) no_lists
+
+-- the count of groups of the regexFilter, if there is one
 abbrev pub groups_at : Data → Option ℕ
-groups_at d = filter_groups (condition_or_none (condition_in (fields_at d)))
+groups_at d = option_map_or groups_of (fields_at d).regex_filter None
 
 -- `resourceTypes` is given, with frames alone
 abbrev pub gives_frames : Option (List Kind) → Bool
@@ -162,46 +195,81 @@ gives_frames None = false
 gives_frames (Some kinds) = list_all is_frame_kind kinds
 
 abbrev pub is_allow_all : Option (List ℕ) → Bool
-is_allow_all name = option_map_or (bytes_eq (codes "allowAllRequests")) name false
+is_allow_all name = option_map_or (λ name. bytes_eq name (codes "allowAllRequests")) name false
 
 abbrev pub may_name_tabs : RuleKind → Bool
 may_name_tabs Static = false
 may_name_tabs Dynamic = false
 may_name_tabs Session = true
 
--- what is tested before the condition's own tests
-abbrev pub head_tests : (ℕ → Bool) → Data → List (Option RuleRefusal)
-head_tests is_taken d =
+-- the numbers of a rule
+pub record Numbers : Type 0 where
+  pub id : ℕ
+  pub priority : ℕ
+
+abbrev pub number_tests : (ℕ → Bool) → Data → List (Option RuleRefusal)
+number_tests is_taken d =
       refused_if (is_none (as_object d)) NotObject
     ∷ refused_if (is_none (id_of d)) BadId
     ∷ refused_if (option_map_or is_taken (id_of d) false) DuplicateId
     ∷ refused_if (is_none (priority_of d)) BadPriority
     ∷ refused_if (is_none (as_object (condition_at d))) (BadField path.Condition)
-    ∷ refusal_in (fields_in (condition_at d))
     ∷ []
 
--- all tests of a rule, where these ids are taken, in their order
+abbrev pub numbers_of : Data → Numbers
+numbers_of d = record { id = unwrap_or (id_of d) 0; priority = unwrap_or (priority_of d) 0 }
+
+-- a rule is an object with an id that is not taken, a priority and a condition
+unfoldable pub numbers_in : (ℕ → Bool) → Data → Result Numbers RuleRefusal
+numbers_in is_taken d = unless_refused (first_refusal (number_tests is_taken d)) (numbers_of d)
+
+abbrev pub no_numbers : Numbers
+no_numbers = record { id = 0; priority = 0 }
+
+abbrev pub numbers_at : (ℕ → Bool) → Data → Numbers
+numbers_at is_taken d = result_unwrap_or (numbers_in is_taken d) no_numbers
+
+-- `allowAllRequests` needs frames
+unfoldable pub frames_in : Option Data → Fields → Result (Unit {0}) RuleRefusal
+frames_in action f = unless_refused (refused_if (is_allow_all (type_of action) && not (gives_frames f.kinds)) AllowAllTypes) tt
+
+-- tabs need a session rule
+unfoldable pub tabs_in : RuleKind → Fields → Result (Unit {0}) RuleRefusal
+tabs_in kind f = unless_refused (refused_if (not (may_name_tabs kind) && (is_some f.tabs || is_some f.not_tabs)) TabsNotSession) tt
+
+-- all tests of a rule, where these ids are taken, in their order:
+-- NotObject, BadId, DuplicateId, BadPriority and a condition that is no object;
+-- BadField;
+-- BothFilters, BadUrlFilter, BadRegex;
+-- BadDomain;
+-- EmptyList, BothTypeLists;
+-- AllowAllTypes;
+-- TabsNotSession;
+-- BadAction, BadRedirect, BadTransform, BadHeader
 abbrev pub rule_tests : RuleKind → (ℕ → Bool) → Data → List (Option RuleRefusal)
 rule_tests kind is_taken d =
-    head_tests is_taken d ++
-      refusal_in (condition_in (fields_at d))
-    ∷ refused_if (is_allow_all (type_of (get (codes "action") d)) && not (gives_frames (fields_at d).kinds)) AllowAllTypes
-    ∷ refused_if (not (may_name_tabs kind) && (is_some (fields_at d).tabs || is_some (fields_at d).not_tabs)) TabsNotSession
+      refusal_in (numbers_in is_taken d)
+    ∷ refusal_in (fields_in (condition_at d))
+    ∷ refusal_in (filters_in (fields_at d))
+    ∷ refusal_in (domain_lists_in (fields_at d))
+    ∷ refusal_in (lists_in (fields_at d))
+    ∷ refusal_in (frames_in (get (codes "action") d) (fields_at d))
+    ∷ refusal_in (tabs_in kind (fields_at d))
     ∷ refusal_in (action_in (groups_at d) (get (codes "action") d))
     ∷ []
 
 -- the rule of an object that passes them
-abbrev pub rule_of : Data → Rule
-rule_of d = record {
-  id = unwrap_or (id_of d) 0;
-  priority = unwrap_or (priority_of d) 0;
-  condition = condition_or_none (condition_in (fields_at d));
+abbrev pub rule_of : (ℕ → Bool) → Data → Rule
+rule_of is_taken d = record {
+  id = (numbers_at is_taken d).id;
+  priority = (numbers_at is_taken d).priority;
+  condition = condition_of (fields_at d) (lists_at d);
   action = result_unwrap_or (action_in (groups_at d) (get (codes "action") d)) block;
 }
 
 -- the rule, where these ids are taken, or the first refusal
 unfoldable pub rule_in : RuleKind → (ℕ → Bool) → Data → Result Rule RuleRefusal
-rule_in kind is_taken d = unless_refused (first_refusal (rule_tests kind is_taken d)) (rule_of d)
+rule_in kind is_taken d = unless_refused (first_refusal (rule_tests kind is_taken d)) (rule_of is_taken d)
 
 -- a rule alone
 abbrev pub read_rule : RuleKind → Data → Result Rule RuleRefusal
@@ -243,13 +311,15 @@ read_rules kind d = read_items kind (as_array d)
 
 -- ---- where a pattern host may fail
 
--- the condition has a regexFilter, and nothing is refused that is tested before its pattern
+-- the filters have a regexFilter, and nothing of them is refused that is tested before its pattern
 abbrev pub IsAtPattern : Fields → Type 0
-IsAtPattern f = (first_refusal (filter_tests f) ≡ None) × IsSome f.regex_filter
+IsAtPattern f = (first_refusal (tests_before_pattern f) ≡ None) × IsSome f.regex_filter
 
 -- the same of a whole rule
-abbrev pub IsRuleAtPattern : (ℕ → Bool) → Data → Type 0
-IsRuleAtPattern is_taken d = (first_refusal (head_tests is_taken d) ≡ None) × IsAtPattern (fields_at d)
+pub record IsRuleAtPattern (is_taken : ℕ → Bool) (d : Data) : Type 0 where
+  pub numbers : refusal_in (numbers_in is_taken d) ≡ None
+  pub fields : refusal_in (fields_in (condition_at d)) ≡ None
+  pub filters : IsAtPattern (fields_at d)
 
 -- the refusal names a rule of the list that is at its pattern, behind rules that were read
 abbrev pub StopsAtPattern : RuleKind → List Rule → Items → PlacedRefusal → Type 0
@@ -257,3 +327,9 @@ StopsAtPattern kind earlier no_items refusal = ⊥
 StopsAtPattern kind earlier (item d items) refusal =
     ((refusal ≡ placed (length earlier) d HostFault) × IsRuleAtPattern (has_id earlier) d)
     ⊎ ((rule : Rule) × (rule_in kind (has_id earlier) d ≡ Ok rule) × StopsAtPattern kind (earlier ++ rule ∷ []) items refusal)
+
+-- ---- laws
+
+-- a rule that is read keeps what every rule keeps
+abbrev pub RulesKeepTheirForm : Type 0
+RulesKeepTheirForm = (kind : RuleKind) (is_taken : ℕ → Bool) (d : Data) (rule : Rule) → rule_in kind is_taken d ≡ Ok rule → IsRule rule

@@ -31,17 +31,11 @@ use Rattle.rule_spec.specs.declared.rule_refusal.RuleRefusal.TheVariants.{BadAct
 use Rattle.rule_spec.specs.declared.rule_refusal.HeaderCause.{HeaderCause}
 use Rattle.rule_spec.specs.declared.rule_refusal.HeaderCause.TheVariants.{NoHeaders, BadShape, Op}
 use Rattle.rule_spec.specs.Rule.{Action, block, redirect, allow, upgrade_scheme, modify_headers, allow_all_requests}
+use Rattle.rule_spec.specs.Redirects.{is_short, is_new_host, is_new_port, is_new_path, is_new_query, is_new_fragment, is_new_scheme, is_extension_path, is_redirect_url, is_substitution, max_entries}
 use Rattle.session_spec.specs.Json.{text_at}
 use Rattle.session_spec.specs.RuleFields.{first_refusal, refused_if, refusal_in, unless_refused, each, list_of, as_texts}
 
 -- ---- transforms
-
--- the most bytes of a text of a redirect
-abbrev pub max_text : ℕ
-max_text = 8192
-
-abbrev pub is_short : List ℕ → Bool
-is_short text = nat_le (length text) max_text
 
 -- a text that is short and passes this test
 abbrev pub tested_text : (List ℕ → Bool) → Data → Option (List ℕ)
@@ -49,45 +43,6 @@ tested_text test d = option_and_then (λ text. if is_short text && test text the
 
 abbrev pub short_text : Data → Option (List ℕ)
 short_text d = tested_text (λ text. true) d
-
--- letters, digits, `-`, `.` and `_`, or an address between brackets
-abbrev pub is_new_host : List ℕ → Bool
-is_new_host text = is_address text || (nat_le 1 (length text) && list_all (λ b. is_label_byte b || b == 46) text)
-
--- the number that decimal digits are
-abbrev pub number_in : List ℕ → ℕ
-number_in digits = fold (λ n b. 10 * n + (b - 48)) 0 digits
-
--- empty, or a port
-abbrev pub is_new_port : List ℕ → Bool
-is_new_port text = nat_le (length text) 5 && list_all is_ascii_digit text && nat_le (number_in text) 65535
-
-abbrev pub has_byte : ℕ → List ℕ → Bool
-has_byte b text = list_any (λ other. b == other) text
-
--- without `?` and `#`
-abbrev pub is_new_path : List ℕ → Bool
-is_new_path text = not (has_byte 63 text) && not (has_byte 35 text)
-
--- empty, or begins with this byte
-abbrev pub begins_with : ℕ → List ℕ → Bool
-begins_with b [] = true
-begins_with b (first ∷ rest) = first == b
-
-abbrev pub is_new_query : List ℕ → Bool
-is_new_query text = begins_with 63 text && not (has_byte 35 text)
-
-abbrev pub is_new_fragment : List ℕ → Bool
-is_new_fragment text = begins_with 35 text
-
--- the schemes that a transform may give
-abbrev pub is_new_scheme : Scheme → Bool
-is_new_scheme Http = true
-is_new_scheme Https = true
-is_new_scheme Ws = false
-is_new_scheme Wss = false
-is_new_scheme Ftp = true
-is_new_scheme ChromeExtension = true
 
 abbrev pub new_scheme : List ℕ → Option Scheme
 new_scheme name = option_and_then (λ scheme. if is_new_scheme scheme then Some scheme else None) (scheme_named name)
@@ -113,10 +68,6 @@ abbrev pub as_pair : Data → Option QueryPair
 as_pair d =
     pair_from (option_and_then short_text (get (codes "key") d)) (option_and_then short_text (get (codes "value") d))
     (flag_from (get (codes "replaceOnly") d))
-
--- the most entries of the two lists together
-abbrev pub max_entries : ℕ
-max_entries = 1024
 
 abbrev pub changes_from : Option (List (List ℕ)) → Option (List QueryPair) → Option QueryTransform
 changes_from (Some remove) (Some add) =
@@ -180,26 +131,6 @@ unfoldable pub transform_in : Data → Result Transform RuleRefusal
 transform_in d = unless_refused (first_refusal (transform_tests d)) (transform_of d)
 
 -- ---- redirects
-
--- a path inside an extension
-abbrev pub is_extension_path : List ℕ → Bool
-is_extension_path text = starts_with nat_eq text (codes "/")
-
--- the most bytes of a URL that a rule leads to
-abbrev pub max_url : ℕ
-max_url = 65536
-
-abbrev pub is_no_script : Parts → Bool
-is_no_script url = not (bytes_eq url.scheme (codes "javascript"))
-
--- the URL Standard reads it, and it is no script
-abbrev pub is_redirect_url : List ℕ → Bool
-is_redirect_url text = nat_le (length text) max_url && option_map_or is_no_script (url_of text) false
-
--- a substitution needs a regexFilter, and names groups up to its count
-abbrev pub is_substitution : Option ℕ → List ℕ → Bool
-is_substitution None text = false
-is_substitution (Some groups) text = is_ok (substitution_of text groups)
 
 abbrev pub or_bad_redirect : Option Redirect → Result Redirect RuleRefusal
 or_bad_redirect None = Err BadRedirect
@@ -279,8 +210,16 @@ as_change d =
 unfoldable pub changes_at : Option Data → Option (List Change)
 changes_at list = list_from as_change list
 
+abbrev pub or_bad_shape : Option (List Change) → Result (List Change) RuleRefusal
+or_bad_shape None = Err (BadHeader BadShape)
+or_bad_shape (Some changes) = Ok changes
+
 abbrev pub read_change : Direction → Change → Result HeaderOp HeaderRefusal
 read_change direction change = header_op_of direction change.header change.operation change.value
+
+abbrev pub or_bad_change : Result HeaderOp HeaderRefusal → Result HeaderOp RuleRefusal
+or_bad_change (Ok op) = Ok op
+or_bad_change (Err refusal) = Err (BadHeader (Op refusal))
 
 -- an operation before the others, or the first that is refused
 abbrev pub with_op : Result HeaderOp HeaderRefusal → Result (List HeaderOp) HeaderRefusal → Result (List HeaderOp) HeaderRefusal

@@ -1,0 +1,5 @@
+pub mod MayRefuse
+pub mod Seen
+pub mod Parts
+pub mod Changes
+pub mod Reading
