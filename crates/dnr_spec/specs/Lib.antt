@@ -5,6 +5,7 @@ pub mod UrlView
 pub mod UrlFilter
 pub mod Transform
 pub mod Target
+pub mod Domains
 pub mod Lines
 pub mod Status
 pub mod Order

@@ -5,6 +5,7 @@
 //! program. The enumerations here are the words in which both speak.
 #![tactic(auto)]
 
+mod domain_refusal;
 mod examples;
 mod header_refusal;
 mod host;
@@ -17,6 +18,7 @@ mod tests;
 mod view_refusal;
 
 pub use dnr_base::{Kind, NoMemory, Scheme, Span};
+pub use domain_refusal::DomainRefusal;
 pub use examples::{
     anchors_alone, domain_anchor_stays_in_the_host, each_refusal_of_a_url, host_is_in_ascii,
     host_stands_in_the_authority, path_is_no_host, separator_fits_the_end,

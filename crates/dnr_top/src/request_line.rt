@@ -7,12 +7,12 @@ ghost use Rattle.session_spec.specs.RequestLine as spec;
 ghost use Rattle.dnr_spec.specs.UrlView.{view_of};
 
 use crate::tree::{is_object_of, read_tree};
-use crate::url_view::parse;
 use dnr_base::{Items, Method, Request, View};
 use dnr_io::MAX_LINES;
 use dnr_spec::{Kind, NoMemory, ViewRefusal};
 use serde_json::Value;
 use std::alloc::Global;
+use url_view::parse;
 
 /// The request of the line of this number, if the line keeps the form: an object with the keys `url` and
 /// `type` and no others.
