@@ -46,7 +46,8 @@ impl Plan {
         ensures fails { result ≡ fails_next self.old }
         ensures value { self.new ≡ after_call self.old }
         ensures later { self.old.faults ≤ self.new.faults }
-        ensures counted { MatchBool result (Rose self.old.faults self.new.faults) (self.new.faults ≡ self.old.faults) }
+        ensures counted { MatchBool result (Rose self.old.faults self.new.faults)
+            (self.new.faults ≡ self.old.faults) }
     {
         self.calls = self.calls.saturating_add(1);
         let fails = self.failing.contains(&self.calls);

@@ -82,34 +82,46 @@ fn a_view_lends_its_parts(rt: HostRuntime) -> Result<(), Fail> {
     Ok(())
 }
 
-fn header(alloc: Global, name: &str, value: &str) -> Result<Header, Fail> {
-    Ok(Header {
-        name: text(alloc, name)?,
-        value: text(alloc, value)?,
+fn frame(alloc: Global, view: Option<View>, method: Method) -> Result<Frame, Fail> {
+    Ok(Frame {
+        view,
+        initiator: Some(text(alloc, "y.org")?),
+        method,
     })
 }
 
-// In a main frame with a URL, and in it a frame without one.
+// In a main frame with a URL, in it a frame without one, and in that a frame with one.
+fn frames(alloc: Global) -> Result<Items<Frame>, Fail> {
+    let mut frames = Vec::new(alloc);
+    frames.push(frame(alloc, Some(view(alloc)?), Method::Post)?)?;
+    frames.push(frame(alloc, None, Method::Get)?)?;
+    frames.push(frame(alloc, Some(view(alloc)?), Method::Put)?)?;
+    Ok(Items::build(frames))
+}
+
+fn headers(alloc: Global) -> Result<Items<Header>, Fail> {
+    let header = Header {
+        name: text(alloc, "accept")?,
+        value: text(alloc, "*/*")?,
+    };
+    let mut headers = Vec::new(alloc);
+    headers.push(header)?;
+    Ok(Items::build(headers))
+}
+
 fn request(alloc: Global) -> Result<Request, Fail> {
-    let outer = Frame {
-        view: Some(view(alloc)?),
-        initiator: Some(text(alloc, "y.org")?),
-        method: Method::Post,
-    };
-    let inner = Frame {
-        view: None,
-        initiator: None,
-        method: Method::Get,
-    };
+    let view = view(alloc)?;
+    let frames = frames(alloc)?;
+    let request_headers = Some(headers(alloc)?);
     Ok(Request {
         line: 3,
-        view: view(alloc)?,
+        view,
         initiator: Some(text(alloc, "z.org")?),
         kind: Kind::Script,
         method: Method::Head,
         tab: 7,
-        frames: Items::build(vec![in alloc; outer, inner]?),
-        request_headers: Some(Items::build(vec![in alloc; header(alloc, "accept", "*/*")?]?)),
+        frames,
+        request_headers,
         response_headers: None,
     })
 }
@@ -118,17 +130,41 @@ fn request(alloc: Global) -> Result<Request, Fail> {
 fn a_copied_request_is_equal(rt: HostRuntime) -> Result<(), Fail> {
     let alloc = rt.alloc();
     let request = request(alloc)?;
-    for copy in [request.copy(alloc)?, copy_of(alloc, &request)?] {
-        assert_eq!(rt; copy.line, 3);
-        assert_eq!(rt; copy.view.full(), request.view.full());
-        assert_eq!(rt; copy.initiator, request.initiator);
-        assert_eq!(rt; copy.kind, Kind::Script);
-        assert_eq!(rt; copy.method, Method::Head);
-        assert_eq!(rt; copy.tab, 7);
-        assert_eq!(rt; copy.frames.as_slice().len(), 2);
-        let headers = copy.request_headers.as_ref().ok_or("no list")?;
-        assert_eq!(rt; headers.as_slice().len(), 1);
-        assert!(rt; copy.response_headers.is_none());
+    let copy = copy_of(alloc, &request)?;
+    assert_eq!(rt;
+        format!(in alloc; "{copy:?}")?.as_str(),
+        format!(in alloc; "{request:?}")?.as_str()
+    );
+    Ok(())
+}
+
+// What a part says, in words.
+fn words(alloc: Global, part: Option<Part>) -> Result<String, Fail> {
+    let Some(part) = part else {
+        return Ok(String::from_str(alloc, "none")?);
+    };
+    let host = part.view.host();
+    let initiator = part.initiator.map(|text| text.as_str());
+    let (kind, method) = (part.kind.name(), part.method.name());
+    Ok(format!(in alloc; "{host} {initiator:?} {kind} {method} {}", part.tab)?)
+}
+
+#[test]
+fn a_request_lends_its_parts(rt: HostRuntime) -> Result<(), Fail> {
+    let alloc = rt.alloc();
+    let request = request(alloc)?;
+    let own = words(alloc, Some(request.own_part()))?;
+    assert_eq!(rt; own.as_str(), "x.org Some(\"z.org\") script head 7");
+    let table = [
+        (0, "x.org Some(\"y.org\") main_frame post 7"),
+        (1, "none"),
+        (2, "x.org Some(\"y.org\") sub_frame put 7"),
+        (3, "none"),
+        (usize::MAX, "none"),
+    ];
+    for (place, want) in table {
+        let part = words(alloc, request.frame_part(place))?;
+        assert_eq!(rt; part.as_str(), want, "at {place}");
     }
     Ok(())
 }
@@ -146,36 +182,6 @@ fn a_copied_name_of_a_rule_is_equal(rt: HostRuntime) -> Result<(), Fail> {
         assert_eq!(rt; copy.set.as_str(), "rules");
         assert_eq!(rt; copy.id, 4);
     }
-    Ok(())
-}
-
-#[test]
-fn a_request_lends_its_parts(rt: HostRuntime) -> Result<(), Fail> {
-    let alloc = rt.alloc();
-    let mut request = request(alloc)?;
-    let own = request.own_part();
-    assert_eq!(rt; own.view.host(), "x.org");
-    assert_eq!(rt; own.initiator.map(|text| text.as_str()), Some("z.org"));
-    assert_eq!(rt; own.kind, Kind::Script);
-    assert_eq!(rt; own.method, Method::Head);
-    assert_eq!(rt; own.tab, 7);
-    let outer = request.frame_part(0).ok_or("no part")?;
-    assert_eq!(rt; outer.view.host(), "x.org");
-    assert_eq!(rt; outer.initiator.map(|text| text.as_str()), Some("y.org"));
-    assert_eq!(rt; outer.kind, Kind::MainFrame);
-    assert_eq!(rt; outer.method, Method::Post);
-    assert_eq!(rt; outer.tab, 7);
-    assert!(rt; request.frame_part(1).is_none());
-    assert!(rt; request.frame_part(2).is_none());
-    let inner = Frame {
-        view: Some(view(alloc)?),
-        initiator: None,
-        method: Method::Get,
-    };
-    request.frames = Items::build(vec![in alloc; inner.copy(alloc)?, copy_of(alloc, &inner)?]?);
-    let inner = request.frame_part(1).ok_or("no part")?;
-    assert_eq!(rt; inner.kind, Kind::SubFrame);
-    assert!(rt; inner.initiator.is_none());
     Ok(())
 }
 
@@ -248,6 +254,21 @@ fn a_set_has_what_was_put_in(rt: HostRuntime) {
         }
         set.remove(kind);
         assert_eq!(rt; set, KindSet::empty());
+    }
+}
+
+#[test]
+fn a_set_of_methods_has_what_was_put_in(rt: HostRuntime) {
+    for method in Method::ALL {
+        assert!(rt; !MethodSet::empty().contains(method));
+        assert!(rt; MethodSet::all().contains(method));
+        let mut set = MethodSet::empty();
+        set.insert(method);
+        for other in Method::ALL {
+            assert_eq!(rt; set.contains(other), other == method);
+        }
+        set.remove(method);
+        assert_eq!(rt; set, MethodSet::empty());
     }
 }
 

@@ -26,8 +26,8 @@ mod tests;
 
 pub use all_lines::read_lines;
 pub use dir_shelf::DirShelf;
-pub use dnr_spec::{NoMemory, Status};
 pub use dnr_base::Failed;
+pub use dnr_spec::{NoMemory, Status};
 pub use faultless_shelf::FaultlessShelf;
 pub use faultless_sink::FaultlessSink;
 pub use faultless_source::FaultlessSource;

@@ -1,6 +1,11 @@
+ghost use Rattle.std.specs.Prelude.{◌≡◌, IfOk};
+
+use crate::dir_shelf::read_some;
+use crate::output::write_some;
 use crate::*;
 use std::alloc::{AllocError, Global};
 use std::fs;
+use std::io::{Error, ErrorKind, Read, Write};
 use std::test::Fail;
 
 const MOST: [usize; 4] = [1, 2, 3, 4096];
@@ -242,4 +247,48 @@ fn a_writer_that_takes_nothing_is_a_fault(rt: HostRuntime) -> Result<(), Fail> {
     assert_eq!(rt; write_all(&mut output, b"some bytes\n"), Err(Failed));
     assert_eq!(rt; output.faults(), 1);
     Ok(())
+}
+
+/// A reader and writer that moves nothing, of which the first calls are interrupted.
+#[derive(Drop)]
+struct Interrupted {
+    left: u8,
+}
+
+impl Interrupted {
+    fn moved(&mut self) -> std::io::Result<usize>
+        ensures { IfOk result (λ count. count ≡ 0) }
+    {
+        if 0 < self.left {
+            self.left -= 1;
+            return Err(Error::from(ErrorKind::Interrupted));
+        }
+        Ok(0)
+    }
+}
+
+impl Read for Interrupted {
+    fn read(&mut self, _buf: &mut [u8]) -> std::io::Result<usize> {
+        self.moved()
+    }
+}
+
+impl Write for Interrupted {
+    fn write(&mut self, _piece: &[u8]) -> std::io::Result<usize> {
+        self.moved()
+    }
+
+    fn flush(&mut self) -> std::io::Result<()> {
+        Ok(())
+    }
+}
+
+#[test]
+fn an_interrupted_call_is_tried_again(rt: HostRuntime) {
+    for left in [0, 1, 5] {
+        let mut interrupted = Interrupted { left };
+        assert_eq!(rt; read_some(&mut interrupted, &mut [0; 4]), Ok(0));
+        let mut interrupted = Interrupted { left };
+        assert_eq!(rt; write_some(&mut interrupted, b"some"), Ok(0));
+    }
 }

@@ -13,5 +13,5 @@ loop-rest-preserved g c =
       taken = appends_append _ _ _ was.sent (take count rest) was.taken wrote.bytes;
       split = rejoin c.args.bytes.now was.sent rest count was.split;
       later = omega (arith, wrote.cause.later, was.later);
-      told = wrote.told ∙ was.told
+      told = wrote.told ∙ was.told;
     }

@@ -9,7 +9,7 @@ invariant-loop-rest g l = record {
   taken : Appends (g.K.Sink.taken l.fn.sink) (g.K.Sink.taken l.sink) sent;
   split : l.fn.bytes ≡ sent ++ l.rest;
   later : g.K.Sink.faults l.fn.sink ≤ g.K.Sink.faults l.sink;
-  told : is_some (g.K.Sink.taken l.sink) ≡ is_some (g.K.Sink.taken l.fn.sink)
+  told : is_some (g.K.Sink.taken l.sink) ≡ is_some (g.K.Sink.taken l.fn.sink);
 }
 
 abbrev pub decreases-loop-rest : goal.decreases-loop-rest
