@@ -1,1 +1,3 @@
+pub mod BitSets
 pub mod KindSets
+pub mod MethodSets

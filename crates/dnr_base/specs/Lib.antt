@@ -1,5 +1,10 @@
 pub mod Kind
+pub mod BitSet
 pub mod KindSet
+pub mod Method
+pub mod MethodSet
 pub mod Scheme
 pub mod View
 pub mod Request
+pub mod Faults
+pub mod Plan

@@ -1,6 +1,6 @@
 -- The view of a URL: its text, and where its host stands in it.
-use Rattle.std.specs.Prelude.{ℕ, ◌-◌, ◌<◌, ◌≤◌, List, length, take, slice_index, slice_range, Bool, IsTrue, IsAscii, nat_le, ◌==◌, ◌&&◌, ◌||◌}
-use Rattle.std.specs.List.{list_all}
+use Rattle.std.specs.Prelude.{◌≡◌, ℕ, ◌-◌, ◌<◌, ◌≤◌, List, length, take, slice_index, slice_range, Bool, IsTrue, IsAscii, nat_le, ◌==◌, ◌&&◌, ◌||◌}
+use Rattle.std.specs.List.{list_all, position_or_len}
 use Rattle.dnr_base.specs.declared.scheme.Scheme.{Scheme}
 use Rattle.dnr_base.specs.declared.span.Span.{Span}
 
@@ -10,6 +10,10 @@ pub record View : Type 0 where
   pub cut : ℕ
   pub scheme : Scheme
   pub host : Span
+
+-- where the fragment of a serialization begins: at the first `#`, or at the end
+abbrev pub fragment_place : List ℕ → ℕ
+fragment_place full = position_or_len (λ b. b == 35) full
 
 -- the URL without its fragment, on which filters match
 abbrev pub text_of : View → List ℕ
@@ -32,7 +36,7 @@ is_name host = nat_le 1 (length host) && list_all is_name_byte host
 -- of the shape of an IPv6 address between brackets
 abbrev pub is_address : List ℕ → Bool
 is_address host =
-    nat_le 2 (length host) && slice_index host 0 == 91 && slice_index host (length host - 1) == 93
+    nat_le 3 (length host) && slice_index host 0 == 91 && slice_index host (length host - 1) == 93
     && list_all is_address_byte (slice_range host 1 (length host - 1))
 
 -- a text that the host of a view may be
@@ -54,6 +58,7 @@ pub record IsView (view : View) : Type 0 where
   pub order : view.host.start < view.host.end
   pub within : view.host.end ≤ view.cut
   pub cut : view.cut ≤ length view.full
+  pub fragment : view.cut ≡ fragment_place view.full
   pub host : IsTrue (is_host (host_of view))
   pub before : IsTrue (begins_host (slice_index view.full (view.host.start - 1)))
   pub behind : IsTrue (view.host.end == view.cut || ends_host (slice_index view.full view.host.end))

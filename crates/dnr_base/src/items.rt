@@ -47,3 +47,9 @@ impl<T: Copied + Drop> Items<T> {
         Ok(Items { items })
     }
 }
+
+impl<T: Copied + Drop> Copied for Items<T> {
+    fn copied(&self, alloc: Global) -> Result<Items<T>, NoMemory> {
+        self.copy(alloc)
+    }
+}

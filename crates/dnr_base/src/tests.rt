@@ -3,7 +3,9 @@ ghost use Rattle.std.specs.Prelude.{◌≡◌, IfOk};
 
 use crate::*;
 use std::alloc::Global;
+use std::marker::Brand;
 use std::string::String;
+use std::sync::ledger::{Blank, Ledger};
 use std::test::Fail;
 
 fn text(alloc: Global, words: &str) -> Result<Text, Fail>
@@ -80,18 +82,156 @@ fn a_view_lends_its_parts(rt: HostRuntime) -> Result<(), Fail> {
     Ok(())
 }
 
+fn header(alloc: Global, name: &str, value: &str) -> Result<Header, Fail> {
+    Ok(Header {
+        name: text(alloc, name)?,
+        value: text(alloc, value)?,
+    })
+}
+
+// In a main frame with a URL, and in it a frame without one.
+fn request(alloc: Global) -> Result<Request, Fail> {
+    let outer = Frame {
+        view: Some(view(alloc)?),
+        initiator: Some(text(alloc, "y.org")?),
+        method: Method::Post,
+    };
+    let inner = Frame {
+        view: None,
+        initiator: None,
+        method: Method::Get,
+    };
+    Ok(Request {
+        line: 3,
+        view: view(alloc)?,
+        initiator: Some(text(alloc, "z.org")?),
+        kind: Kind::Script,
+        method: Method::Head,
+        tab: 7,
+        frames: Items::build(vec![in alloc; outer, inner]?),
+        request_headers: Some(Items::build(vec![in alloc; header(alloc, "accept", "*/*")?]?)),
+        response_headers: None,
+    })
+}
+
 #[test]
 fn a_copied_request_is_equal(rt: HostRuntime) -> Result<(), Fail> {
     let alloc = rt.alloc();
-    let request = Request {
-        view: view(alloc)?,
-        kind: Kind::Script,
-    };
+    let request = request(alloc)?;
     for copy in [request.copy(alloc)?, copy_of(alloc, &request)?] {
+        assert_eq!(rt; copy.line, 3);
         assert_eq!(rt; copy.view.full(), request.view.full());
+        assert_eq!(rt; copy.initiator, request.initiator);
         assert_eq!(rt; copy.kind, Kind::Script);
+        assert_eq!(rt; copy.method, Method::Head);
+        assert_eq!(rt; copy.tab, 7);
+        assert_eq!(rt; copy.frames.as_slice().len(), 2);
+        let headers = copy.request_headers.as_ref().ok_or("no list")?;
+        assert_eq!(rt; headers.as_slice().len(), 1);
+        assert!(rt; copy.response_headers.is_none());
     }
     Ok(())
+}
+
+#[test]
+fn a_copied_name_of_a_rule_is_equal(rt: HostRuntime) -> Result<(), Fail> {
+    let alloc = rt.alloc();
+    let name = RuleName {
+        ext: text(alloc, "local")?,
+        set: text(alloc, "rules")?,
+        id: 4,
+    };
+    for copy in [name.copy(alloc)?, copy_of(alloc, &name)?] {
+        assert_eq!(rt; copy.ext.as_str(), "local");
+        assert_eq!(rt; copy.set.as_str(), "rules");
+        assert_eq!(rt; copy.id, 4);
+    }
+    Ok(())
+}
+
+#[test]
+fn a_request_lends_its_parts(rt: HostRuntime) -> Result<(), Fail> {
+    let alloc = rt.alloc();
+    let mut request = request(alloc)?;
+    let own = request.own_part();
+    assert_eq!(rt; own.view.host(), "x.org");
+    assert_eq!(rt; own.initiator.map(|text| text.as_str()), Some("z.org"));
+    assert_eq!(rt; own.kind, Kind::Script);
+    assert_eq!(rt; own.method, Method::Head);
+    assert_eq!(rt; own.tab, 7);
+    let outer = request.frame_part(0).ok_or("no part")?;
+    assert_eq!(rt; outer.view.host(), "x.org");
+    assert_eq!(rt; outer.initiator.map(|text| text.as_str()), Some("y.org"));
+    assert_eq!(rt; outer.kind, Kind::MainFrame);
+    assert_eq!(rt; outer.method, Method::Post);
+    assert_eq!(rt; outer.tab, 7);
+    assert!(rt; request.frame_part(1).is_none());
+    assert!(rt; request.frame_part(2).is_none());
+    let inner = Frame {
+        view: Some(view(alloc)?),
+        initiator: None,
+        method: Method::Get,
+    };
+    request.frames = Items::build(vec![in alloc; inner.copy(alloc)?, copy_of(alloc, &inner)?]?);
+    let inner = request.frame_part(1).ok_or("no part")?;
+    assert_eq!(rt; inner.kind, Kind::SubFrame);
+    assert!(rt; inner.initiator.is_none());
+    Ok(())
+}
+
+#[test]
+fn a_method_has_its_name(rt: HostRuntime) {
+    let table = [
+        (Method::Connect, "connect"),
+        (Method::Delete, "delete"),
+        (Method::Get, "get"),
+        (Method::Head, "head"),
+        (Method::Options, "options"),
+        (Method::Patch, "patch"),
+        (Method::Post, "post"),
+        (Method::Put, "put"),
+        (Method::Other, "other"),
+    ];
+    for (place, (method, name)) in table.into_iter().enumerate() {
+        assert_eq!(rt; method.name(), name);
+        assert_eq!(rt; method.place() as usize, place);
+        assert_eq!(rt; Method::named(name), Some(method));
+        assert_eq!(rt; Method::ALL[place], method);
+    }
+    for name in ["GET", "", "ge", "gett", "trace"] {
+        assert_eq!(rt; Method::named(name), None);
+    }
+}
+
+#[test]
+fn listed_calls_fail(rt: HostRuntime) -> Result<(), Fail> {
+    let mut plan = Plan::new(vec![in rt.alloc(); 2, 4]?);
+    for (call, faults) in [(1, 0), (2, 1), (3, 1), (4, 2), (5, 2)] {
+        assert_eq!(rt; plan.fails(), call % 2 == 0);
+        assert_eq!(rt; plan.faults(), faults);
+    }
+    plan.count_fault();
+    assert_eq!(rt; plan.faults(), 3);
+    let mut faults = u64::MAX;
+    count_fault(&mut faults);
+    assert_eq!(rt; faults, u64::MAX);
+    Ok(())
+}
+
+// The steps that it took.
+fn twice<L: Ledger>(blank: Blank)
+    requires name { blank.name ≡ L.name }
+    requires parts { blank.parts ≡ L.parts }
+    requires one { blank.parts ≡ 1 }
+{
+    let mut steps = Steps::<L>::open(blank);
+    steps.tick();
+    steps.tick();
+}
+
+#[test]
+fn a_caller_may_count_nothing() {
+    twice::<Brand>(Blank::new(1));
 }
 
 #[test]
@@ -126,12 +266,18 @@ fn threads_may_share_them(rt: HostRuntime) -> Result<(), Fail> {
     let view = view(alloc)?;
     is_send(&view);
     is_sync(&view);
-    let request = Request {
-        view,
-        kind: Kind::Other,
-    };
+    let request = request(alloc)?;
     is_send(&request);
     is_sync(&request);
+    is_send(&request.own_part());
+    is_sync(&request.own_part());
+    let name = RuleName {
+        ext: copy_of(alloc, &Text::build(String::new(alloc)))?,
+        set: Text::build(String::new(alloc)),
+        id: 1,
+    };
+    is_send(&name);
+    is_sync(&name);
     Ok(())
 }
 

@@ -1,4 +1,3 @@
-pub mod Faults
 pub mod Shelf
 pub mod Files
 pub mod Sink

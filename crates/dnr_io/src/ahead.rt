@@ -2,7 +2,7 @@ ghost use Rattle.std.specs.Prelude.{◌≡◌, ◌<◌, ◌≤◌, ◌+◌, List
 ghost use Rattle.std.specs.Io.KnownBytes.{prepend_known, IsAtEnd};
 ghost use Rattle.dnr_spec.specs.Lines.{max_line};
 ghost use Rattle.dnr_io.specs.Ahead.{IsFirstPiece, IsTooLong, MovesPiece};
-ghost use Rattle.dnr_io.specs.Faults.{HasCause};
+ghost use Rattle.dnr_base.specs.Faults.{HasCause};
 
 use crate::lines::MAX_LINE;
 use crate::{Failed, LineRefusal, Source};

@@ -1,7 +1,7 @@
 ghost use Rattle.std.specs.Prelude.{◌≡◌, ◌+◌, ◌<◌, true, false, None, map, is_some, IfOk, OnOk, IfSome, IsErrOf, IsTrue};
 ghost use Rattle.std.specs.Io.KnownBytes.{IsAtEnd};
 ghost use Rattle.dnr_spec.specs.Lines.{lines_of, is_within_limits, max_lines};
-ghost use Rattle.dnr_io.specs.Faults.{HasCauseOf};
+ghost use Rattle.dnr_base.specs.Faults.{HasCauseOf};
 ghost use Rattle.dnr_io.specs.Lines.{ahead, GivesLine, IsBeyond};
 
 use crate::{LineRefusal, Lines, Source};

@@ -1,6 +1,6 @@
 ghost use Rattle.std.specs.Prelude.{◌≡◌, ◌≤◌, None, length, OnOk};
 
-use crate::fault::count_fault;
+use dnr_base::count_fault;
 use crate::{Failed, Shelf, ShelfRefusal, Source};
 use std::fs;
 use std::io::{ErrorKind, Read};

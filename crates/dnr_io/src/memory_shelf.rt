@@ -1,9 +1,8 @@
 ghost use Rattle.std.specs.Prelude.{◌≡◌, ◌<◌, Some, []};
 ghost use Rattle.dnr_io.specs.Files.{held_in, left_in};
 
-use crate::fault::count_fault;
 use crate::files::{Files, hand_over};
-use crate::plan::Plan;
+use dnr_base::Plan;
 use crate::{Failed, MemoryFile, Shelf, ShelfRefusal, Source};
 
 /// Files in memory, as a shelf that fails at listed calls and at a name that was not given.
@@ -38,7 +37,7 @@ impl Source for MemoryShelf {
     ghost faults = { λ shelf. shelf.plan.faults };
 
     fn faults(&self) -> u64 {
-        self.plan.faults
+        self.plan.faults()
     }
 
     fn read(&mut self, buf: &mut [u8]) -> Result<usize, Failed> {
@@ -56,7 +55,7 @@ impl Shelf for MemoryShelf {
             return Err(ShelfRefusal::Failed);
         }
         let Some(bytes) = self.inner.held(name) else {
-            count_fault(&mut self.plan.faults);
+            self.plan.count_fault();
             return Err(ShelfRefusal::Failed);
         };
         hand_over(bytes, limit, into)
@@ -68,7 +67,7 @@ impl Shelf for MemoryShelf {
         }
         let place = self.inner.place(name);
         if place.is_none() {
-            count_fault(&mut self.plan.faults);
+            self.plan.count_fault();
             return Err(Failed);
         }
         self.inner.reading = place;

@@ -1,7 +1,6 @@
 ghost use Rattle.std.specs.Prelude.{◌≡◌, ◌<◌, [], Some};
 
-use crate::fault::count_fault;
-use crate::plan::Plan;
+use dnr_base::Plan;
 use crate::{Failed, FaultlessSink, Sink};
 use std::alloc::Global;
 
@@ -42,7 +41,7 @@ impl Sink for MemorySink {
     ghost faults = { λ sink. sink.plan.faults };
 
     fn faults(&self) -> u64 {
-        self.plan.faults
+        self.plan.faults()
     }
 
     fn write(&mut self, piece: &[u8]) -> Result<usize, Failed> {
@@ -51,7 +50,7 @@ impl Sink for MemorySink {
         }
         let count = self.inner.write(piece)?;
         if self.bytes.extend_from_slice(&piece[..count]).is_err() {
-            count_fault(&mut self.plan.faults);
+            self.plan.count_fault();
             return Err(Failed);
         }
         Ok(count)

@@ -1,6 +1,6 @@
 ghost use Rattle.std.specs.Prelude.{◌≡◌, ◌<◌, Some};
 
-use crate::plan::Plan;
+use dnr_base::Plan;
 use crate::{Failed, FaultlessSource, Source};
 
 /// Bytes in memory, as a source that fails at listed calls.
@@ -30,7 +30,7 @@ impl Source for MemorySource {
     ghost faults = { λ source. source.plan.faults };
 
     fn faults(&self) -> u64 {
-        self.plan.faults
+        self.plan.faults()
     }
 
     fn read(&mut self, buf: &mut [u8]) -> Result<usize, Failed> {

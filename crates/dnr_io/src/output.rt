@@ -1,6 +1,6 @@
 ghost use Rattle.std.specs.Prelude.{◌≡◌};
 
-use crate::fault::count_fault;
+use dnr_base::count_fault;
 use crate::{Failed, Sink};
 use std::io::Write;
 

@@ -1,5 +1,5 @@
 ghost use Rattle.std.specs.Prelude.{◌≡◌, ◌≤◌, [], length, is_some, OnOk, OnErr, IsErrOf};
-ghost use Rattle.dnr_io.specs.Faults.{HasCause, HasCauseOf};
+ghost use Rattle.dnr_base.specs.Faults.{HasCause, HasCauseOf};
 ghost use Rattle.dnr_io.specs.Shelf.{Holds, HoldsMore, IsStarted};
 
 use crate::{Failed, Source};

@@ -1,7 +1,7 @@
 ghost use Rattle.std.specs.Prelude.{◌≡◌, ◌<◌, ℕ, List, Option, length, IfOk, OnOk, OnErr};
 ghost use Rattle.std.specs.Io.{WritesAtMost};
 ghost use Rattle.std.specs.Io.KnownBytes.{Appends, WriteAppends};
-ghost use Rattle.dnr_io.specs.Faults.{HasCause};
+ghost use Rattle.dnr_base.specs.Faults.{HasCause};
 ghost use Rattle.dnr_io.specs.Sink.{AppendsPart};
 
 use crate::Failed;

@@ -1,7 +1,7 @@
 ghost use Rattle.std.specs.Prelude.{◌≡◌, ℕ, List, Option, None, is_some};
 ghost use Rattle.std.specs.Io.{ReadsAtMost};
 ghost use Rattle.std.specs.Io.KnownBytes.{ReadConsumes};
-ghost use Rattle.dnr_io.specs.Faults.{HasCause};
+ghost use Rattle.dnr_base.specs.Faults.{HasCause};
 ghost use Rattle.dnr_io.specs.Shelf.{Names};
 
 use crate::Failed;

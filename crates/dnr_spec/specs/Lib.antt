@@ -1,5 +1,15 @@
+pub mod Hosts
+pub mod Suffixes
+pub mod Party
 pub mod UrlView
 pub mod UrlFilter
+pub mod Transform
+pub mod Target
+pub mod Domains
 pub mod Lines
 pub mod Status
-pub mod Faults
+pub mod Order
+pub mod Headers
+pub mod Patterns
+pub mod Substitution
+pub mod Examples

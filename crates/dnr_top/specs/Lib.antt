@@ -3,7 +3,6 @@ pub mod RuleFile
 pub mod Scan
 pub mod Output
 pub mod Words
-pub mod Gives
 pub mod Answers
 pub mod Load
 pub mod Run

@@ -1,9 +1,8 @@
 -- What is read before a command answers.
-use Rattle.std.specs.Prelude.{◌≡◌, ℕ, List, true, false, Some}
+use Rattle.std.specs.Prelude.{ℕ, List}
 use Rattle.dnr_io.specs.declared.shelf.ShelfRefusal.{ShelfRefusal}
 use Rattle.dnr_io.specs.declared.shelf.ShelfRefusal.TheVariants as shelf
-use Rattle.dnr_spec.specs.Lines.{lines_of, is_within_limits}
-use Rattle.session_spec.specs.Out.{Files, BreaksForm, IsTooLong}
+use Rattle.session_spec.specs.Out.{Files, BreaksForm, HoldsLongFile}
 use Rattle.dnr_top.specs.declared.rule_file.RulesRefusal.{RulesRefusal}
 use Rattle.dnr_top.specs.declared.rule_file.RulesRefusal.TheVariants as form
 use Rattle.dnr_top.specs.declared.load.LoadRefusal.{LoadRefusal}
@@ -23,18 +22,5 @@ form_refusal form.NoMemory = NoMemory
 abbrev pub Refuses : Files → List ℕ → LoadRefusal → Type 0
 Refuses files name (BadFile refusal) = BreaksForm files name (refusal_seen refusal)
 Refuses files name ReadFault = Unit {0}
-Refuses files name FileTooLong = IsTooLong files name
+Refuses files name FileTooLong = HoldsLongFile files name
 Refuses files name NoMemory = Unit {0}
-
--- the name holds a script of these lines
-pub record HoldsLines (files : Files) (name : List ℕ) (lines : List (List ℕ)) : Type 0 where
-  pub script : List ℕ
-  pub held : files name ≡ Some script
-  pub within : is_within_limits script ≡ true
-  pub same : lines ≡ lines_of script
-
--- the name holds a script with a line that is too long, or with too many lines
-pub record HoldsTooMuch (files : Files) (name : List ℕ) : Type 0 where
-  pub script : List ℕ
-  pub held : files name ≡ Some script
-  pub beyond : is_within_limits script ≡ false

@@ -1,6 +1,7 @@
 -- The command that a `Task` stands for.
 use Rattle.session_spec.specs.Words as spec
 use Rattle.dnr_top.specs.declared.words.Task.{Task}
+use Rattle.dnr_top.specs.declared.words.Task.TheVariants.{Match}
 
 abbrev pub task_seen : Task → spec.Task
-task_seen task = record { rules = task.rules.now; script = task.script.now }
+task_seen (Match rules script) = spec.match_files rules.now script.now

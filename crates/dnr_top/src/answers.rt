@@ -1,13 +1,13 @@
-// The answers to the lines of a script.
+//! The answers to the lines of a script.
 ghost use Rattle.std.specs.Prelude.{◌≡◌, ◌++◌, OnOk, OnErr, option_map, string_bytes};
-ghost use Rattle.std.specs.Io.KnownBytes.{Appends};
-ghost use Rattle.dnr_io.specs.Faults.{HasCause, HasCauseOf};
+ghost use Rattle.dnr_base.specs.Faults.{HasCause, HasCauseOf};
 ghost use Rattle.dnr_io.specs.Sink.{AppendsPart};
 ghost use Rattle.dnr_spec.specs.Lines as lines;
-ghost use Rattle.session_spec.specs.Out.{opening, reply, reply_to, replies};
+ghost use Rattle.session_spec.specs.Answers.{reply_of, reply_to};
+ghost use Rattle.session_spec.specs.Out.{opening};
 ghost use Rattle.session_spec.specs.RuleFile.{HaveOwnIds};
 ghost use Rattle.dnr_top.specs.Rule.{rules_seen};
-ghost use Rattle.dnr_top.specs.Answers.{lines_seen, WritesFront};
+ghost use Rattle.dnr_top.specs.Answers.{lines_seen, WritesFront, WritesAnswers, WritesAnswersInPart};
 ghost use Rattle.dnr_top.specs.declared.answers.WriteRefusal.TheVariants as refusal;
 
 use crate::output::{write_bad, write_verdict};
@@ -57,8 +57,10 @@ pub fn answer_lines<O: Sink>(
     out: &mut O,
 ) -> Result<(), WriteRefusal>
     requires { HaveOwnIds (rules_seen rules.now) }
-    ensures written { OnOk result (Appends (O.taken out.old) (O.taken out.new) (replies (opening (rules_seen rules.now)) 1 (lines_seen lines.now))) }
-    ensures part { OnErr result (AppendsPart (O.taken out.old) (O.taken out.new) (replies (opening (rules_seen rules.now)) 1 (lines_seen lines.now))) }
+    ensures written { OnOk result (WritesAnswers (O.taken out.old) (O.taken out.new)
+        (opening (rules_seen rules.now)) (lines_seen lines.now)) }
+    ensures part { OnErr result (WritesAnswersInPart (O.taken out.old) (O.taken out.new)
+        (opening (rules_seen rules.now)) (lines_seen lines.now)) }
     ensures cause { HasCauseOf WriteRefusal.Failed (O.faults out.old) (O.faults out.new) result }
 {
     let mut text = String::new(alloc);
@@ -93,12 +95,12 @@ fn answer(
     into: &mut String,
 ) -> Result<(), NoMemory>
     requires { HaveOwnIds (rules_seen rules.now) }
-    ensures { OnOk result (string_bytes into.new ≡ string_bytes into.old ++ reply (opening (rules_seen rules.now)) number line.now) }
+    ensures { OnOk result (string_bytes into.new ≡ string_bytes into.old ++ reply_of (opening (rules_seen rules.now)) number line.now) }
 {
     if is_blank(line) {
         return Ok(());
     }
-    let request = read_request(alloc, line)?;
+    let request = read_request(alloc, number, line)?;
     write_reply(alloc, rules, number, &request, into)
 }
 

@@ -1,15 +1,14 @@
-// The commands: what is read, answered and written, in order.
+//! The commands: what is read, answered and written, in order.
 ghost use Rattle.std.specs.Prelude.{◌≡◌, ◌≢◌, ◌↔◌, ℕ, List, [], None, map, IfSome, OnOk, OnErr, string_bytes};
 ghost use Rattle.std.specs.Io.KnownBytes.{Appends};
-ghost use Rattle.dnr_io.specs.Faults.{Rose, HasCauseOf};
+ghost use Rattle.dnr_base.specs.Faults.{Rose, HasCauseOf};
 ghost use Rattle.dnr_io.specs.Sink.{AppendsPart};
 ghost use Rattle.dnr_spec.specs.declared.status.Status.TheVariants as status;
-ghost use Rattle.session_spec.specs.Out.{Out, Ends};
+ghost use Rattle.session_spec.specs.Out.{Out, Ends, IsSilent};
 ghost use Rattle.session_spec.specs.Output.{refusal_line};
-ghost use Rattle.session_spec.specs.Words.{task_of};
+ghost use Rattle.session_spec.specs.Words.{match_files, task_of};
 ghost use Rattle.dnr_top.specs.RuleFile.{refusal_seen};
-ghost use Rattle.dnr_top.specs.Run.{IsRun, IsRefusalStatus};
-ghost use Rattle.dnr_top.specs.Words.{task_seen};
+ghost use Rattle.dnr_top.specs.Run.{IsRun, IsRefusalStatus, counts};
 
 use crate::answers::{WriteRefusal, answer_lines};
 use crate::load::{LoadRefusal, load_rules, load_script};
@@ -29,46 +28,48 @@ use std::alloc::Global;
 /// of it, and nothing where a file is too long.
 pub fn run<F: Shelf, O: Sink>(alloc: Global, words: &[String], shelf: &mut F, out: &mut O) -> Status
     ensures usage { (result ≡ Status.Usage) ↔ (task_of (map string_bytes words.now) ≡ None) }
-    ensures silent { result ≡ Status.Usage → O.taken out.new ≡ O.taken out.old }
+    ensures silent { IsSilent result → O.taken out.new ≡ O.taken out.old }
 
     // Where the shelf tells what its files hold, the status and what was written are allowed.
     ensures allowed { IfSome (F.Source.files shelf.old) (λ files. (written : List ℕ) × Appends (O.taken out.old) (O.taken out.new) written
         × Out (map string_bytes words.now) files
-        (record { before = F.Source.faults shelf.old; now = F.Source.faults shelf.new })
-        (record { before = O.faults out.old; now = O.faults out.new }) result written) }
+        (counts (F.Source.faults shelf.old) (F.Source.faults shelf.new) (O.faults out.old) (O.faults out.new))
+        result written) }
 
     // A fault is told only where it was counted, whatever the shelf tells.
     ensures read_fault { result ≡ Status.ReadFault → Rose (F.Source.faults shelf.old) (F.Source.faults shelf.new) }
     ensures write_fault { result ≡ Status.WriteFault → Rose (O.faults out.old) (O.faults out.new) }
 {
     match read_words(words) {
-        Some(task) => match_requests(alloc, &task, shelf, out),
+        Some(Task::Match(rules, script)) => match_requests(alloc, rules, script, shelf, out),
         None => Status::Usage,
     }
 }
 
 fn match_requests<F: Shelf, O: Sink>(
     alloc: Global,
-    task: &Task,
+    rules_name: &str,
+    script_name: &str,
     shelf: &mut F,
     out: &mut O,
 ) -> Status
     ensures no_usage { result ≢ Status.Usage }
+    ensures silent { IsSilent result → O.taken out.new ≡ O.taken out.old }
     ensures allowed { IfSome (F.Source.files shelf.old) (λ files. IsRun (O.taken out.old) (O.taken out.new)
-        (λ written. Ends files (task_seen task.now)
-        (record { before = F.Source.faults shelf.old; now = F.Source.faults shelf.new })
-        (record { before = O.faults out.old; now = O.faults out.new }) written result)) }
+        (Ends files
+        (counts (F.Source.faults shelf.old) (F.Source.faults shelf.new) (O.faults out.old) (O.faults out.new))
+        (match_files rules_name.now script_name.now) result)) }
     ensures read_fault { result ≡ Status.ReadFault → Rose (F.Source.faults shelf.old) (F.Source.faults shelf.new) }
     ensures write_fault { result ≡ Status.WriteFault → Rose (O.faults out.old) (O.faults out.new) }
 {
-    let rules = match load_rules(alloc, task.rules, shelf) {
+    let rules = match load_rules(alloc, rules_name, shelf) {
         Ok(rules) => rules,
-        Err(LoadRefusal::BadFile(refusal)) => return refuse(alloc, task.rules, &refusal, out),
+        Err(LoadRefusal::BadFile(refusal)) => return refuse(alloc, rules_name, &refusal, out),
         Err(LoadRefusal::ReadFault) => return Status::ReadFault,
         Err(LoadRefusal::FileTooLong) => return Status::FileTooLong,
         Err(LoadRefusal::NoMemory) => return Status::NoMemory,
     };
-    let lines = match load_script(alloc, task.script, shelf) {
+    let lines = match load_script(alloc, script_name, shelf) {
         Ok(lines) => lines,
         Err(LineRefusal::ReadFault) => return Status::ReadFault,
         Err(LineRefusal::LineTooLong) => return Status::FileTooLong,

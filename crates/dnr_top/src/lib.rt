@@ -4,8 +4,8 @@
 //!
 //! - `words` reads the command, and `commands` does what it says, one step after another;
 //! - `load` reads the two files: `tree` and `rule_file` turn the first into rules, which `rule` describes;
-//! - `answers` takes the lines of the second one by one: `request_line` and `url_view` turn a line into a
-//!   request, and `scan` finds the rule that decides it;
+//! - `answers` takes the lines of the second one by one: `request_line` turns a line into a request, with
+//!   the view that the crate `url_view` gives, and `scan` finds the rule that decides it;
 //! - `output` writes what a line or a refused file prints.
 //!
 //! The one public call is `run`, and its clauses are the promise of the crate.
@@ -22,7 +22,6 @@ mod scan;
 #[cfg(test)]
 mod tests;
 mod tree;
-mod url_view;
 mod words;
 
 pub use commands::run;

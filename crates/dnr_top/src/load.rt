@@ -1,10 +1,10 @@
-// What a command reads before it answers.
+//! What a command reads before it answers.
 ghost use Rattle.std.specs.Prelude.{◌≡◌, ◌≤◌, IfOk, IfErr, IfSome, OnOk, IsErrOf};
-ghost use Rattle.dnr_io.specs.Faults.{HasCauseOf};
-ghost use Rattle.session_spec.specs.Out.{HoldsRules};
+ghost use Rattle.dnr_base.specs.Faults.{HasCauseOf};
+ghost use Rattle.session_spec.specs.Out.{HoldsRules, HoldsLines, HoldsTooMuch};
 ghost use Rattle.session_spec.specs.RuleFile.{HaveOwnIds};
 ghost use Rattle.dnr_top.specs.Rule.{rules_seen};
-ghost use Rattle.dnr_top.specs.Load.{Refuses, HoldsLines, HoldsTooMuch};
+ghost use Rattle.dnr_top.specs.Load.{Refuses};
 ghost use Rattle.dnr_top.specs.Answers.{lines_seen};
 
 use crate::rule::Rule;

@@ -1,4 +1,4 @@
-// The lines that a command writes. Texts are written as JSON by `serde_json`.
+//! The lines that a command writes. Texts are written as JSON by `serde_json`.
 ghost use Rattle.std.specs.Prelude.{◌≡◌, ◌++◌, codes, decimal, OnOk, IfOk, option_map, string_bytes};
 ghost use Rattle.json.specs.Print.{quoted};
 ghost use Rattle.session_spec.specs.Output as spec;
@@ -7,9 +7,8 @@ ghost use Rattle.dnr_top.specs.RuleFile.{refusal_seen};
 
 use crate::rule_file::FileRefusal;
 use dnr_base::NoMemory;
-use session_spec::Outcome;
 use serde_json::Value;
-use session_spec::RuleFault;
+use session_spec::{Outcome, RuleFault};
 use std::alloc::Global;
 
 /// A rule by the extension and the ruleset that it stands in.

@@ -1,3 +1,4 @@
+//! The request of a line.
 ghost use Rattle.std.specs.Prelude.{◌≡◌, IfOk, option_map};
 ghost use Rattle.std.specs.Result.{result_ok};
 ghost use Rattle.serde_json.specs.View.{view as tree_view};
@@ -6,24 +7,30 @@ ghost use Rattle.session_spec.specs.RequestLine as spec;
 ghost use Rattle.dnr_spec.specs.UrlView.{view_of};
 
 use crate::tree::{is_object_of, read_tree};
-use crate::url_view::parse;
-use dnr_base::{Request, View};
+use dnr_base::{Items, Method, Request, View};
+use dnr_io::MAX_LINES;
 use dnr_spec::{Kind, NoMemory, ViewRefusal};
 use serde_json::Value;
 use std::alloc::Global;
+use url_view::parse;
 
-/// The request of a line, if the line keeps the form: an object with the keys `url` and `type` and no others.
-pub fn read_request(alloc: Global, line: &[u8]) -> Result<Option<Request>, NoMemory>
-    ensures { IfOk result (λ request. request ≡ spec.request_of line.now) }
+/// The request of the line of this number, if the line keeps the form: an object with the keys `url` and
+/// `type` and no others.
+pub fn read_request(
+    alloc: Global,
+    number: usize,
+    line: &[u8],
+) -> Result<Option<Request>, NoMemory>
+    ensures { IfOk result (λ request. request ≡ spec.request_of number line.now) }
 {
     match read_tree(alloc, line)? {
-        Some(tree) => request_in(alloc, &tree),
+        Some(tree) => request_in(alloc, number, &tree),
         None => Ok(None),
     }
 }
 
-fn request_in(alloc: Global, tree: &Value) -> Result<Option<Request>, NoMemory>
-    ensures { IfOk result (λ request. request ≡ spec.request_in (tree_view tree.now)) }
+fn request_in(alloc: Global, number: usize, tree: &Value) -> Result<Option<Request>, NoMemory>
+    ensures { IfOk result (λ request. request ≡ spec.request_in number (tree_view tree.now)) }
 {
     if !is_object_of(tree, &["url", "type"]) {
         return Ok(None);
@@ -34,10 +41,20 @@ fn request_in(alloc: Global, tree: &Value) -> Result<Option<Request>, NoMemory>
     let Some(url) = text_at(tree, "url") else {
         return Ok(None);
     };
-    match view_in(alloc, url)? {
-        Some(view) => Ok(Some(Request { view, kind })),
-        None => Ok(None),
-    }
+    let Some(view) = view_in(alloc, url)? else {
+        return Ok(None);
+    };
+    Ok(Some(Request {
+        line: number.min(MAX_LINES as usize) as u32,
+        view,
+        initiator: None,
+        kind,
+        method: Method::Get,
+        tab: -1,
+        frames: Items::build(Vec::new(alloc)),
+        request_headers: None,
+        response_headers: None,
+    }))
 }
 
 fn text_at<'a>(tree: &'a Value, key: &str) -> Option<&'a str>

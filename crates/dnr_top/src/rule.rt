@@ -1,3 +1,4 @@
+//! The rules of the program.
 use dnr_base::KindSet;
 use url_filter::Pattern;
 

@@ -1,3 +1,4 @@
+//! The rules of a file.
 ghost use Rattle.std.specs.Prelude.{◌≡◌, ℕ, [], codes, Ok, IfOk, IfErr, option_map, option_and_then};
 ghost use Rattle.std.specs.Ordering.{nat_cmp};
 ghost use Rattle.std.specs.BTreeSet.{contains};

@@ -1,4 +1,4 @@
-// Which rule decides a request: Chrome's reference, "Rule prioritization".
+//! Which rule decides a request: Chrome's reference, "Rule prioritization".
 ghost use Rattle.std.specs.Prelude.{◌≡◌, ◌≤◌, length};
 ghost use Rattle.session_spec.specs.Holds as held;
 ghost use Rattle.session_spec.specs.Out.{local, opening};

@@ -1,4 +1,4 @@
-// The parts of a JSON tree that rules and request lines are made of.
+//! The parts of a JSON tree that rules and request lines are made of.
 ghost use Rattle.std.specs.Prelude.{◌≡◌, map, IfOk, option_map};
 ghost use Rattle.std.specs.List.{list_any};
 ghost use Rattle.std.specs.Str.{bytes_eq};

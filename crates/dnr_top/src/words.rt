@@ -1,14 +1,13 @@
+//! The command that the words after the program's name say.
 ghost use Rattle.std.specs.Prelude.{◌≡◌, map, option_map, string_bytes};
 ghost use Rattle.session_spec.specs.Words as spec;
 ghost use Rattle.dnr_top.specs.Words.{task_seen};
 
-/// The command `match RULES REQUESTS`, by the names of its two files.
+/// What a run is asked to do.
 #[derive(Clone, Copy, Debug)]
-pub struct Task<'a> {
-    /// The file of the rules.
-    pub rules: &'a str,
-    /// The file of the request lines.
-    pub script: &'a str,
+pub enum Task<'a> {
+    /// `match RULES REQUESTS`: the file of the rules, and that of the request lines.
+    Match(&'a str, &'a str),
 }
 
 /// The command that the words after the program's name say, if they say one.
@@ -18,12 +17,9 @@ pub fn read_words(words: &[String]) -> Option<Task<'_>>
     let [command, rules, script] = words else {
         return None;
     };
-    let task = Task {
-        rules: rules.as_str(),
-        script: script.as_str(),
-    };
-    if command.as_str() == "match" && is_file_name(task.rules) && is_file_name(task.script) {
-        Some(task)
+    let (rules, script) = (rules.as_str(), script.as_str());
+    if command.as_str() == "match" && is_file_name(rules) && is_file_name(script) {
+        Some(Task::Match(rules, script))
     } else {
         None
     }

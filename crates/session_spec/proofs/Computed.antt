@@ -1,12 +1,13 @@
 -- The examples are computed.
 use Rattle.session_spec.specs.Scan.{scan}
 use Rattle.session_spec.specs.Examples.{request_line}
-use Rattle.std.specs.Prelude.{refl, ◌++◌, [], codes}
+use Rattle.session_spec.specs.Out.{opening}
+use Rattle.std.specs.Prelude.{refl, ◌++◌, [], ◌∷◌, codes}
 use Rattle.std.proofs.Common.{arith}
 use Rattle.std.specs.Str.{is_utf8}
 use Rattle.url.proofs.OnLiterals.{url_on_literals}
 use Rattle.serde_json.proofs.OnLiterals.{serde_json_on_literals}
-use Rattle.session_spec.specs.Examples.{NoRulesDecideNothing, MainFrameIsLeftAlone, AllowPrevailsAtEqualPriority, GreaterPriorityPrevails, SmallerIdPrevails, BlankLinesCount, CrAloneIsNoBlankLine, BrokenLinesAreBad, NullIsPresent, FractionIsNoId, LastValueOfAKeyCounts, SecondOfEqualIdsIsAtFault, FirstRuleAtFaultIsNamed, NestingHasALimit, HostStandsInTheAuthority, HostIsInAscii, PathIsNoHost, EachRefusalOfAUrl, SeparatorFitsTheEnd, DomainAnchorStaysInTheHost, AnchorsAlone, BlockPrevailsAcrossExtensions, NewerExtensionPrevails, EarlierRulesetPrevails, MatchTakesTwoFileNames, TwoFilesAreServed, UsageIsForBadWords}
+use Rattle.session_spec.specs.Examples.{NoRulesDecideNothing, MainFrameIsLeftAlone, AllowPrevailsAtEqualPriority, GreaterPriorityPrevails, SmallerIdPrevails, BlankLinesCount, CrAloneIsNoBlankLine, BrokenLinesAreBad, NullIsPresent, FractionIsNoId, LastValueOfAKeyCounts, SecondOfEqualIdsIsAtFault, FirstRuleAtFaultIsNamed, NestingHasALimit, BlockPrevailsAcrossExtensions, NewerExtensionPrevails, EarlierRulesetPrevails, MatchTakesTwoFileNames, TwoFilesAreServed, UsageIsForBadWords}
 
 pub no_rules_decide_nothing : NoRulesDecideNothing
 unfolding url_on_literals serde_json_on_literals is_utf8 scan
@@ -64,31 +65,6 @@ pub nesting_has_a_limit : NestingHasALimit
 unfolding url_on_literals serde_json_on_literals is_utf8 scan
 nesting_has_a_limit = (refl, refl)
 
-pub host_stands_in_the_authority : HostStandsInTheAuthority
-unfolding url_on_literals
-host_stands_in_the_authority = (refl, refl, refl, refl, refl)
-
-pub host_is_in_ascii : HostIsInAscii
-unfolding url_on_literals
-host_is_in_ascii = refl
-
-pub path_is_no_host : PathIsNoHost
-unfolding url_on_literals
-path_is_no_host = (refl, refl, refl)
-
-pub each_refusal_of_a_url : EachRefusalOfAUrl
-unfolding url_on_literals
-each_refusal_of_a_url = (refl, refl, refl, refl)
-
-pub separator_fits_the_end : SeparatorFitsTheEnd
-separator_fits_the_end = (refl, refl, refl, refl)
-
-pub domain_anchor_stays_in_the_host : DomainAnchorStaysInTheHost
-domain_anchor_stays_in_the_host = (refl, refl, refl, refl, refl, refl, refl)
-
-pub anchors_alone : AnchorsAlone
-anchors_alone = (refl, refl, refl, refl, refl)
-
 pub block_prevails_across_extensions : BlockPrevailsAcrossExtensions
 unfolding scan
 block_prevails_across_extensions = refl
@@ -109,10 +85,17 @@ unfolding url_on_literals serde_json_on_literals is_utf8 scan
 two_files_are_served = record {
   rules = [];
   loaded = record { file = codes "[]"; held = refl; short = omega arith; read = refl };
-  script = request_line (codes "script") ++ codes "\n";
-  held = refl;
-  within = refl;
-  output = refl;
+  lines = request_line (codes "script") ∷ [];
+  script = record { script = request_line (codes "script") ++ codes "\n"; held = refl; within = refl; same = refl };
+  last = opening [];
+  output = record {
+    said = codes "{\"line\":1,\"generation\":0,\"verdict\":\"none\"}\n";
+    state = opening [];
+    rest = [];
+    split = refl;
+    first = record { reply = refl; state = refl };
+    later = (refl, refl);
+  };
 }
 
 pub usage_is_for_bad_words : UsageIsForBadWords

@@ -12,6 +12,7 @@ pub mod ReadRule
 pub mod RequestLine
 pub mod Output
 pub mod Words
+pub mod Answers
 pub mod Out
 pub mod Examples
 pub mod RuleExamples

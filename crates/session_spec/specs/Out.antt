@@ -1,44 +1,28 @@
--- What a command may do: the statuses that it may end with, and the bytes that it may write on each, for
--- its words and what the files hold.
-use Rattle.std.specs.Prelude.{◌≡◌, ◌⊎◌, ℕ, ◌+◌, ◌<◌, ◌≤◌, List, [], ◌∷◌, ◌++◌, length, codes, true, false, Option, Some, None, Ok, Err, if◌then◌else◌}
+-- What a command may do: the statuses that it may end with, and the bytes that it may write on each, for its words,
+-- what the files hold, and how the counts of faults rose.
+use Rattle.std.specs.Prelude.{◌≡◌, ◌⊎◌, ℕ, ◌<◌, ◌≤◌, List, [], ◌∷◌, ◌++◌, length, codes, true, false, Option, Some, None, Ok, Err}
 use Rattle.dnr_spec.specs.declared.status.Status.{Status}
 use Rattle.dnr_spec.specs.declared.status.Status.TheVariants as status
-use Rattle.dnr_spec.specs.Lines.{lines_of, is_within_limits, is_blank}
+use Rattle.dnr_spec.specs.Lines.{lines_of, is_within_limits}
+use Rattle.dnr_base.specs.Faults.{Rose, Count}
 use Rattle.session_spec.specs.Rule.{Rule}
 use Rattle.session_spec.specs.FileRefusal.{FileRefusal}
 use Rattle.session_spec.specs.RuleFile.{max_file, rules_of}
-use Rattle.dnr_base.specs.declared.request.Request.{Request}
-use Rattle.session_spec.specs.RequestLine.{request_of}
 use Rattle.session_spec.specs.State.{Extension, State}
-use Rattle.session_spec.specs.Scan.{scan}
-use Rattle.session_spec.specs.Output.{verdict_line, bad_line, refusal_line}
-use Rattle.dnr_spec.specs.Faults.{Rose, Count}
-use Rattle.session_spec.specs.Words.{Task, task_of}
+use Rattle.session_spec.specs.Output.{refusal_line}
+use Rattle.session_spec.specs.Answers.{Answers}
+use Rattle.session_spec.specs.Words.{Task, match_files, task_of}
 
 -- what each name holds, if there is a file of that name
 abbrev pub Files : Type 0
 Files = List ℕ → Option (List ℕ)
 
--- the extension `local` with the ruleset `rules`
-abbrev pub local : List Rule → Extension
-local rules = record { name = codes "local"; sets = record { id = codes "rules"; enabled = true; rules = rules } ∷ [] }
+-- how often each thing outside had failed before the call, and after it
+pub record Counts : Type 0 where
+  pub shelf : Count
+  pub sink : Count
 
-abbrev pub opening : List Rule → State
-opening rules = record { extensions = local rules ∷ []; count = 0 }
-
--- what a line that is not blank prints
-abbrev pub reply_to : State → ℕ → Option Request → List ℕ
-reply_to state line None = bad_line line
-reply_to state line (Some request) = verdict_line line state.count (scan state request)
-
--- a blank line prints nothing
-abbrev pub reply : State → ℕ → List ℕ → List ℕ
-reply state number line = if is_blank line then [] else reply_to state number (request_of line)
-
--- the replies to the lines, which are numbered from this one on
-abbrev pub replies : State → ℕ → List (List ℕ) → List ℕ
-replies state number [] = []
-replies state number (line ∷ lines) = reply state number line ++ replies state (number + 1) lines
+-- ---- what the files hold
 
 -- the file is short enough, and these are its rules
 pub record HoldsRules (files : Files) (name : List ℕ) (rules : List Rule) : Type 0 where
@@ -55,59 +39,97 @@ pub record BreaksForm (files : Files) (name : List ℕ) (refusal : FileRefusal) 
   pub read : rules_of file ≡ Err refusal
 
 -- the file has more bytes than a rules file may have
-pub record IsTooLong (files : Files) (name : List ℕ) : Type 0 where
+pub record HoldsLongFile (files : Files) (name : List ℕ) : Type 0 where
   pub file : List ℕ
   pub held : files name ≡ Some file
   pub long : max_file < length file
 
--- the rules were read, and each line of the script was answered
-pub record IsServed (files : Files) (task : Task) (written : List ℕ) : Type 0 where
-  pub rules : List Rule
-  pub loaded : HoldsRules files task.rules rules
+-- the file is a script of these lines
+pub record HoldsLines (files : Files) (name : List ℕ) (lines : List (List ℕ)) : Type 0 where
   pub script : List ℕ
-  pub held : files task.script ≡ Some script
+  pub held : files name ≡ Some script
   pub within : is_within_limits script ≡ true
-  pub output : written ≡ replies (opening rules) 1 (lines_of script)
+  pub same : lines ≡ lines_of script
 
--- the rules file breaks the form
-pub record IsRefused (files : Files) (task : Task) (written : List ℕ) : Type 0 where
-  pub refusal : FileRefusal
-  pub broken : BreaksForm files task.rules refusal
-  pub output : written ≡ refusal_line task.rules refusal
-
--- the rules were read, and the script has a line that is too long, or too many lines
-pub record HasLongLine (files : Files) (task : Task) : Type 0 where
-  pub rules : List Rule
-  pub loaded : HoldsRules files task.rules rules
+-- the file is a script with a line that is too long, or with too many lines
+pub record HoldsTooMuch (files : Files) (name : List ℕ) : Type 0 where
   pub script : List ℕ
-  pub held : files task.script ≡ Some script
+  pub held : files name ≡ Some script
   pub beyond : is_within_limits script ≡ false
 
--- some first bytes of what Done or Refused would write
+-- ---- what a command writes
+
+-- the extension `local` with the ruleset `rules`
+abbrev pub local : List Rule → Extension
+local rules = record { name = codes "local"; sets = record { id = codes "rules"; enabled = true; rules = rules } ∷ [] }
+
+abbrev pub opening : List Rule → State
+opening rules = record { extensions = local rules ∷ []; count = 0 }
+
+-- the rules were read, and each line of the script was answered
+pub record IsServed (files : Files) (rules_name script_name written : List ℕ) : Type 0 where
+  pub rules : List Rule
+  pub loaded : HoldsRules files rules_name rules
+  pub lines : List (List ℕ)
+  pub script : HoldsLines files script_name lines
+  pub last : State
+  pub output : Answers (opening rules) 1 lines written last
+
+-- the rules file breaks the form
+pub record IsRefused (files : Files) (rules_name written : List ℕ) : Type 0 where
+  pub refusal : FileRefusal
+  pub broken : BreaksForm files rules_name refusal
+  pub output : written ≡ refusal_line rules_name refusal
+
+-- what a command writes that ends so, to the last byte: the two statuses that say all there is to say
+abbrev pub Writes : Files → Task → Status → List ℕ → Type 0
+Writes files (match_files rules script) status.Done written = IsServed files rules script written
+Writes files (match_files rules script) status.Refused written = IsRefused files rules written
+Writes files (match_files rules script) status.Usage written = ⊥
+Writes files (match_files rules script) status.ReadFault written = ⊥
+Writes files (match_files rules script) status.WriteFault written = ⊥
+Writes files (match_files rules script) status.NoMemory written = ⊥
+Writes files (match_files rules script) status.FileTooLong written = ⊥
+
+-- some first bytes of what the command would write that says all
 pub record IsBeginning (files : Files) (task : Task) (written : List ℕ) : Type 0 where
   pub rest : List ℕ
-  pub whole : IsServed files task (written ++ rest) ⊎ IsRefused files task (written ++ rest)
+  pub ended : Status
+  pub whole : Writes files task ended (written ++ rest)
 
--- where a run that has no memory may stop: before its output, or within it
-abbrev pub MayStopAt : Files → Task → List ℕ → Type 0
-MayStopAt files task written = (written ≡ []) ⊎ IsBeginning files task written
+-- ---- how it ends
 
--- what a status says of a task, where the faults of the shelf and of the sink were counted so
-abbrev pub Ends : Files → Task → Count → Count → List ℕ → Status → Type 0
-Ends files task shelf sink written status.Done = IsServed files task written
-Ends files task shelf sink written status.Refused = IsRefused files task written
-Ends files task shelf sink written status.Usage = ⊥
-Ends files task shelf sink written status.ReadFault = Rose shelf.before shelf.now × (written ≡ [])
-Ends files task shelf sink written status.WriteFault = Rose sink.before sink.now × IsBeginning files task written
-Ends files task shelf sink written status.NoMemory = MayStopAt files task written
-Ends files task shelf sink written status.FileTooLong = (IsTooLong files task.rules ⊎ HasLongLine files task) × (written ≡ [])
+-- what is too long where a command ends so: a file, or its script after the files were read
+abbrev pub HasTooMuch : Files → Task → Type 0
+HasTooMuch files (match_files rules script) =
+    HoldsLongFile files rules ⊎ ((read : List Rule) × HoldsRules files rules read × HoldsTooMuch files script)
+
+-- what a status says of a task: the event that it comes from, and what was written
+abbrev pub Ends : Files → Counts → Task → Status → List ℕ → Type 0
+Ends files counts task status.Done written = Writes files task status.Done written
+Ends files counts task status.Refused written = Writes files task status.Refused written
+Ends files counts task status.Usage written = ⊥
+Ends files counts task status.ReadFault written = Rose counts.shelf.before counts.shelf.now × (written ≡ [])
+Ends files counts task status.WriteFault written = Rose counts.sink.before counts.sink.now × IsBeginning files task written
+Ends files counts task status.NoMemory written = (written ≡ []) ⊎ IsBeginning files task written
+Ends files counts task status.FileTooLong written = HasTooMuch files task × (written ≡ [])
 
 -- words that say no command end with Usage alone, and write nothing
-abbrev pub EndsFor : Files → Count → Count → Option Task → Status → List ℕ → Type 0
-EndsFor files shelf sink None ended written = (ended ≡ status.Usage) × (written ≡ [])
-EndsFor files shelf sink (Some task) ended written = Ends files task shelf sink written ended
+abbrev pub EndsFor : Files → Counts → Option Task → Status → List ℕ → Type 0
+EndsFor files counts None ended written = (ended ≡ status.Usage) × (written ≡ [])
+EndsFor files counts (Some task) ended written = Ends files counts task ended written
 
--- This status and these bytes are allowed for these words, files and faults. Done and Refused say what was
--- written to the last byte; of a run that stops in its output it is a beginning of that.
-abbrev pub Out : List (List ℕ) → Files → Count → Count → Status → List ℕ → Type 0
-Out words files shelf sink ended written = EndsFor files shelf sink (task_of words) ended written
+-- This status and these bytes are allowed for these words, files and faults. Done and Refused say what was written to
+-- the last byte; of a run that stops in its output it is a beginning of that.
+abbrev pub Out : List (List ℕ) → Files → Counts → Status → List ℕ → Type 0
+Out words files counts ended written = EndsFor files counts (task_of words) ended written
+
+-- the statuses on which nothing is written, whatever the shelf tells
+abbrev pub IsSilent : Status → Type 0
+IsSilent status.Done = ⊥
+IsSilent status.Refused = ⊥
+IsSilent status.Usage = Unit {0}
+IsSilent status.ReadFault = Unit {0}
+IsSilent status.WriteFault = ⊥
+IsSilent status.NoMemory = ⊥
+IsSilent status.FileTooLong = Unit {0}

@@ -3,9 +3,8 @@ use Rattle.std.specs.Prelude.{ℕ, List, [], ◌∷◌, length, slice_index, cod
 use Rattle.std.specs.Str.{bytes_eq}
 
 -- `match RULES REQUESTS`
-pub record Task : Type 0 where
-  pub rules : List ℕ
-  pub script : List ℕ
+pub data Task : Type 0 where
+  match_files : List ℕ → List ℕ → Task
 
 -- a name of a file is not empty and does not begin with `-`
 abbrev pub is_file_name : List ℕ → Bool
@@ -17,5 +16,5 @@ task_of (command ∷ []) = None
 task_of (command ∷ rules ∷ []) = None
 task_of (command ∷ rules ∷ script ∷ []) =
     if bytes_eq command (codes "match") && is_file_name rules && is_file_name script
-    then Some (record { rules = rules; script = script }) else None
+    then Some (match_files rules script) else None
 task_of (command ∷ rules ∷ script ∷ more ∷ words) = None

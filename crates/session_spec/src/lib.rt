@@ -8,14 +8,13 @@ mod rule_examples;
 mod rule_fault;
 
 pub use examples::{
-    allow_prevails_at_equal_priority, anchors_alone, blank_lines_count,
-    block_prevails_across_extensions, broken_lines_are_bad, cr_alone_is_no_blank_line,
-    domain_anchor_stays_in_the_host, each_refusal_of_a_url, earlier_ruleset_prevails,
-    first_rule_at_fault_is_named, fraction_is_no_id, greater_priority_prevails, host_is_in_ascii,
-    host_stands_in_the_authority, last_value_of_a_key_counts, main_frame_is_left_alone,
-    match_takes_two_file_names, nesting_has_a_limit, newer_extension_prevails,
-    no_rules_decide_nothing, null_is_present, path_is_no_host, second_of_equal_ids_is_at_fault,
-    separator_fits_the_end, smaller_id_prevails, two_files_are_served, usage_is_for_bad_words,
+    allow_prevails_at_equal_priority, blank_lines_count, block_prevails_across_extensions,
+    broken_lines_are_bad, cr_alone_is_no_blank_line, earlier_ruleset_prevails,
+    first_rule_at_fault_is_named, fraction_is_no_id, greater_priority_prevails,
+    last_value_of_a_key_counts, main_frame_is_left_alone, match_takes_two_file_names,
+    nesting_has_a_limit, newer_extension_prevails, no_rules_decide_nothing, null_is_present,
+    second_of_equal_ids_is_at_fault, smaller_id_prevails, two_files_are_served,
+    usage_is_for_bad_words,
 };
 pub use outcome::Outcome;
 pub use rule_examples::{allow_all_lists_frames, fields_are_read, fields_come_before_filters, head_comes_in_order, header_changes_have_forms, lists_come_in_order, old_names_stand_alone, redirects_have_forms, second_of_an_id_is_named, session_rules_name_tabs};

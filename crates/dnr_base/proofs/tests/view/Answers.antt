@@ -25,6 +25,7 @@ is_view = record {
   order = lit< tt;
   within = lit< tt;
   cut = lit< tt;
+  fragment = refl;
   host = refl;
   before = refl;
   behind = refl;

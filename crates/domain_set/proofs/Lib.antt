@@ -1,0 +1,4 @@
+pub mod Labels
+pub mod Ends
+pub mod Tables
+pub mod Covered

@@ -1,0 +1,4 @@
+pub mod Refused
+pub mod Rests
+pub mod Table
+pub mod Kept

@@ -1,0 +1,13 @@
+//! Lists of domains: read once, then asked whether they cover a host.
+//!
+//! Which texts are domains, and which hosts one covers, stands in `dnr_spec`, `specs/Domains.antt`.
+#![tactic(auto)]
+
+mod domain;
+mod set;
+mod table;
+#[cfg(test)]
+mod tests;
+
+pub use dnr_spec::DomainRefusal;
+pub use set::DomainSet;

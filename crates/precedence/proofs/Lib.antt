@@ -1,0 +1,2 @@
+pub mod Unbeaten
+pub mod Orders

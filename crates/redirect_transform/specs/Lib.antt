@@ -1,0 +1,4 @@
+pub mod Counter
+pub mod Parts
+pub mod Piece
+pub mod Written

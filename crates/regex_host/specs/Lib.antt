@@ -1,0 +1,5 @@
+pub mod Answers
+pub mod Built
+pub mod PackHost
+pub mod ListHost
+pub mod Substitution

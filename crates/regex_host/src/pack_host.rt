@@ -1,0 +1,139 @@
+ghost use Rattle.std.specs.Prelude.{◌≡◌, None, IfOk, IsSome, IsErrOf};
+ghost use Rattle.dnr_spec.specs.Patterns.{pattern_in};
+ghost use Rattle.regex_host.specs.PackHost.{IsRefusedAs};
+
+use crate::built::Built;
+use crate::groups::{BuildRefusal, count_groups};
+use crate::{HostRefusal, RegexHost};
+use dnr_base::{NoMemory, Span, count_fault};
+use lru::LruCache;
+use std::alloc::{AllocError, Global};
+use std::num::NonZeroUsize;
+
+// How many built patterns a host keeps, unless it is told.
+const ROOM: usize = 16;
+
+/// A host over the crate `regex`. It keeps the patterns that were asked for last as `regex` built them, and
+/// has a matcher only within a call. Its count of faults rises where `regex` refuses a pattern for its size,
+/// and nowhere else.
+#[derive(Drop)]
+pub struct PackHost {
+    alloc: Global,
+    cache: LruCache<String, Built>,
+    faults: u64,
+}
+
+impl PackHost {
+    /// A host that keeps 16 built patterns.
+    ///
+    /// # Errors
+    ///
+    /// `NoMemory`, where memory ran out.
+    pub fn new(alloc: Global) -> Result<PackHost, NoMemory>
+        ensures { IfOk result (λ host. ⟦<PackHost as RegexHost>⟧.faults host ≡ 0) }
+    {
+        PackHost::with_room(alloc, ROOM)
+    }
+
+    /// A host that keeps so many built patterns, and at least one. What it answers does not depend on it.
+    ///
+    /// # Errors
+    ///
+    /// `NoMemory`, where memory ran out.
+    pub fn with_room(alloc: Global, room: usize) -> Result<PackHost, NoMemory>
+        ensures { IfOk result (λ host. ⟦<PackHost as RegexHost>⟧.faults host ≡ 0) }
+    {
+        let room = NonZeroUsize::new(room).unwrap_or(NonZeroUsize::MIN);
+        Ok(PackHost {
+            alloc,
+            cache: LruCache::sparse(alloc, room)?,
+            faults: 0,
+        })
+    }
+
+    // The built pattern, out of the cache if it is there.
+    fn take(&mut self, key: &str, pattern: &str, fold: bool) -> Result<Built, BuildRefusal>
+        ensures of { IfOk result (λ built. built ≡ record { pattern = pattern.now; fold = fold }) }
+        ensures no_pattern { IsErrOf result BuildRefusal.NoPattern → pattern_in pattern.now fold ≡ None }
+        ensures too_big { IsErrOf result BuildRefusal.TooBig → IsSome (pattern_in pattern.now fold) }
+        ensures same { self.new.faults ≡ self.old.faults }
+    {
+        match self.cache.pop(key) {
+            Some(built) if built.is_of(pattern, fold) => Ok(built),
+            _ => Built::build(self.alloc, pattern, fold),
+        }
+    }
+
+    // Puts a built pattern into the cache. It is let go where there is no memory for it.
+    fn keep(&mut self, key: String, built: Built)
+        ensures { self.new.faults ≡ self.old.faults }
+    {
+        let _ = self.cache.put(key, built);
+    }
+
+    // What the host says of a pattern that is not built. A pattern that is too big is a fault.
+    fn refusal(&mut self, why: BuildRefusal) -> HostRefusal
+        ensures { IsRefusedAs why result self.old.faults self.new.faults }
+    {
+        match why {
+            BuildRefusal::NoPattern => HostRefusal::NoPattern,
+            BuildRefusal::NoMemory => HostRefusal::NoMemory,
+            BuildRefusal::TooBig => {
+                count_fault(&mut self.faults);
+                HostRefusal::HostFault
+            }
+        }
+    }
+}
+
+// What a built pattern has as its key: the pattern behind a letter for `fold`.
+fn key_of(alloc: Global, pattern: &str, fold: bool) -> Result<String, AllocError> {
+    let mut key = String::new(alloc);
+    key.push(if fold { 'i' } else { 's' })?;
+    key.push_str(pattern)?;
+    Ok(key)
+}
+
+impl RegexHost for PackHost {
+    ghost faults = { λ host. host.faults };
+
+    fn faults(&self) -> u64 {
+        self.faults
+    }
+
+    fn check(&mut self, pattern: &str, fold: bool) -> Result<u32, HostRefusal> {
+        let groups = match count_groups(self.alloc, pattern) {
+            Ok(groups) => groups,
+            Err(why) => return Err(self.refusal(why)),
+        };
+        let Ok(key) = key_of(self.alloc, pattern, fold) else {
+            return Err(HostRefusal::NoMemory);
+        };
+        match self.take(key.as_str(), pattern, fold) {
+            Ok(built) => self.keep(key, built),
+            Err(BuildRefusal::NoPattern) => {}
+            Err(why) => return Err(self.refusal(why)),
+        }
+        Ok(groups)
+    }
+
+    fn find(
+        &mut self,
+        pattern: &str,
+        fold: bool,
+        text: &str,
+        spans: &mut [Option<Span>; 10],
+    ) -> Result<bool, HostRefusal> {
+        let Ok(key) = key_of(self.alloc, pattern, fold) else {
+            return Err(HostRefusal::NoMemory);
+        };
+        let built = match self.take(key.as_str(), pattern, fold) {
+            Ok(built) => built,
+            Err(BuildRefusal::NoPattern) => return Ok(false),
+            Err(why) => return Err(self.refusal(why)),
+        };
+        let answer = built.find(self.alloc, text, spans);
+        self.keep(key, built);
+        answer.map_err(|_| HostRefusal::NoMemory)
+    }
+}

@@ -1,0 +1,2 @@
+pub mod HostPlace
+pub mod UrlViews
