@@ -6,3 +6,4 @@ pub mod Holds
 pub mod Reaches
 pub mod State
 pub mod Scan
+pub mod Examples

@@ -4,6 +4,7 @@
 //! The definitions stand in `specs/`, one file a subject, in the order in which `specs/Lib.antt` names them.
 #![tactic(auto)]
 
+mod examples;
 mod outcome;
 mod placed_refusal;
 mod reach;
@@ -11,6 +12,11 @@ mod rule_kind;
 mod rule_path;
 mod rule_refusal;
 
+pub use examples::{
+    allow_outdoes_weaker_header_rules, appends_keep_out_the_others,
+    block_prevails_across_extensions, frame_without_url_exempts_nothing, page_is_exempt,
+    redirect_without_target_decides_nothing, set_keeps_out_other_extensions,
+};
 pub use outcome::Outcome;
 pub use placed_refusal::PlacedRefusal;
 pub use reach::Reach;
