@@ -1,5 +1,4 @@
 use crate::third_party;
-use std::alloc::AllocError;
 use suffix_list::SuffixList;
 
 // Hosts beside initiators, and whether that is third party, with these suffix rules.

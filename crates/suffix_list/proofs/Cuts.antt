@@ -1,5 +1,5 @@
 -- Texts that were cut at their first dots.
-use Rattle.std.proofs.Common.{◌≡◌, ℕ, ◌+◌, ◌-◌, ◌<◌, List, [], ◌∷◌, ◌++◌, length, get_or, drop, ◌≤◌, Bool, true, false, Option, Some, None, MatchOption, Bor, suc, zero, refl, sym, ap, ◌∙◌, arith}
+use Rattle.std.proofs.Common.{◌≡◌, ℕ, ◌+◌, ◌-◌, List, [], ◌∷◌, length, drop, ◌≤◌, Option, Some, None, MatchOption, Bor, sym, ap, ◌∙◌, arith}
 use Rattle.std.specs.Prelude.{nat_le}
 use Rattle.std.specs.List.{join_with_byte}
 use Rattle.std.proofs.lemmas.Bool.{cond-true, le-leb}
@@ -31,4 +31,3 @@ labels_from_is suffix left rest labels is above below same enough =
     let whole : drop (left - (suffix + 1)) (labels_of rest) ≡ labels_of rest = ap (λ n. drop n (labels_of rest)) none in
     let joined : join_with_byte 46 (drop (length labels - (suffix + 1)) labels) ≡ rest = ap (join_with_byte 46) (sym same ∙ whole) ∙ join_with_byte-labels_of rest in
     ap (λ (t : List ℕ). Some t) (sym joined) ∙ sym (cond-true (nat_le (suffix + 1) (length labels)) _ _ (le-leb (suffix + 1) (length labels) enough))
-

@@ -1,15 +1,13 @@
 -- How many labels the public suffix has, by the longest rules of each kind.
-use Rattle.std.proofs.Common.{◌≡◌, ℕ, ◌+◌, ◌-◌, ◌<◌, ◌≤◌, max, List, [], ◌∷◌, length, map, Bool, true, false, not, ◌&&◌, ◌||◌, cond, suc, zero, refl, sym, ap, ◌∙◌, nat_eq, codes, drop, arith}
+use Rattle.std.proofs.Common.{◌≡◌, ℕ, ◌-◌, ◌<◌, ◌≤◌, max, List, [], ◌∷◌, length, map, Bool, true, false, not, ◌&&◌, ◌||◌, cond, suc, zero, refl, sym, ap, ◌∙◌, nat_eq, codes, drop, arith}
 use Rattle.std.specs.Prelude.{nat_lt}
 use Rattle.std.specs.List.{filter, starts_with}
 use Rattle.std.proofs.lemmas.Bool.{cond-true, cond-false, lt-ltb, le-ltb}
-use Rattle.std.proofs.lemmas.Bool.Decides.{nat_tests}
-use Rattle.dnr_spec.specs.Hosts.{labels_of}
 use Rattle.dnr_spec.specs.Suffixes as spec
 use Rattle.dnr_spec.specs.Suffixes.{SuffixRule, greatest, label_counts, suffix_count, suffix_len, matches}
 use Rattle.dnr_spec.proofs.Labels.{labels_of-has}
 use Rattle.suffix_list.specs.declared.rule.Rule.{Rule}
-use Rattle.suffix_list.specs.Kept.{seen, text_of, labels, has_no_star, is_plain, is_starred, is_other, is_listed, most, listed_len, is_matching_exception, is_matching_rule, other_exception_len, other_rule_len}
+use Rattle.suffix_list.specs.Kept.{seen, text_of, labels, has_no_star, most, listed_len, is_matching_exception, is_matching_rule, other_exception_len, other_rule_len}
 
 has_labels : (rule : Rule) → 0 < length (labels rule)
 has_labels rule = let has = labels_of-has (text_of rule) in let len : length (labels rule) ≡ length (has.first ∷ has.rest) = ap (λ (ls : List (List ℕ)). length ls) has.is in omega arith
@@ -48,8 +46,8 @@ suffix_len-by rules name =
     let e : ℕ = most (is_matching_exception name) rules in
     let o : ℕ = most (is_matching_rule name) rules in
     let other : suffix_count [] (label_counts (filter (spec.is_matching_rule name) (map seen rules))) ≡ max o 1 =
-        ap (λ b. cond b (greatest (label_counts (filter (spec.is_matching_rule name) (map seen rules)))) 1) (some-most (spec.is_matching_rule name) rules)
-        ∙ ap (λ n. cond (nat_lt 0 o) n 1) (greatest-most (spec.is_matching_rule name) rules) ∙ at_least_one o in
+    ap (λ b. cond b (greatest (label_counts (filter (spec.is_matching_rule name) (map seen rules)))) 1) (some-most (spec.is_matching_rule name) rules)
+    ∙ ap (λ n. cond (nat_lt 0 o) n 1) (greatest-most (spec.is_matching_rule name) rules) ∙ at_least_one o in
     ap (λ b. cond b (greatest (label_counts (filter (spec.is_matching_exception name) (map seen rules))) - 1) (suffix_count [] (label_counts (filter (spec.is_matching_rule name) (map seen rules))))) (some-most (spec.is_matching_exception name) rules)
     ∙ ap (λ n. cond (nat_lt 0 e) (n - 1) (suffix_count [] (label_counts (filter (spec.is_matching_rule name) (map seen rules))))) (greatest-most (spec.is_matching_exception name) rules)
     ∙ ap (λ n. cond (nat_lt 0 e) (e - 1) n) other

@@ -1,6 +1,5 @@
 -- Rules and labels, compared from the right.
-use Rattle.std.proofs.Common.{◌≡◌, ℕ, List, [], ◌∷◌, ◌++◌, Bool, true, false, not, ◌&&◌, ◌||◌, Option, Some, None, MatchOption, Bor, refl, sym, ap, ◌∙◌, arith}
-use Rattle.std.proofs.lemmas.Bool.Decides.{nat_tests}
+use Rattle.std.proofs.Common.{◌≡◌, ℕ, List, [], ◌∷◌, ◌++◌, Bool, true, false, ◌&&◌, ◌||◌, Option, Some, None, MatchOption, Bor, refl, sym, ap, ◌∙◌}
 use Rattle.dnr_spec.specs.Hosts.{labels_of}
 use Rattle.dnr_spec.proofs.Labels.{labels_of-has}
 use Rattle.dnr_spec.specs.Suffixes.{fits_label, fits_labels, matches}

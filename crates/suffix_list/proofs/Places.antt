@@ -1,6 +1,6 @@
 -- The tables of a list, as they are built, and the places of its other rules.
-use Rattle.std.proofs.Common.{◌≡◌, ℕ, ◌+◌, ◌<◌, ◌≤◌, max, List, [], ◌∷◌, ◌++◌, length, get_or, take, drop, map, Bool, true, false, Option, Some, None, not, ◌&&◌, ◌||◌, cond, suc, zero, String, refl, sym, ap, ◌∙◌, length-append, arith}
-use Rattle.std.proofs.lemmas.Grind.{common_steps, take_at_read}
+use Rattle.std.proofs.Common.{◌≡◌, ℕ, ◌+◌, ◌<◌, ◌≤◌, max, List, [], ◌∷◌, ◌++◌, length, get_or, take, drop, Bool, true, false, Option, Some, None, not, ◌&&◌, ◌||◌, cond, suc, zero, String, refl, sym, ap, ◌∙◌, length-append, arith}
+use Rattle.std.proofs.lemmas.Grind.{take_at_read}
 use Rattle.std.specs.Prelude.{slice_get}
 use Rattle.std.specs.List.{list_any, filter}
 use Rattle.std.specs.Str.{bytes_eq}
@@ -50,26 +50,26 @@ append_nil' (n ∷ ns) = ap (λ (ms : List ℕ). n ∷ ms) (append_nil' ns)
 
 pub tables_plain : {Y S : Type 0} (rules : List Rule) (plain starred next : HashSet (String Y) S) (others : List ℕ) (rule : Rule) → AreTables rules plain starred others → is_plain rule ≡ true → ((q : List ℕ) → contains_text next q ≡ (bytes_eq (text_of rule) q || contains_text plain q)) → AreTables (rules ++ rule ∷ []) next starred others
 tables_plain rules plain starred next others rule t h k = record {
-    plain_texts = λ q. k q ∙ ap (λ b. bytes_eq (text_of rule) q || b) (t.plain_texts q) ∙ sym (ap (λ b. (b && bytes_eq (text_of rule) q) || list_any (λ rule. is_plain rule && bytes_eq (text_of rule) q) rules) h) ∙ sym (any_more (λ rule. is_plain rule && bytes_eq (text_of rule) q) rules rule);
-    starred_texts = λ q. t.starred_texts q ∙ sym (ap (λ b. (b && bytes_eq (drop 2 (text_of rule)) q) || list_any (λ rule. is_starred rule && bytes_eq (drop 2 (text_of rule)) q) rules) (plain_is_apart rule h)) ∙ sym (any_more (λ rule. is_starred rule && bytes_eq (drop 2 (text_of rule)) q) rules rule);
-    other_places = t.other_places ∙ sym (append_nil' (places_from is_other 0 rules)) ∙ sym (ap (λ b. places_from is_other 0 rules ++ cond b ((0 + length rules) ∷ []) []) (other_plain rule h)) ∙ sym (places-more is_other 0 rules rule);
-  }
+  plain_texts = λ q. k q ∙ ap (λ b. bytes_eq (text_of rule) q || b) (t.plain_texts q) ∙ sym (ap (λ b. (b && bytes_eq (text_of rule) q) || list_any (λ rule. is_plain rule && bytes_eq (text_of rule) q) rules) h) ∙ sym (any_more (λ rule. is_plain rule && bytes_eq (text_of rule) q) rules rule);
+  starred_texts = λ q. t.starred_texts q ∙ sym (ap (λ b. (b && bytes_eq (drop 2 (text_of rule)) q) || list_any (λ rule. is_starred rule && bytes_eq (drop 2 (text_of rule)) q) rules) (plain_is_apart rule h)) ∙ sym (any_more (λ rule. is_starred rule && bytes_eq (drop 2 (text_of rule)) q) rules rule);
+  other_places = t.other_places ∙ sym (append_nil' (places_from is_other 0 rules)) ∙ sym (ap (λ b. places_from is_other 0 rules ++ cond b ((0 + length rules) ∷ []) []) (other_plain rule h)) ∙ sym (places-more is_other 0 rules rule);
+}
 
 pub tables_starred : {Y S : Type 0} (rules : List Rule) (plain starred next : HashSet (String Y) S) (others : List ℕ) (rule : Rule) → AreTables rules plain starred others → is_plain rule ≡ false → is_starred rule ≡ true → ((q : List ℕ) → contains_text next q ≡ (bytes_eq (drop 2 (text_of rule)) q || contains_text starred q)) → AreTables (rules ++ rule ∷ []) plain next others
 tables_starred rules plain starred next others rule t h s k = record {
-    plain_texts = λ q. t.plain_texts q ∙ sym (ap (λ b. (b && bytes_eq (text_of rule) q) || list_any (λ rule. is_plain rule && bytes_eq (text_of rule) q) rules) h) ∙ sym (any_more (λ rule. is_plain rule && bytes_eq (text_of rule) q) rules rule);
-    starred_texts = λ q. k q ∙ ap (λ b. bytes_eq (drop 2 (text_of rule)) q || b) (t.starred_texts q) ∙ sym (ap (λ b. (b && bytes_eq (drop 2 (text_of rule)) q) || list_any (λ rule. is_starred rule && bytes_eq (drop 2 (text_of rule)) q) rules) s) ∙ sym (any_more (λ rule. is_starred rule && bytes_eq (drop 2 (text_of rule)) q) rules rule);
-    other_places = t.other_places ∙ sym (append_nil' (places_from is_other 0 rules)) ∙ sym (ap (λ b. places_from is_other 0 rules ++ cond b ((0 + length rules) ∷ []) []) (other_starred rule h s)) ∙ sym (places-more is_other 0 rules rule);
-  }
+  plain_texts = λ q. t.plain_texts q ∙ sym (ap (λ b. (b && bytes_eq (text_of rule) q) || list_any (λ rule. is_plain rule && bytes_eq (text_of rule) q) rules) h) ∙ sym (any_more (λ rule. is_plain rule && bytes_eq (text_of rule) q) rules rule);
+  starred_texts = λ q. k q ∙ ap (λ b. bytes_eq (drop 2 (text_of rule)) q || b) (t.starred_texts q) ∙ sym (ap (λ b. (b && bytes_eq (drop 2 (text_of rule)) q) || list_any (λ rule. is_starred rule && bytes_eq (drop 2 (text_of rule)) q) rules) s) ∙ sym (any_more (λ rule. is_starred rule && bytes_eq (drop 2 (text_of rule)) q) rules rule);
+  other_places = t.other_places ∙ sym (append_nil' (places_from is_other 0 rules)) ∙ sym (ap (λ b. places_from is_other 0 rules ++ cond b ((0 + length rules) ∷ []) []) (other_starred rule h s)) ∙ sym (places-more is_other 0 rules rule);
+}
 
 pub tables_other : {Y S : Type 0} (rules : List Rule) (plain starred : HashSet (String Y) S) (others : List ℕ) (rule : Rule) (place : ℕ) → AreTables rules plain starred others → is_plain rule ≡ false → is_starred rule ≡ false → place ≡ length rules → AreTables (rules ++ rule ∷ []) plain starred (others ++ place ∷ [])
 tables_other rules plain starred others rule place t h s at =
     let at_end : 0 + length rules ≡ place = omega arith in
     record {
-    plain_texts = λ q. t.plain_texts q ∙ sym (ap (λ b. (b && bytes_eq (text_of rule) q) || list_any (λ rule. is_plain rule && bytes_eq (text_of rule) q) rules) h) ∙ sym (any_more (λ rule. is_plain rule && bytes_eq (text_of rule) q) rules rule);
-    starred_texts = λ q. t.starred_texts q ∙ sym (ap (λ b. (b && bytes_eq (drop 2 (text_of rule)) q) || list_any (λ rule. is_starred rule && bytes_eq (drop 2 (text_of rule)) q) rules) s) ∙ sym (any_more (λ rule. is_starred rule && bytes_eq (drop 2 (text_of rule)) q) rules rule);
-    other_places = ap (λ (ns : List ℕ). ns ++ place ∷ []) t.other_places ∙ sym (ap (λ (n : ℕ). places_from is_other 0 rules ++ n ∷ []) at_end) ∙ sym (ap (λ b. places_from is_other 0 rules ++ cond b ((0 + length rules) ∷ []) []) (other_rest rule h s)) ∙ sym (places-more is_other 0 rules rule);
-  }
+      plain_texts = λ q. t.plain_texts q ∙ sym (ap (λ b. (b && bytes_eq (text_of rule) q) || list_any (λ rule. is_plain rule && bytes_eq (text_of rule) q) rules) h) ∙ sym (any_more (λ rule. is_plain rule && bytes_eq (text_of rule) q) rules rule);
+      starred_texts = λ q. t.starred_texts q ∙ sym (ap (λ b. (b && bytes_eq (drop 2 (text_of rule)) q) || list_any (λ rule. is_starred rule && bytes_eq (drop 2 (text_of rule)) q) rules) s) ∙ sym (any_more (λ rule. is_starred rule && bytes_eq (drop 2 (text_of rule)) q) rules rule);
+      other_places = ap (λ (ns : List ℕ). ns ++ place ∷ []) t.other_places ∙ sym (ap (λ (n : ℕ). places_from is_other 0 rules ++ n ∷ []) at_end) ∙ sym (ap (λ b. places_from is_other 0 rules ++ cond b ((0 + length rules) ∷ []) []) (other_rest rule h s)) ∙ sym (places-more is_other 0 rules rule);
+    }
 
 -- ---- the rules at the places
 
@@ -80,9 +80,10 @@ below_first ns place len (suc k) below h = let rest : get_or ns k 0 < place + 1 
 pub places-below : (test : Rule → Bool) (place : ℕ) (rules : List Rule) (k : ℕ) → k < length (places_from test place rules) → get_or (places_from test place rules) k 0 < place + length rules
 places-below test place [] k h = absurd (omega arith)
 places-below test place (rule ∷ rules) k h =
-    elim (test rule) as (λ v. k < length (cond v (place ∷ places_from test (place + 1) rules) (places_from test (place + 1) rules)) → get_or (cond v (place ∷ places_from test (place + 1) rules) (places_from test (place + 1) rules)) k 0 < place + suc (length rules))
-    [ true ↦ below_first (places_from test (place + 1) rules) place (length rules) k (λ j l. places-below test (place + 1) rules j l)
-    | false ↦ λ l. (let rest = places-below test (place + 1) rules k l in omega arith) ] h
+    elim (test rule) as (λ v. k < length (cond v (place ∷ places_from test (place + 1) rules) (places_from test (place + 1) rules)) → get_or (cond v (place ∷ places_from test (place + 1) rules) (places_from test (place + 1) rules)) k 0 < place + suc (length rules)) [
+      | true ↦ below_first (places_from test (place + 1) rules) place (length rules) k (λ j l. places-below test (place + 1) rules j l)
+      | false ↦ λ l. (let rest = places-below test (place + 1) rules k l in omega arith)
+    ] h
 
 at_end : (before rules : List Rule) (rule : Rule) → slice_get (before ++ rule ∷ rules) (length before) ≡ Some rule
 at_end [] rules rule = refl
@@ -97,9 +98,10 @@ at_places test before (rule ∷ rules) place at =
     let rest : rules_at ((before ++ rule ∷ []) ++ rules) (places_from test (place + 1) rules) ≡ filter test rules = at_places test (before ++ rule ∷ []) rules (place + 1) next in
     let here : slice_get (before ++ rule ∷ rules) place ≡ Some rule = ap (λ n. slice_get (before ++ rule ∷ rules) n) at ∙ at_end before rules rule in
     let more : rules_at (before ++ rule ∷ rules) (places_from test (place + 1) rules) ≡ filter test rules = ap (λ (rs : List Rule). rules_at rs (places_from test (place + 1) rules)) (sym all) ∙ rest in
-    elim (test rule) as (λ v. rules_at (before ++ rule ∷ rules) (cond v (place ∷ places_from test (place + 1) rules) (places_from test (place + 1) rules)) ≡ cond v (rule ∷ filter test rules) (filter test rules))
-    [ true ↦ ap (λ o. with_rule o (rules_at (before ++ rule ∷ rules) (places_from test (place + 1) rules))) here ∙ ap (λ (rs : List Rule). rule ∷ rs) more
-    | false ↦ more ]
+    elim (test rule) as (λ v. rules_at (before ++ rule ∷ rules) (cond v (place ∷ places_from test (place + 1) rules) (places_from test (place + 1) rules)) ≡ cond v (rule ∷ filter test rules) (filter test rules)) [
+      | true ↦ ap (λ o. with_rule o (rules_at (before ++ rule ∷ rules) (places_from test (place + 1) rules))) here ∙ ap (λ (rs : List Rule). rule ∷ rs) more
+      | false ↦ more
+    ]
 
 with_rule-append : (found : Option Rule) (rules more : List Rule) → with_rule found (rules ++ more) ≡ with_rule found rules ++ more
 with_rule-append None rules more = refl
@@ -117,9 +119,10 @@ pub most-more : (test : Rule → Bool) (rules : List Rule) (rule : Rule) → mos
 most-more test [] rule = refl
 most-more test (first ∷ rules) rule =
     let rest : most test (rules ++ rule ∷ []) ≡ cond (test rule) (max (length (labels rule)) (most test rules)) (most test rules) = most-more test rules rule in
-    elim (test rule) as (λ w. most test (rules ++ rule ∷ []) ≡ cond w (max (length (labels rule)) (most test rules)) (most test rules) → cond (test first) (max (length (labels first)) (most test (rules ++ rule ∷ []))) (most test (rules ++ rule ∷ [])) ≡ cond w (max (length (labels rule)) (cond (test first) (max (length (labels first)) (most test rules)) (most test rules))) (cond (test first) (max (length (labels first)) (most test rules)) (most test rules)))
-    [ true ↦ λ e. elim (test first) as (λ v. cond v (max (length (labels first)) (most test (rules ++ rule ∷ []))) (most test (rules ++ rule ∷ [])) ≡ max (length (labels rule)) (cond v (max (length (labels first)) (most test rules)) (most test rules))) [ true ↦ omega arith | false ↦ e ]
-    | false ↦ λ e. ap (λ n. cond (test first) (max (length (labels first)) n) n) e ] rest
+    elim (test rule) as (λ w. most test (rules ++ rule ∷ []) ≡ cond w (max (length (labels rule)) (most test rules)) (most test rules) → cond (test first) (max (length (labels first)) (most test (rules ++ rule ∷ []))) (most test (rules ++ rule ∷ [])) ≡ cond w (max (length (labels rule)) (cond (test first) (max (length (labels first)) (most test rules)) (most test rules))) (cond (test first) (max (length (labels first)) (most test rules)) (most test rules))) [
+      | true ↦ λ e. elim (test first) as (λ v. cond v (max (length (labels first)) (most test (rules ++ rule ∷ []))) (most test (rules ++ rule ∷ [])) ≡ max (length (labels rule)) (cond v (max (length (labels first)) (most test rules)) (most test rules))) [ true ↦ omega arith | false ↦ e ]
+      | false ↦ λ e. ap (λ n. cond (test first) (max (length (labels first)) n) n) e
+    ] rest
 
 pub most-filter : (pass test : Rule → Bool) (rules : List Rule) → most test (filter pass rules) ≡ most (λ rule. pass rule && test rule) rules
 most-filter pass test [] = refl

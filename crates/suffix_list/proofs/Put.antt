@@ -1,5 +1,5 @@
 -- What a table holds after a text was put in.
-use Rattle.std.proofs.Common.{◌≡◌, List, ℕ, Bool, true, false, cond, ◌||◌, refl, ap}
+use Rattle.std.proofs.Common.{◌≡◌, Bool, true, false, cond, ◌||◌, refl, ap}
 
 pub cond_or : (b c : Bool) → cond b true c ≡ (b || c)
 cond_or true c = refl

@@ -1,16 +1,15 @@
 -- The longest matching rules of a list, and which of them the tables hold.
-use Rattle.std.proofs.Common.{◌≡◌, ℕ, ◌+◌, ◌-◌, ◌<◌, ◌≤◌, max, List, [], ◌∷◌, ◌++◌, length, get_or, take, drop, map, Bool, true, false, not, ◌&&◌, ◌||◌, cond, eqb, Option, Some, None, Bor, suc, zero, String, string_bytes, refl, sym, ap, subst, ◌∙◌, arith, codes, nat_eq}
+use Rattle.std.proofs.Common.{◌≡◌, ℕ, ◌≤◌, max, List, [], ◌∷◌, ◌++◌, length, take, drop, Bool, true, false, not, ◌&&◌, ◌||◌, cond, eqb, Option, Some, None, Bor, String, refl, sym, ap, ◌∙◌, arith, codes, nat_eq}
 use Rattle.std.specs.List.{list_all, list_any, starts_with, onto_first, join_with_byte}
 use Rattle.std.specs.Str.{bytes_eq}
 use Rattle.std.specs.HashSet.{HashSet, contains_text}
-use Rattle.std.specs.List.{filter}
-use Rattle.std.proofs.lemmas.List.{take-append-drop, append_assoc}
+use Rattle.std.proofs.lemmas.List.{take-append-drop}
 use Rattle.std.proofs.lemmas.Slice.Eq.{bytes_eq-Decides}
 use Rattle.dnr_spec.specs.Hosts.{labels_of}
 use Rattle.dnr_spec.specs.Suffixes.{fits_label, fits_labels, matches}
-use Rattle.dnr_spec.proofs.Labels.{labels_of-has, HasFirst, join_with_byte-labels_of}
+use Rattle.dnr_spec.proofs.Labels.{labels_of-has, join_with_byte-labels_of}
 use Rattle.suffix_list.specs.declared.rule.Rule.{Rule}
-use Rattle.suffix_list.specs.Kept.{AreTables, text_of, labels, has_no_star, is_no_star, is_plain, is_starred, is_listed, is_other, most, places_from, is_found, listed_len}
+use Rattle.suffix_list.specs.Kept.{AreTables, text_of, labels, has_no_star, is_no_star, is_plain, is_starred, is_listed, most, is_found, listed_len}
 use Rattle.suffix_list.proofs.Cuts.{IsCut, labels_behind, first_cut}
 
 -- ---- tests
@@ -191,11 +190,13 @@ listed_hit-ge : (l : List ℕ) (ls : List (List ℕ)) (rules : List Rule) → li
 listed_hit-ge l ls [] h = absurd (cc)
 listed_hit-ge l ls (rule ∷ rules) h =
     let n : ℕ = listed_len (l ∷ ls) rules in
-    elim (is_listed rule) as (λ a. ((a && fits_labels (labels rule) (l ∷ ls)) || list_any (λ rule. is_listed rule && fits_labels (labels rule) (l ∷ ls)) rules) ≡ true → length (l ∷ ls) ≤ cond (a && matches (labels rule) (l ∷ ls)) (max (length (labels rule)) n) n)
-    [ true ↦ λ h. elim (fits_labels (labels rule) (l ∷ ls)) as (λ v. fits_labels (labels rule) (l ∷ ls) ≡ v → (v || list_any (λ rule. is_listed rule && fits_labels (labels rule) (l ∷ ls)) rules) ≡ true → length (l ∷ ls) ≤ cond (v || matches (labels rule) ls) (max (length (labels rule)) n) n)
-        [ true ↦ λ e k. (let same = fits-length (labels rule) (l ∷ ls) e in omega arith)
-        | false ↦ λ e k. (let rest : length (l ∷ ls) ≤ n = listed_hit-ge l ls rules k in elim (matches (labels rule) ls) as (λ w. length (l ∷ ls) ≤ cond w (max (length (labels rule)) n) n) [ true ↦ omega arith | false ↦ rest ]) ] refl h
-    | false ↦ λ h. listed_hit-ge l ls rules h ] h
+    elim (is_listed rule) as (λ a. ((a && fits_labels (labels rule) (l ∷ ls)) || list_any (λ rule. is_listed rule && fits_labels (labels rule) (l ∷ ls)) rules) ≡ true → length (l ∷ ls) ≤ cond (a && matches (labels rule) (l ∷ ls)) (max (length (labels rule)) n) n) [
+      | true ↦ λ h. elim (fits_labels (labels rule) (l ∷ ls)) as (λ v. fits_labels (labels rule) (l ∷ ls) ≡ v → (v || list_any (λ rule. is_listed rule && fits_labels (labels rule) (l ∷ ls)) rules) ≡ true → length (l ∷ ls) ≤ cond (v || matches (labels rule) ls) (max (length (labels rule)) n) n) [
+        | true ↦ λ e k. (let same = fits-length (labels rule) (l ∷ ls) e in omega arith)
+        | false ↦ λ e k. (let rest : length (l ∷ ls) ≤ n = listed_hit-ge l ls rules k in elim (matches (labels rule) ls) as (λ w. length (l ∷ ls) ≤ cond w (max (length (labels rule)) n) n) [ true ↦ omega arith | false ↦ rest ])
+      ] refl h
+      | false ↦ λ h. listed_hit-ge l ls rules h
+    ] h
 
 listed-le : (ls : List (List ℕ)) (rules : List Rule) → listed_len ls rules ≤ length ls
 listed-le ls rules = most-le (λ rule. is_listed rule && matches (labels rule) ls) (length ls) rules (λ rule h. matches-length (labels rule) ls (and_right (is_listed rule) (matches (labels rule) ls) h))

@@ -1,5 +1,5 @@
 -- The rules of the lines that were read so far.
-use Rattle.std.proofs.Common.{◌≡◌, ℕ, ◌+◌, ◌<◌, ◌≤◌, List, [], ◌∷◌, ◌++◌, length, get_or, drop, map, Bool, true, false, cond, Option, Some, None, Result, Ok, Err, MatchBool, suc, refl, sym, ap, ◌∙◌, length-append, drop-cons, add-one, eqb, arith}
+use Rattle.std.proofs.Common.{◌≡◌, ℕ, ◌+◌, ◌<◌, ◌≤◌, List, [], ◌∷◌, ◌++◌, length, get_or, drop, Bool, true, false, cond, Option, Some, None, Result, Ok, Err, MatchBool, suc, refl, sym, ap, ◌∙◌, length-append, drop-cons, add-one, eqb, arith}
 use Rattle.std.specs.Prelude.{nat_le}
 use Rattle.std.specs.List.{slice_split}
 use Rattle.std.proofs.Math.Seq.{drop-length}
@@ -8,7 +8,7 @@ use Rattle.std.proofs.lemmas.List.{append_assoc, append-nil}
 use Rattle.dnr_spec.specs.Suffixes.{SuffixRule, is_rule, word_of, read_rule, with_rule, rules_of, within_limit, max_rules}
 use Rattle.dnr_spec.specs.declared.suffix_refusal.SuffixRefusal.{SuffixRefusal}
 use Rattle.dnr_spec.specs.declared.suffix_refusal.SuffixRefusal.TheVariants.{NotUtf8, BadRule, TooManyRules, NoMemory}
-use Rattle.suffix_list.specs.Reading.{read_line, line_rule, line_answer, read_text, IsRefusedAs}
+use Rattle.suffix_list.specs.Reading.{read_line, line_answer, read_text, IsRefusedAs}
 
 -- the rules before those of the result
 abbrev pub before_all : List SuffixRule → Result (List SuffixRule) SuffixRefusal → Result (List SuffixRule) SuffixRefusal
@@ -75,10 +75,10 @@ at_line lines place line at =
 
 pub so_far_same : (lines : List (List ℕ)) (place : ℕ) (too_many : Bool) (kept : List SuffixRule) (line : List ℕ) → IsReadSoFar lines place too_many kept → IsLineAt lines place line → read_line (place + 1) line ≡ Ok None → IsReadSoFar lines (place + 1) too_many kept
 so_far_same lines place too_many kept line s at h = record {
-    rules = s.rules;
-    read = s.read ∙ ap (λ ls. before_all s.rules (rules_of (place + 1) ls)) (at_line lines place line at) ∙ ap (before_all s.rules) (line_nothing (place + 1) line (drop (place + 1) lines) h);
-    limit = s.limit;
-  }
+  rules = s.rules;
+  read = s.read ∙ ap (λ ls. before_all s.rules (rules_of (place + 1) ls)) (at_line lines place line at) ∙ ap (before_all s.rules) (line_nothing (place + 1) line (drop (place + 1) lines) h);
+  limit = s.limit;
+}
 
 before_one : (rules : List SuffixRule) (rule : SuffixRule) (rest : Result (List SuffixRule) SuffixRefusal) → before_all rules (before_all (rule ∷ []) rest) ≡ before_all (rules ++ rule ∷ []) rest
 before_one rules rule (Ok more) = ap (λ (rs : List SuffixRule). Ok rs) (sym (append_assoc rules (rule ∷ []) more))
@@ -98,10 +98,10 @@ limit_push false rules kept rule h small =
 
 pub so_far_push : (lines : List (List ℕ)) (place : ℕ) (too_many : Bool) (kept : List SuffixRule) (line : List ℕ) (rule : SuffixRule) → IsReadSoFar lines place too_many kept → IsLineAt lines place line → read_line (place + 1) line ≡ Ok (Some rule) → length kept < 65536 → IsReadSoFar lines (place + 1) too_many (kept ++ rule ∷ [])
 so_far_push lines place too_many kept line rule s at h small = record {
-    rules = s.rules ++ rule ∷ [];
-    read = read_one lines place too_many kept line rule s at h;
-    limit = limit_push too_many s.rules kept rule s.limit small;
-  }
+  rules = s.rules ++ rule ∷ [];
+  read = read_one lines place too_many kept line rule s at h;
+  limit = limit_push too_many s.rules kept rule s.limit small;
+}
 
 limit_full : (too_many : Bool) (rules kept : List SuffixRule) (rule : SuffixRule) → MatchBool too_many (65536 < length rules) ((length rules ≤ 65536) × (rules ≡ kept)) → 65536 ≤ length kept → 65536 < length (rules ++ rule ∷ [])
 limit_full true rules kept rule h full = omega (arith, length-append {A = SuffixRule})
@@ -111,10 +111,10 @@ limit_full false rules kept rule h full =
 
 pub so_far_full : (lines : List (List ℕ)) (place : ℕ) (too_many : Bool) (kept : List SuffixRule) (line : List ℕ) (rule : SuffixRule) → IsReadSoFar lines place too_many kept → IsLineAt lines place line → read_line (place + 1) line ≡ Ok (Some rule) → 65536 ≤ length kept → IsReadSoFar lines (place + 1) true kept
 so_far_full lines place too_many kept line rule s at h full = record {
-    rules = s.rules ++ rule ∷ [];
-    read = read_one lines place too_many kept line rule s at h;
-    limit = limit_full too_many s.rules kept rule s.limit full;
-  }
+  rules = s.rules ++ rule ∷ [];
+  read = read_one lines place too_many kept line rule s at h;
+  limit = limit_full too_many s.rules kept rule s.limit full;
+}
 
 pub so_far_refused : (lines : List (List ℕ)) (place : ℕ) (too_many : Bool) (kept : List SuffixRule) (line : List ℕ) (refusal : SuffixRefusal) → IsReadSoFar lines place too_many kept → IsLineAt lines place line → read_line (place + 1) line ≡ Err refusal → rules_of 1 lines ≡ Err refusal
 so_far_refused lines place too_many kept line refusal s at h =

@@ -1,5 +1,5 @@
 -- The rules as a list keeps them: their labels in one text.
-use Rattle.std.specs.Prelude.{ℕ, ◌+◌, ◌≡◌, max, List, [], ◌∷◌, length, drop, map, slice_get, String, string_bytes, codes, nat_eq, Bool, true, false, not, ◌==◌, ◌&&◌, ◌||◌, Option, Some, None, MatchOption, if◌then◌else◌}
+use Rattle.std.specs.Prelude.{ℕ, ◌+◌, ◌≡◌, max, List, [], ◌∷◌, length, drop, slice_get, String, string_bytes, codes, nat_eq, Bool, true, false, not, ◌==◌, ◌&&◌, ◌||◌, Option, Some, None, MatchOption, if◌then◌else◌}
 use Rattle.std.specs.List.{list_all, list_any, starts_with}
 use Rattle.std.specs.HashSet.{HashSet, contains_text}
 use Rattle.std.specs.Str.{bytes_eq}
@@ -7,6 +7,7 @@ use Rattle.std.specs.Borrow.{Bor}
 use Rattle.dnr_spec.specs.Hosts.{labels_of}
 use Rattle.dnr_spec.specs.Suffixes.{SuffixRule, matches}
 use Rattle.suffix_list.specs.declared.rule.Rule.{Rule}
+use Rattle.suffix_list.specs.declared.tables.Tables.{Tables}
 
 abbrev pub text_of : Rule → List ℕ
 text_of rule = string_bytes rule.text
@@ -62,6 +63,9 @@ pub record AreTables {Y S : Type 0} (rules : List Rule) (plain starred : HashSet
   pub plain_texts : (q : List ℕ) → contains_text plain q ≡ list_any (λ rule. is_plain rule && bytes_eq (text_of rule) q) rules
   pub starred_texts : (q : List ℕ) → contains_text starred q ≡ list_any (λ rule. is_starred rule && bytes_eq (drop 2 (text_of rule)) q) rules
   pub other_places : others ≡ places_from is_other 0 rules
+
+abbrev pub AreTablesOf : List Rule → Tables → Type 0
+AreTablesOf rules tables = AreTables rules tables.plain.texts tables.starred.texts tables.others.items
 
 -- whether a table has the name, or the other one what stands behind its first label
 abbrev pub is_found : {Y S : Type 0} → HashSet (String Y) S → HashSet (String Y) S → List ℕ → Option (Bor (List ℕ)) → Bool

@@ -4,7 +4,7 @@ use Rattle.std.specs.List.{slice_split}
 use Rattle.std.specs.declared.vec.Vec.{Vec}
 use Rattle.dnr_spec.specs.Suffixes.{SuffixRule, is_rule, word_of, read_rule, rules_of, within_limit, read_suffixes}
 use Rattle.dnr_spec.specs.declared.suffix_refusal.SuffixRefusal.{SuffixRefusal}
-use Rattle.dnr_spec.specs.declared.suffix_refusal.SuffixRefusal.TheVariants.{NotUtf8, BadRule, TooManyRules, NoMemory}
+use Rattle.dnr_spec.specs.declared.suffix_refusal.SuffixRefusal.TheVariants.{BadRule, NoMemory}
 use Rattle.suffix_list.specs.declared.rule.Rule.{Rule}
 use Rattle.suffix_list.specs.Kept.{seen}
 

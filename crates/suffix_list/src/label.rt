@@ -63,5 +63,7 @@ fn is_plain_label(label: &[u8]) -> bool
 fn has_label_bytes_alone(label: &[u8]) -> bool
     ensures { result ≡ list_all spec.is_label_byte label.now }
 {
-    label.iter().all(|b| b.is_ascii_alphanumeric() || *b == b'-' || *b == b'_')
+    label
+        .iter()
+        .all(|b| b.is_ascii_alphanumeric() || *b == b'-' || *b == b'_')
 }

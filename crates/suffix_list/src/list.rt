@@ -27,13 +27,13 @@ pub struct SuffixList {
 impl Model for SuffixList {
     ghost use Rattle.std.specs.Prelude.{List, map};
     ghost use Rattle.dnr_spec.specs.Suffixes.{SuffixRule};
-    ghost use Rattle.suffix_list.specs.Kept.{seen, AreTables};
+    ghost use Rattle.suffix_list.specs.Kept.{seen, AreTablesOf};
 
     ghost Value = { List SuffixRule };
 
     ghost view = { λ l. map seen l.rules.items };
 
-    ghost invariant = { λ l. AreTables l.rules.items l.tables.plain.texts l.tables.starred.texts l.tables.others.items };
+    ghost invariant = { λ l. AreTablesOf l.rules.items l.tables };
 }
 
 impl SuffixList {
@@ -99,7 +99,11 @@ impl SuffixList {
     fn suffix_len(&self, name: &str) -> usize
         ensures { result ≡ spec.suffix_len self.now (labels_of name.now) }
     {
-        let (exception, other) = longest_others(self.rules.as_slice(), self.tables.others.as_slice(), name);
+        let (exception, other) = longest_others(
+            self.rules.as_slice(),
+            self.tables.others.as_slice(),
+            name,
+        );
         if exception > 0 {
             return exception - 1;
         }

@@ -22,7 +22,7 @@ pub struct Tables {
 
 impl Tables {
     pub fn new(alloc: Global) -> Tables
-        ensures { kept.AreTables [] result.plain.texts result.starred.texts result.others.items }
+        ensures { kept.AreTablesOf [] result }
     {
         Tables {
             plain: Table::new(alloc),
@@ -34,9 +34,7 @@ impl Tables {
     // Takes the rule at the next place in.
     pub fn add(&mut self, alloc: Global, rule: &Rule, place: usize) -> Result<(), NoMemory>
         ensures { OnOk result ((rules : List Rule) → place ≡ length rules
-            → kept.AreTables rules self.old.plain.texts self.old.starred.texts self.old.others.items
-            → kept.AreTables (rules ++ rule.now ∷ []) self.new.plain.texts self.new.starred.texts
-                self.new.others.items) }
+            → kept.AreTablesOf rules self.old → kept.AreTablesOf (rules ++ rule.now ∷ []) self.new) }
     {
         if rule.is_plain() {
             self.plain.insert(alloc, rule.text.as_str())?;
@@ -52,8 +50,7 @@ impl Tables {
 
     // How many labels the longest rule of the two tables has that matches a name, or 0.
     pub fn longest_listed(&self, name: &str) -> usize
-        ensures { (rules : List Rule)
-            → kept.AreTables rules self.now.plain.texts self.now.starred.texts self.now.others.items
+        ensures { (rules : List Rule) → kept.AreTablesOf rules self.now
             → result ≡ kept.listed_len (labels_of name.now) rules }
     {
         let mut rest = name;
@@ -73,7 +70,8 @@ impl Tables {
 
     // Whether a rule of the tables has just these labels; `behind` stands behind the first dot of the name.
     fn has_rule(&self, name: &str, behind: Option<&str>) -> bool
-        ensures { result ≡ kept.is_found self.now.plain.texts self.now.starred.texts name.now behind.entry }
+        ensures { let tables = self.now in
+            result ≡ kept.is_found tables.plain.texts tables.starred.texts name.now behind.entry }
     {
         match behind {
             Some(rest) => self.plain.contains(name) || self.starred.contains(rest),

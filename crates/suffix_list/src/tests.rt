@@ -142,7 +142,10 @@ fn refusals(rt: HostRuntime) {
     for (text, want) in rows {
         assert_eq!(rt; read(alloc, text).err(), want, "{text:?}");
     }
-    assert_eq!(rt; SuffixList::read(alloc, &[b'a', 0xff]).err(), Some(SuffixRefusal::NotUtf8));
+    assert_eq!(rt;
+        SuffixList::read(alloc, &[b'a', 0xff]).err(),
+        Some(SuffixRefusal::NotUtf8)
+    );
 }
 
 #[test]
@@ -154,9 +157,15 @@ fn a_list_of_65536_rules_is_the_longest(rt: HostRuntime) -> Result<(), Fail> {
     }
     assert_eq!(rt; read(alloc, text.as_str()).err(), None);
     text.push('a')?;
-    assert_eq!(rt; read(alloc, text.as_str()).err(), Some(SuffixRefusal::TooManyRules));
+    assert_eq!(rt;
+        read(alloc, text.as_str()).err(),
+        Some(SuffixRefusal::TooManyRules)
+    );
     text.push_str("\n.")?;
-    assert_eq!(rt; read(alloc, text.as_str()).err(), Some(SuffixRefusal::BadRule(65538)));
+    assert_eq!(rt;
+        read(alloc, text.as_str()).err(),
+        Some(SuffixRefusal::BadRule(65538))
+    );
     Ok(())
 }
 

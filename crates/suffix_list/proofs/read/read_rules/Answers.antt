@@ -1,10 +1,10 @@
-use Rattle.std.proofs.Common.{◌≡◌, ◌+◌, ◌<◌, ◌≤◌, ℕ, List, [], ◌∷◌, ◌++◌, length, map, eqb, Bool, true, false, Option, Some, None, Ok, Err, lit<, sym, ap, ◌∙◌, rules, arith}
+use Rattle.std.proofs.Common.{◌≡◌, ◌+◌, ◌<◌, ◌≤◌, [], ◌∷◌, ◌++◌, length, map, eqb, true, false, Some, None, Ok, lit<, sym, ap, ◌∙◌, arith}
 use Rattle.std.specs.List.{slice_split}
 use Rattle.std.proofs.lemmas.Iterator.Consumers.{YieldsList-turn, YieldsList-end, YieldsList-at}
 use Rattle.std.proofs.lemmas.Iterator.Splits.{YieldsList-from_str_split}
 use Rattle.std.proofs.lemmas.List.{length_push, length-map, map-append}
 use Rattle.std.proofs.lemmas.Result.{err_from_is_err_and}
-use Rattle.dnr_spec.specs.Suffixes.{rules_of, within_limit}
+use Rattle.dnr_spec.specs.Suffixes.{within_limit}
 use Rattle.suffix_list.specs.Kept.{seen}
 use Rattle.suffix_list.specs.Reading.{read_line, read_text}
 use Rattle.suffix_list.proofs.Text.{IsReadSoFar, IsLineAt, so_far_same, so_far_push, so_far_full, so_far_refused, so_far_end, so_far_too_many, refused_as, text_of}

@@ -1,4 +1,4 @@
-use Rattle.std.proofs.Common.{◌≡◌, ℕ, List, eqb, length, map}
+use Rattle.std.proofs.Common.{◌≡◌, eqb, length, map}
 use Rattle.std.specs.List.{slice_split}
 use Rattle.suffix_list.specs.Kept.{seen}
 use Rattle.suffix_list.proofs.Text.{IsReadSoFar}

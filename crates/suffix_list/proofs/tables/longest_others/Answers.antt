@@ -13,9 +13,10 @@ rule_at-rule-requires c =
 
 pub loop-place-preserved : goal.loop-place-preserved
 loop-place-preserved c =
-    let within : c.loop-place.place-index < length c.args.others.now = omega arith in
-    (c.max-exceptions.ensures ∙ ap (λ n. max n c.loop-place.exceptions) c.exception_len.ensures ∙ longest_step (is_matching_exception (labels_of c.args.name.now)) c.args.rules.now c.args.others.now c.loop-place.place-index c.rule_at-rule.result.now c.loop-place.exceptions within c.rule_at-rule.ensures c.loop-place.invariant.0,
-    c.max-plain.ensures ∙ ap (λ n. max n c.loop-place.plain) c.rule_len.ensures ∙ longest_step (is_matching_rule (labels_of c.args.name.now)) c.args.rules.now c.args.others.now c.loop-place.place-index c.rule_at-rule.result.now c.loop-place.plain within c.rule_at-rule.ensures c.loop-place.invariant.1)
+    let within : c.loop-place.place-index < length c.args.others.now = omega arith in (
+      c.max-exceptions.ensures ∙ ap (λ n. max n c.loop-place.exceptions) c.exception_len.ensures ∙ longest_step (is_matching_exception (labels_of c.args.name.now)) c.args.rules.now c.args.others.now c.loop-place.place-index c.rule_at-rule.result.now c.loop-place.exceptions within c.rule_at-rule.ensures c.loop-place.invariant.0,
+      c.max-plain.ensures ∙ ap (λ n. max n c.loop-place.plain) c.rule_len.ensures ∙ longest_step (is_matching_rule (labels_of c.args.name.now)) c.args.rules.now c.args.others.now c.loop-place.place-index c.rule_at-rule.result.now c.loop-place.plain within c.rule_at-rule.ensures c.loop-place.invariant.1,
+    )
 
 pub returns-clause-exceptions : goal.returns-clause-exceptions
 returns-clause-exceptions c = longest_end (is_matching_exception (labels_of c.args.name.now)) c.args.rules.now c.args.others.now c.loop-place.place-index c.loop-place.exceptions c.requires (omega arith) c.loop-place.invariant.0
