@@ -275,15 +275,10 @@ fn listed_calls_fail(rt: HostRuntime) -> Result<(), Fail> {
     Ok(())
 }
 
-fn is_send<T: Send>(_: &T) {}
-
 fn is_shared<T: Send + Sync>(_: &T) {}
 
 #[test]
-fn threads_may_have_them(rt: HostRuntime) -> Result<(), Fail> {
-    let alloc = rt.alloc();
-    is_send(&PackHost::new(alloc)?);
-    is_send(&ListHost::new(alloc, PackHost::new(alloc)?, Vec::new(alloc)));
-    is_shared(&Substitution::read(alloc, "", 0)?);
+fn threads_may_share_a_substitution(rt: HostRuntime) -> Result<(), Fail> {
+    is_shared(&Substitution::read(rt.alloc(), "", 0)?);
     Ok(())
 }
