@@ -6,6 +6,7 @@
 
 mod effects;
 mod header_op;
+mod laws;
 mod planning;
 mod standing;
 mod table;
@@ -14,5 +15,6 @@ mod words;
 pub use dnr_base::{Direction, Header, NoMemory, Offered, Operation};
 pub use dnr_spec::HeaderRefusal;
 pub use header_op::HeaderOp;
+pub use laws::changes_read_again;
 pub use planning::plan;
 pub use table::apply;
