@@ -4,3 +4,4 @@ mod Considered
 mod Planned
 mod Changed
 mod Ordered
+mod ReadAgain

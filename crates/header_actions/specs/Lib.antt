@@ -2,3 +2,4 @@ pub mod Refused
 pub mod Effects
 pub mod Standing
 pub mod Table
+pub mod Again

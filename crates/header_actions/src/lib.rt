@@ -6,13 +6,17 @@
 
 mod effects;
 mod header_op;
+mod laws;
 mod planning;
 mod standing;
 mod table;
+#[cfg(test)]
+mod tests;
 mod words;
 
 pub use dnr_base::{Direction, Header, NoMemory, Offered, Operation};
 pub use dnr_spec::HeaderRefusal;
 pub use header_op::HeaderOp;
+pub use laws::changes_read_again;
 pub use planning::plan;
 pub use table::apply;
