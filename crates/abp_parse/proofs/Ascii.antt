@@ -1,5 +1,5 @@
 -- Texts of ASCII alone.
-use Rattle.std.proofs.Common.{◌≡◌, ◌<◌, ◌≤◌, ℕ, zero, suc, List, [], ◌∷◌, get_or, Bool, true, false, ◌&&◌, refl, sym, ap, ◌∙◌, arith, lt-ltb, nat_lt}
+use Rattle.std.proofs.Common.{◌≡◌, ◌≤◌, ℕ, zero, suc, List, [], ◌∷◌, get_or, Bool, true, false, ◌&&◌, refl, sym, ap, ◌∙◌, arith, lt-ltb}
 use Rattle.std.specs.Prelude.{MatchBool}
 use Rattle.std.specs.List.{list_all}
 use Rattle.std.specs.Char.{is_ascii}

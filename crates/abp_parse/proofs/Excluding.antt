@@ -1,6 +1,6 @@
 -- The set of the domains that are excluded, entry by entry.
 use Rattle.std.proofs.Common.{◌≡◌, ◌<◌, ◌+◌, ℕ, List, length, take, get_or, Bool, true, false, cond, ◌||◌, ◌&&◌, refl, sym, ap, ◌∙◌, String, Global}
-use Rattle.std.specs.BTreeSet.{BTreeSet, contains_text}
+use Rattle.std.specs.BTreeSet.{BTreeSet}
 use Rattle.std.specs.Str.{bytes_eq}
 use Rattle.std.specs.List.{list_any}
 use Rattle.std.proofs.lemmas.List.Folds.{list_any_more}

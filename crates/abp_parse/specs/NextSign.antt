@@ -1,5 +1,5 @@
 -- The next place of a text that may have a separator.
-use Rattle.std.specs.Prelude.{◌≡◌, ◌≤◌, ℕ, List, length, drop, false, Option, None, Some}
+use Rattle.std.specs.Prelude.{◌≡◌, ◌≤◌, ℕ, List, length, false, Option, None, Some}
 use Rattle.std.specs.Borrow.{Bor}
 use Rattle.list_spec.specs.LineKind.{hides}
 

@@ -1,5 +1,5 @@
 -- What the rest of a text from a place on may be, byte for byte from the end.
-use Rattle.std.specs.Prelude.{ℕ, List, [], ◌∷◌, Bool, true, false, ◌==◌, ◌&&◌, if◌then◌else◌}
+use Rattle.std.specs.Prelude.{ℕ, List, [], ◌∷◌, true, false, ◌==◌, ◌&&◌, if◌then◌else◌}
 use Rattle.list_spec.specs.Options.{is_name_byte}
 use Rattle.abp_parse.specs.declared.place.Rest.{Rest}
 

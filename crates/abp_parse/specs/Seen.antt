@@ -1,5 +1,5 @@
 -- The program's types, as those of the definitions.
-use Rattle.std.specs.Prelude.{ℕ, List, [], map, Option, None, Some, unwrap_or, option_map, option_copied}
+use Rattle.std.specs.Prelude.{[], map, unwrap_or, option_map, option_copied}
 use Rattle.std.specs.Char.{to_ascii_lowercase}
 use Rattle.dnr_base.specs.KindSet.{kinds_of}
 use Rattle.list_spec.specs.Options as options

@@ -1,5 +1,5 @@
 -- Names of options are compared without regard to case.
-use Rattle.std.proofs.Common.{◌≡◌, ℕ, List, map, Bool, true, false, refl, sym, ◌∙◌}
+use Rattle.std.proofs.Common.{◌≡◌, map, refl}
 use Rattle.std.specs.Char.{to_ascii_lowercase}
 use Rattle.list_spec.specs.declared.option_name.OptionName.{OptionName}
 use Rattle.list_spec.specs.declared.option_name.OptionName.TheVariants.{Script, Image, Stylesheet, Object, XmlHttpRequest, Ping, WebSocket, Font, Media, Subdocument, Other, ThirdParty, Domain, MatchCase, Document}

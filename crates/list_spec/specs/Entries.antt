@@ -1,6 +1,6 @@
 -- The domains of a filter's option `domain=`.
-use Rattle.std.specs.Prelude.{ℕ, List, [], map, length, Bool, not, ◌==◌, ◌&&◌, ◌||◌}
-use Rattle.std.specs.List.{list_any, list_all}
+use Rattle.std.specs.Prelude.{ℕ, List, map, length, Bool, not, ◌==◌, ◌&&◌, ◌||◌}
+use Rattle.std.specs.List.{list_any}
 use Rattle.std.specs.Char.{to_ascii_lowercase}
 use Rattle.std.specs.Str.{bytes_eq}
 use Rattle.list_spec.specs.declared.domain_entry.DomainEntry.{DomainEntry}

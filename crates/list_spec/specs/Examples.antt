@@ -1,10 +1,10 @@
 -- Examples, each computed from the definitions alone.
-use Rattle.std.specs.Prelude.{◌≡◌, ℕ, List, [], ◌∷◌, ◌++◌, codes, Bool, true, false, Option, Some, None, map}
+use Rattle.std.specs.Prelude.{◌≡◌, ℕ, List, [], ◌∷◌, codes, true, false, Some, None, map}
 use Rattle.dnr_base.specs.declared.kind.Kind.TheVariants as kind
 use Rattle.dnr_base.specs.Kind.{default_kinds}
 use Rattle.list_spec.specs.declared.domain_entry.DomainEntry.{DomainEntry}
 use Rattle.list_spec.specs.declared.reason.Reason.TheVariants as reason
-use Rattle.list_spec.specs.LineKind.{Line, FilterLine, FilterPattern, blank, comment, header, filter_line, unsupported, every_url, plain, regex, line_of}
+use Rattle.list_spec.specs.LineKind.{FilterLine, FilterPattern, blank, comment, header, filter_line, unsupported, every_url, plain, regex, line_of}
 
 abbrev listed : List ℕ → DomainEntry
 listed domain = record { domain = domain; excluded = false }
@@ -38,10 +38,10 @@ TypesAreFolded =
     ∷ filter_line (record (bare (plain (codes "a"))) { kinds = kind.Script ∷ kind.Image ∷ [] })
     ∷ filter_line (record (bare (plain (codes "a"))) { exception = true; kinds = []; document = true })
     ∷ filter_line (
-      record (bare every_url) {
-        exception = true;
-        kinds = kind.Stylesheet ∷ kind.Script ∷ kind.Image ∷ kind.Font ∷ kind.Object ∷ kind.XmlHttpRequest ∷ kind.Ping ∷ kind.Media ∷ kind.WebSocket ∷ [];
-      }
+    record (bare every_url) {
+      exception = true;
+      kinds = kind.Stylesheet ∷ kind.Script ∷ kind.Image ∷ kind.Font ∷ kind.Object ∷ kind.XmlHttpRequest ∷ kind.Ping ∷ kind.Media ∷ kind.WebSocket ∷ [];
+    }
     )
     ∷ []
 

@@ -1,5 +1,5 @@
 -- The kind of a line of a filter list: Adblock Plus, "How to write filters".
-use Rattle.std.specs.Prelude.{ℕ, ◌-◌, List, [], ◌∷◌, length, take, drop, slice_index, reverse, map, codes, Bool, true, false, not, ◌==◌, ◌&&◌, ◌||◌, nat_lt, nat_le, nat_eq, Option, None, Some, is_some, unwrap_or, if◌then◌else◌}
+use Rattle.std.specs.Prelude.{ℕ, ◌-◌, List, [], ◌∷◌, length, take, drop, reverse, codes, Bool, false, not, ◌==◌, ◌&&◌, ◌||◌, nat_lt, nat_le, nat_eq, Option, None, Some, is_some, unwrap_or, if◌then◌else◌}
 use Rattle.std.specs.List.{starts_with, ends_with, list_any, list_all}
 use Rattle.std.specs.Char.{is_ascii}
 use Rattle.dnr_base.specs.declared.kind.Kind.{Kind}

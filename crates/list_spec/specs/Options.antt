@@ -1,8 +1,7 @@
 -- The options of a filter: Adblock Plus, "How to write filters", "Filter options".
-use Rattle.std.specs.Prelude.{ℕ, suc, List, [], ◌∷◌, length, drop, map, filter, fold, position, codes, Bool, true, false, not, ◌==◌, ◌&&◌, ◌||◌, nat_lt, Option, None, Some, is_some, unwrap_or, option_map, if◌then◌else◌}
-use Rattle.std.specs.List.{find, list_all, list_any}
+use Rattle.std.specs.Prelude.{ℕ, suc, List, [], ◌∷◌, length, map, filter, fold, position, Bool, true, false, not, ◌==◌, ◌&&◌, ◌||◌, nat_lt, Option, None, Some, is_some, unwrap_or, option_map, if◌then◌else◌}
+use Rattle.std.specs.List.{list_all}
 use Rattle.std.specs.Char.{to_ascii_lowercase}
-use Rattle.std.specs.Str.{bytes_eq}
 use Rattle.dnr_base.specs.declared.kind.Kind.{Kind}
 use Rattle.dnr_base.specs.declared.kind.Kind.TheVariants as kind
 use Rattle.dnr_base.specs.Kind.{all_kinds, default_kinds, same_kind, has_kind}

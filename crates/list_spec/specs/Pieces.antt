@@ -1,5 +1,5 @@
 -- A text cut into pieces.
-use Rattle.std.specs.Prelude.{ℕ, ◌+◌, List, [], ◌∷◌, drop, take, codes, Bool, ◌==◌, nat_eq, Option, None, Some, if◌then◌else◌}
+use Rattle.std.specs.Prelude.{ℕ, ◌+◌, List, drop, take, codes, Bool, ◌==◌, nat_eq, Option, None, Some, if◌then◌else◌}
 use Rattle.std.specs.List.{starts_with, slice_split}
 
 -- what stands between the places of this byte: one piece more than there are of it

@@ -1,6 +1,6 @@
 -- What a filter list says of a request: Adblock Plus, "How to write filters". It speaks of lines alone, and of no
 -- rules.
-use Rattle.std.specs.Prelude.{ℕ, ◌+◌, List, [], ◌∷◌, length, filter, map, Bool, true, false, not, ◌&&◌, ◌||◌, nat_le, Option, Some, None, is_some, if◌then◌else◌}
+use Rattle.std.specs.Prelude.{ℕ, ◌+◌, List, [], ◌∷◌, length, filter, Bool, true, false, not, ◌&&◌, ◌||◌, nat_le, Option, Some, None, is_some, if◌then◌else◌}
 use Rattle.std.specs.List.{list_all, list_any, filter_map}
 use Rattle.dnr_base.specs.declared.frame.Frame.{Frame}
 use Rattle.dnr_base.specs.declared.request.Request.{Request}

@@ -1,4 +1,4 @@
-use Rattle.std.proofs.Common.{◌≡◌, ◌++◌, length, ℕ}
+use Rattle.std.proofs.Common.{◌≡◌, ◌++◌, length}
 use Rattle.std.specs.Str.{IsAscii}
 use Rattle.list_spec.specs.Entries.{entries_of}
 use Rattle.abp_parse.proofs.entries.entries_of.Given as goal
