@@ -1,4 +1,5 @@
--- Hosts, their labels, and which of them are IP addresses: URL Standard, "Host writing" and "Host serializing".
+-- Hosts and their labels: URL Standard, "Host writing". Which of them count as IP addresses is this project's profile: a
+-- bracket at the beginning, or a last label of digits alone.
 use Rattle.std.specs.Prelude.{ℕ, List, [], ◌∷◌, length, codes, Bool, false, ◌==◌, ◌&&◌, ◌||◌, nat_eq, nat_lt}
 use Rattle.std.specs.List.{starts_with, list_all, slice_split}
 use Rattle.std.specs.Char.{is_ascii_digit}

@@ -1,8 +1,7 @@
 -- The documented precedence scan: what becomes of a request, over all rules in force. Chrome's reference, "Rule
 -- prioritization", inside an extension and across extensions, and "Header modification".
-use Rattle.std.specs.Prelude.{ℕ, ◌+◌, ◌-◌, List, [], ◌∷◌, ◌++◌, length, map, filter, Bool, true, false, not, ◌&&◌, nat_le, nat_lt, Option, Some, None, option_map, option_and_then, is_some, slice_get, max, if◌then◌else◌}
+use Rattle.std.specs.Prelude.{ℕ, ◌+◌, ◌-◌, List, [], ◌∷◌, ◌++◌, length, map, filter, Bool, true, false, not, ◌&&◌, nat_le, nat_lt, Option, Some, None, option_map, option_and_then, is_some, unwrap_or, slice_get, max, if◌then◌else◌}
 use Rattle.std.specs.List.{filter_map, flat_map, find, list_any}
-use Rattle.std.specs.Option.{option_map_or}
 use Rattle.dnr_base.specs.declared.candidate.Candidate.{Candidate}
 use Rattle.dnr_base.specs.declared.direction.Direction.{Direction}
 use Rattle.dnr_base.specs.declared.direction.Direction.TheVariants as direction
@@ -29,10 +28,14 @@ use Rattle.rule_spec.specs.State.{Extension, State, Live, live_rules}
 
 -- ---- which rules may decide
 
--- the places of the first match's groups, where the rule has a regexFilter
+-- the first match of the regexFilter, if there is one
+abbrev pub first_match : Condition → View → Option (List (Option Span))
+first_match condition view =
+    option_and_then (λ pattern. found pattern (not condition.case_sensitive) (text_of view)) condition.regex_filter
+
+-- the places of its groups; a rule without a match is no candidate, so what stands for its places decides nothing
 abbrev pub places_in : Condition → View → List (Option Span)
-places_in condition view =
-    option_map_or (λ pattern. option_map_or (λ places. places) (found pattern (not condition.case_sensitive) (text_of view)) []) condition.regex_filter []
+places_in condition view = unwrap_or (first_match condition view) []
 
 -- where the rule's redirect leads
 abbrev pub target_by : List ℕ → Rule → Redirect → View → Option (List ℕ)
@@ -143,7 +146,8 @@ greatest_allowed (live ∷ lives) = max (allowed_priority live.rule.action live.
 abbrev pub changes_headers : ℕ → Live → Bool
 changes_headers least live = not (is_some (verb_of live.rule.action)) && nat_le least live.rule.priority
 
--- Of rules that change headers this one is offered first. They have no verb, so they are compared under one.
+-- Of rules that change headers this one is offered first. They have no verb, so they are compared as if all had one,
+-- whichever: it drops out.
 abbrev pub comes_before : Live → Live → Bool
 comes_before a b = beats (candidate_of a verb.Block) (candidate_of b verb.Block)
 

@@ -1,4 +1,5 @@
 -- Whether a rule's condition holds on a part: Chrome's reference, `RuleCondition`. A field that is absent holds.
+-- It is what `dnr match` knows today; whole rules stand in `rule_spec` and are to take its place.
 use Rattle.std.specs.Prelude.{ℕ, List, Bool, true, ◌&&◌, Option, Some, None}
 use Rattle.dnr_base.specs.Kind.{has_kind}
 use Rattle.dnr_base.specs.View.{View, text_of}

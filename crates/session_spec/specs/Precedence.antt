@@ -1,4 +1,5 @@
 -- Which rule decides: Chrome's reference, "Rule prioritization" inside an extension and across extensions.
+-- It is what `dnr match` knows today; whole rules stand in `rule_spec` and are to take its place.
 use Rattle.std.specs.Prelude.{ℕ, List, [], ◌∷◌, Bool, false, not, ◌==◌, nat_lt, nat_le, Option, Some, None, if◌then◌else◌}
 use Rattle.std.specs.List.{find, list_any}
 use Rattle.session_spec.specs.Rule.{Action, block, allow}

@@ -1,4 +1,5 @@
 -- A rule: Chrome's reference of declarativeNetRequest, `Rule`, `RuleCondition` and `RuleAction`.
+-- It is what `dnr match` knows today; whole rules stand in `rule_spec` and are to take its place.
 use Rattle.std.specs.Prelude.{ℕ, List, Option}
 use Rattle.dnr_base.specs.declared.kind.Kind.{Kind}
 

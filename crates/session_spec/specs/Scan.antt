@@ -1,4 +1,5 @@
 -- The documented precedence scan: what becomes of a request, over all rules in force.
+-- It is what `dnr match` knows today; whole rules stand in `rule_spec` and are to take its place.
 use Rattle.std.specs.Prelude.{ℕ, List, filter, Option, Some, None, option_map}
 use Rattle.std.specs.List.{filter_map}
 use Rattle.session_spec.specs.declared.outcome.Outcome.{Outcome}

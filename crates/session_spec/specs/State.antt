@@ -1,4 +1,5 @@
 -- The extensions that are installed, oldest first, and the count of the updates that were accepted.
+-- It is what `dnr match` knows today; whole rules stand in `rule_spec` and are to take its place.
 use Rattle.std.specs.Prelude.{ℕ, ◌+◌, List, [], ◌∷◌, ◌++◌, map, Bool, if◌then◌else◌}
 use Rattle.session_spec.specs.Rule.{Rule}
 
