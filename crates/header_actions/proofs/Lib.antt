@@ -1,0 +1,7 @@
+mod Names
+mod Settled
+mod Considered
+mod Planned
+mod Changed
+mod Ordered
+mod ReadAgain
