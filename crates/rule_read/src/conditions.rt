@@ -1,4 +1,4 @@
-ghost use Rattle.std.specs.Prelude.{◌≡◌, ◌==◌, [], List, filter, not, Ok, OnOk, IfOk, IfErr, length, option_map, unwrap_or};
+ghost use Rattle.std.specs.Prelude.{◌≡◌, ◌==◌, false, [], List, filter, not, Ok, OnOk, IfOk, IfErr, length, option_map, unwrap_or};
 ghost use Rattle.std.specs.Option.{option_copied, option_map_or};
 ghost use Rattle.dnr_base.specs.Faults.{Rose};
 ghost use Rattle.dnr_base.specs.Kind.{all_kinds, has_kind};

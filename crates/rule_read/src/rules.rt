@@ -86,8 +86,8 @@ fn condition_of(
     filters: Filters,
     lists: DomainLists,
 ) -> ConditionParts
-    requires url_filter { filters.url_filter ≡ option_copied fields.entry.url_filter }
-    requires regex_filter { filters.regex_filter ≡ option_copied fields.entry.regex_filter }
+    requires url_filter { filters.url_filter ≡ option_copied fields.url_filter }
+    requires regex_filter { filters.regex_filter ≡ option_copied fields.regex_filter }
     ensures { condition_seen result ≡ spec.condition_of (fields_seen fields.entry) (lists_seen lists) }
 {
     let Filters {

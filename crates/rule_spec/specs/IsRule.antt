@@ -1,7 +1,8 @@
 -- What every rule keeps, whatever file or list it comes from: Chrome's reference, `Rule`, `RuleCondition` and
 -- `RuleAction`, and the limits of this engine. It speaks of one rule alone.
 use Rattle.std.specs.Prelude.{◌≡◌, ℕ, ◌+◌, ◌<◌, ◌≤◌, List, [], ◌∷◌, length, codes, Bool, true, false, not, ◌&&◌, ◌||◌, IsTrue, IsAscii, IfSome, All, nat_le, nat_eq, Option, Some, None, is_some, is_none, Result, Ok}
-use Rattle.std.specs.List.{list_all, list_any}
+use Rattle.std.specs.List.{list_all}
+use Rattle.std.specs.Char.{is_ascii}
 use Rattle.std.specs.Option.{option_map_or}
 use Rattle.dnr_base.specs.declared.kind.Kind.{Kind}
 use Rattle.dnr_base.specs.declared.kind.Kind.TheVariants.{MainFrame, SubFrame}
@@ -26,7 +27,7 @@ max_regex = 4096
 
 -- the grammar reads a pattern in the text, which is ASCII, not empty and not too long
 abbrev pub is_regex_filter : List ℕ → Bool
-is_regex_filter text = nat_le 1 (length text) && nat_le (length text) max_regex && list_all (λ b. nat_le b 127) text && is_some (groups_of text)
+is_regex_filter text = nat_le 1 (length text) && nat_le (length text) max_regex && list_all is_ascii text && is_some (groups_of text)
 
 abbrev pub is_number : ℕ → Bool
 is_number n = nat_le 1 n && nat_le n max_number
