@@ -16,11 +16,7 @@ use url_view::parse;
 
 /// The request of the line of this number, if the line keeps the form: an object with the keys `url` and
 /// `type` and no others.
-pub fn read_request(
-    alloc: Global,
-    number: usize,
-    line: &[u8],
-) -> Result<Option<Request>, NoMemory>
+pub fn read_request(alloc: Global, number: usize, line: &[u8]) -> Result<Option<Request>, NoMemory>
     ensures { IfOk result (λ request. request ≡ spec.request_of number line.now) }
 {
     match read_tree(alloc, line)? {

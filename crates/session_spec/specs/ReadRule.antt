@@ -59,7 +59,7 @@ empty_test field (Some list) = refused_if (length list == 0) (EmptyList field)
 -- what is tested of the filters before the pattern of the regexFilter
 abbrev pub tests_before_pattern : Fields → List (Option RuleRefusal)
 tests_before_pattern f =
-      refused_if (is_some f.url_filter && is_some f.regex_filter) BothFilters
+    refused_if (is_some f.url_filter && is_some f.regex_filter) BothFilters
     ∷ url_filter_test f.url_filter
     ∷ []
 
@@ -72,7 +72,7 @@ filters_in f = unless_refused (first_refusal (filter_tests f)) tt
 
 abbrev pub domain_tests : Fields → List (Option RuleRefusal)
 domain_tests f =
-      refusal_in (domains_in path.InitiatorDomains f.initiators)
+    refusal_in (domains_in path.InitiatorDomains f.initiators)
     ∷ refusal_in (domains_in path.ExcludedInitiatorDomains f.not_initiators)
     ∷ refusal_in (domains_in path.Domains f.old_initiators)
     ∷ refusal_in (domains_in path.ExcludedDomains f.old_not_initiators)
@@ -99,7 +99,7 @@ abbrev pub domain_lists_of : Fields → DomainLists
 domain_lists_of f = record {
   initiators = either (list_of (domains_in path.InitiatorDomains f.initiators)) (list_of (domains_in path.Domains f.old_initiators));
   not_initiators =
-    unwrap_or (either (list_of (domains_in path.ExcludedInitiatorDomains f.not_initiators)) (list_of (domains_in path.ExcludedDomains f.old_not_initiators))) [];
+      unwrap_or (either (list_of (domains_in path.ExcludedInitiatorDomains f.not_initiators)) (list_of (domains_in path.ExcludedDomains f.old_not_initiators))) [];
   hosts = list_of (domains_in path.RequestDomains f.hosts);
   not_hosts = unwrap_or (list_of (domains_in path.ExcludedRequestDomains f.not_hosts)) [];
 }
@@ -110,7 +110,7 @@ domain_lists_in f = unless_refused (first_refusal (domain_tests f)) (domain_list
 
 abbrev pub list_tests : Fields → List (Option RuleRefusal)
 list_tests f =
-      empty_test path.InitiatorDomains f.initiators
+    empty_test path.InitiatorDomains f.initiators
     ∷ empty_test path.Domains f.old_initiators
     ∷ empty_test path.RequestDomains f.hosts
     ∷ empty_test path.ResourceTypes f.kinds
@@ -171,16 +171,29 @@ condition_at d = unwrap_or (get (codes "condition") d) null
 -- what stands for fields that are refused
 abbrev pub no_fields : Fields
 no_fields = record {
-  url_filter = None; regex_filter = None; case_sensitive = None; initiators = None; not_initiators = None;
-  old_initiators = None; old_not_initiators = None; hosts = None; not_hosts = None; third_party = None;
-  kinds = None; not_kinds = None; methods = None; not_methods = None; tabs = None; not_tabs = None;
+  url_filter = None;
+  regex_filter = None;
+  case_sensitive = None;
+  initiators = None;
+  not_initiators = None;
+  old_initiators = None;
+  old_not_initiators = None;
+  hosts = None;
+  not_hosts = None;
+  third_party = None;
+  kinds = None;
+  not_kinds = None;
+  methods = None;
+  not_methods = None;
+  tabs = None;
+  not_tabs = None;
 }
 
 abbrev pub fields_at : Data → Fields
 fields_at d = result_unwrap_or (fields_in (condition_at d)) no_fields
 
 abbrev pub no_lists : DomainLists
-no_lists = record { initiators = None; not_initiators = []; hosts = None; not_hosts = []; }
+no_lists = record { initiators = None; not_initiators = []; hosts = None; not_hosts = [] }
 
 abbrev pub lists_at : Data → DomainLists
 lists_at d = result_unwrap_or (domain_lists_in (fields_at d)) no_lists
@@ -209,7 +222,7 @@ pub record Numbers : Type 0 where
 
 abbrev pub number_tests : (ℕ → Bool) → Data → List (Option RuleRefusal)
 number_tests is_taken d =
-      refused_if (is_none (as_object d)) NotObject
+    refused_if (is_none (as_object d)) NotObject
     ∷ refused_if (is_none (id_of d)) BadId
     ∷ refused_if (option_map_or is_taken (id_of d) false) DuplicateId
     ∷ refused_if (is_none (priority_of d)) BadPriority
@@ -248,7 +261,7 @@ tabs_in kind f = unless_refused (refused_if (not (may_name_tabs kind) && (is_som
 -- BadAction, BadRedirect, BadTransform, BadHeader
 abbrev pub rule_tests : RuleKind → (ℕ → Bool) → Data → List (Option RuleRefusal)
 rule_tests kind is_taken d =
-      refusal_in (numbers_in is_taken d)
+    refusal_in (numbers_in is_taken d)
     ∷ refusal_in (fields_in (condition_at d))
     ∷ refusal_in (filters_in (fields_at d))
     ∷ refusal_in (domain_lists_in (fields_at d))

@@ -99,7 +99,7 @@ part_of reading = result_unwrap_or reading None
 
 abbrev pub transform_tests : Data → List (Option RuleRefusal)
 transform_tests d =
-      refused_if (is_none (as_object d)) BadTransform
+    refused_if (is_none (as_object d)) BadTransform
     ∷ refusal_in (part_in as_new_scheme (codes "scheme") d)
     ∷ refusal_in (part_in (tested_text is_new_host) (codes "host") d)
     ∷ refusal_in (part_in (tested_text is_new_port) (codes "port") d)

@@ -42,9 +42,19 @@ refused_as refusal = Some (Err refusal)
 -- a condition that names nothing
 abbrev pub plain : Condition
 plain = record {
-  url_filter = None; regex_filter = None; case_sensitive = false; initiators = None; not_initiators = [];
-  hosts = None; not_hosts = []; third_party = None; kinds = default_kinds; methods = None; not_methods = [];
-  tabs = None; not_tabs = [];
+  url_filter = None;
+  regex_filter = None;
+  case_sensitive = false;
+  initiators = None;
+  not_initiators = [];
+  hosts = None;
+  not_hosts = [];
+  third_party = None;
+  kinds = default_kinds;
+  methods = None;
+  not_methods = [];
+  tabs = None;
+  not_tabs = [];
 }
 
 -- Domains are read in lower case, in their order and with their repeats; types count once, in the reference's order.

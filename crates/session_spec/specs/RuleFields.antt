@@ -155,7 +155,7 @@ pub record Fields : Type 0 where
 -- how each field is read, in the order in which they are tested
 abbrev pub field_tests : Data → List (Option RuleRefusal)
 field_tests c =
-      refusal_in (absent_in path.TopDomains c)
+    refusal_in (absent_in path.TopDomains c)
     ∷ refusal_in (absent_in path.ExcludedTopDomains c)
     ∷ refusal_in (absent_in path.ResponseHeaders c)
     ∷ refusal_in (absent_in path.ExcludedResponseHeaders c)

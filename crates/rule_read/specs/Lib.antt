@@ -1,5 +1,0 @@
-pub mod MayRefuse
-pub mod Seen
-pub mod Parts
-pub mod Changes
-pub mod Reading
