@@ -10,7 +10,7 @@ use Rattle.std.specs.Str.{bytes_eq}
 use Rattle.std.specs.declared.alloc.Global.{Global}
 use Rattle.serde_json.specs.declared.value.Value.{Value}
 use Rattle.serde_json.specs.View.{members_view}
-use Rattle.session_spec.specs.Json.{tree_of, has_only}
+use Rattle.json_spec.specs.Json.{tree_of, has_only}
 
 -- the keys that a slice of references shows
 abbrev pub texts : List (Bor (List ℕ)) → List (List ℕ)

@@ -2,7 +2,7 @@
 ghost use Rattle.std.specs.Prelude.{◌≡◌, IfOk, option_map};
 ghost use Rattle.std.specs.Result.{result_ok};
 ghost use Rattle.serde_json.specs.View.{view as tree_view};
-ghost use Rattle.session_spec.specs.Json as json;
+ghost use Rattle.json_spec.specs.Json as json;
 ghost use Rattle.session_spec.specs.RequestLine as spec;
 ghost use Rattle.dnr_spec.specs.UrlView.{view_of};
 

@@ -3,7 +3,7 @@ ghost use Rattle.std.specs.Prelude.{◌≡◌, map, IfOk, option_map};
 ghost use Rattle.std.specs.List.{list_any};
 ghost use Rattle.std.specs.Str.{bytes_eq};
 ghost use Rattle.serde_json.specs.View.{view, members_view};
-ghost use Rattle.session_spec.specs.Json as spec;
+ghost use Rattle.json_spec.specs.Json as spec;
 ghost use Rattle.session_spec.specs.RuleFile as form;
 
 use dnr_spec::NoMemory;

@@ -1,6 +1,6 @@
 -- What every rule keeps, whatever file or list it comes from: Chrome's reference, `Rule`, `RuleCondition` and
 -- `RuleAction`, and the limits of this engine. It speaks of one rule alone.
-use Rattle.std.specs.Prelude.{◌≡◌, ℕ, ◌+◌, ◌<◌, ◌≤◌, List, [], ◌∷◌, length, codes, Bool, true, false, not, ◌&&◌, ◌||◌, IsTrue, IsAscii, IfSome, All, nat_le, nat_eq, Option, Some, None, is_some, is_none, Result, Ok}
+use Rattle.std.specs.Prelude.{◌≡◌, ℕ, ℤ, pos, negsuc, ◌+◌, ◌<◌, ◌≤◌, List, [], ◌∷◌, length, codes, Bool, true, false, not, ◌&&◌, ◌||◌, IsTrue, IsAscii, IfSome, All, nat_le, nat_eq, Option, Some, None, is_some, is_none, Result, Ok}
 use Rattle.std.specs.List.{list_all}
 use Rattle.std.specs.Char.{is_ascii}
 use Rattle.std.specs.Option.{option_map_or}
@@ -25,9 +25,13 @@ max_number = 2147483647
 abbrev pub max_regex : ℕ
 max_regex = 4096
 
--- the grammar reads a pattern in the text, which is ASCII, not empty and not too long
+-- ASCII, not empty and not too long
+abbrev pub is_regex_text : List ℕ → Bool
+is_regex_text text = nat_le 1 (length text) && nat_le (length text) max_regex && list_all is_ascii text
+
+-- the grammar reads a pattern in such a text
 abbrev pub is_regex_filter : List ℕ → Bool
-is_regex_filter text = nat_le 1 (length text) && nat_le (length text) max_regex && list_all is_ascii text && is_some (groups_of text)
+is_regex_filter text = is_regex_text text && is_some (groups_of text)
 
 abbrev pub is_number : ℕ → Bool
 is_number n = nat_le 1 n && nat_le n max_number
@@ -35,6 +39,14 @@ is_number n = nat_le 1 n && nat_le n max_number
 -- domains as they are kept: those that some list is read as
 abbrev pub AreDomains : List (List ℕ) → Type 0
 AreDomains domains = (list : List (List ℕ)) × (domains_of list ≡ Ok domains)
+
+-- a tab, or -1 where there is none
+abbrev pub is_tab : ℤ → Bool
+is_tab (pos n) = nat_le n max_number
+is_tab (negsuc n) = nat_le n 0
+
+abbrev pub AreTabs : List ℤ → Type 0
+AreTabs tabs = IsTrue (list_all is_tab tabs)
 
 -- a list that is given is not empty
 abbrev pub IsGivenWhole : {X : Type 0} → Option (List X) → Type 0
@@ -49,7 +61,8 @@ pub record IsCondition (condition : Condition) : Type 0 where
   pub hosts : IsGivenWhole condition.hosts × IfSome condition.hosts AreDomains
   pub not_hosts : AreDomains condition.not_hosts
   pub methods : IsGivenWhole condition.methods
-  pub tabs : IsGivenWhole condition.tabs
+  pub tabs : IsGivenWhole condition.tabs × IfSome condition.tabs AreTabs
+  pub not_tabs : AreTabs condition.not_tabs
 
 -- `main_frame` or `sub_frame`
 abbrev pub is_frame_kind : Kind → Bool

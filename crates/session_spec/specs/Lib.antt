@@ -3,16 +3,11 @@ pub mod Holds
 pub mod State
 pub mod Precedence
 pub mod Scan
-pub mod Json
 pub mod FileRefusal
 pub mod RuleFile
-pub mod RuleFields
-pub mod RuleAction
-pub mod ReadRule
 pub mod RequestLine
 pub mod Output
 pub mod Words
 pub mod Answers
 pub mod Out
 pub mod Examples
-pub mod RuleExamples

@@ -9,7 +9,7 @@ use Rattle.dnr_base.specs.declared.method.Method.TheVariants.{Get}
 use Rattle.dnr_base.specs.View.{View}
 use Rattle.dnr_spec.specs.Lines.{max_lines}
 use Rattle.dnr_spec.specs.UrlView.{view_of}
-use Rattle.session_spec.specs.Json.{tree_of, text_at, is_object_of}
+use Rattle.json_spec.specs.Json.{tree_of, text_at, is_object_of}
 use Rattle.dnr_base.specs.declared.request.Request.{Request}
 
 abbrev pub request_keys : List (List ℕ)

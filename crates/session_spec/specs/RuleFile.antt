@@ -11,7 +11,7 @@ use Rattle.session_spec.specs.declared.rule_fault.RuleFault.{RuleFault}
 use Rattle.session_spec.specs.declared.rule_fault.RuleFault.TheVariants as fault
 use Rattle.dnr_base.specs.Kind.{default_kinds}
 use Rattle.dnr_spec.specs.UrlFilter.{pattern_of}
-use Rattle.session_spec.specs.Json.{tree_of, whole_number, text_at, is_object_of}
+use Rattle.json_spec.specs.Json.{tree_of, whole_number, text_at, is_object_of}
 use Rattle.session_spec.specs.FileRefusal.{FileRefusal, bad_json, bad_rule}
 use Rattle.session_spec.specs.Rule.{Condition, Action, block, allow, Rule}
 

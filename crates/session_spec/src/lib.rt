@@ -4,7 +4,6 @@
 
 mod examples;
 mod outcome;
-mod rule_examples;
 mod rule_fault;
 
 pub use examples::{
@@ -17,9 +16,4 @@ pub use examples::{
     usage_is_for_bad_words,
 };
 pub use outcome::Outcome;
-pub use rule_examples::{
-    allow_all_lists_frames, fields_are_read, fields_come_before_filters, head_comes_in_order,
-    header_changes_have_forms, lists_come_in_order, old_names_stand_alone, redirects_have_forms,
-    second_of_an_id_is_named, session_rules_name_tabs,
-};
 pub use rule_fault::RuleFault;

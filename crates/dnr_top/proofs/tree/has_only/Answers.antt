@@ -1,6 +1,6 @@
 use Rattle.std.proofs.Common.{sym, ap, ◌∙◌, ◌&&◌}
 use Rattle.serde_json.specs.View.{members_view}
-use Rattle.session_spec.specs.Json.{has_only}
+use Rattle.json_spec.specs.Json.{has_only}
 use Rattle.dnr_top.proofs.Trees.{texts, has_only_next}
 use Rattle.dnr_top.proofs.tree.has_only.Goals as goal
 

@@ -1,6 +1,6 @@
 use Rattle.std.proofs.Common.{◌≡◌, map}
 use Rattle.serde_json.specs.View.{members_view}
-use Rattle.session_spec.specs.Json as spec
+use Rattle.json_spec.specs.Json as spec
 use Rattle.dnr_top.proofs.tree.has_only.Given as goal
 
 abbrev pub invariant-loop-key : goal.invariant-loop-key

@@ -4,10 +4,10 @@ use Rattle.std.specs.Str.{is_utf8}
 use Rattle.url.proofs.OnLiterals.{url_on_literals}
 use Rattle.serde_json.proofs.OnLiterals.{serde_json_on_literals}
 use Rattle.dnr_spec.specs.Headers.{is_name, is_appendable}
-use Rattle.session_spec.specs.RuleFields.{field_in, absent_in, old_list_in, fields_in}
-use Rattle.session_spec.specs.RuleAction.{part_in, transform_in, extension_in, url_in, substitution_in, redirect_in, changes_at, ops_in, modify_in, action_in}
-use Rattle.session_spec.specs.ReadRule.{domains_in, filters_in, domain_lists_in, lists_in, numbers_in, frames_in, tabs_in, rule_in, read_rules}
-use Rattle.session_spec.specs.RuleExamples.{FieldsAreRead, OldNamesStandAlone, HeadComesInOrder, FieldsComeBeforeFilters, ListsComeInOrder, SessionRulesNameTabs, AllowAllListsFrames, RedirectsHaveForms, HeaderChangesHaveForms, SecondOfAnIdIsNamed}
+use Rattle.json_spec.specs.RuleFields.{field_in, absent_in, old_list_in, fields_in}
+use Rattle.json_spec.specs.RuleAction.{part_in, transform_in, extension_in, url_in, substitution_in, redirect_in, changes_at, ops_in, modify_in, action_in}
+use Rattle.json_spec.specs.ReadRule.{domains_in, filters_in, domain_lists_in, lists_in, numbers_in, frames_in, tabs_in, rule_in, read_rules}
+use Rattle.json_spec.specs.Examples.{FieldsAreRead, OldNamesStandAlone, HeadComesInOrder, FieldsComeBeforeFilters, ListsComeInOrder, SessionRulesNameTabs, AllowAllListsFrames, RedirectsHaveForms, HeaderChangesHaveForms, SecondOfAnIdIsNamed}
 
 pub fields_are_read : FieldsAreRead
 unfolding url_on_literals serde_json_on_literals is_utf8 field_in absent_in old_list_in fields_in part_in transform_in extension_in url_in substitution_in redirect_in changes_at ops_in modify_in action_in domains_in filters_in domain_lists_in lists_in numbers_in frames_in tabs_in rule_in read_rules is_name is_appendable

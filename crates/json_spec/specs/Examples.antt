@@ -15,8 +15,8 @@ use Rattle.rule_spec.specs.declared.rule_refusal.RuleRefusal.TheVariants as refu
 use Rattle.rule_spec.specs.declared.rule_refusal.HeaderCause.TheVariants as cause
 use Rattle.rule_spec.specs.declared.placed_refusal.PlacedRefusal.{PlacedRefusal}
 use Rattle.rule_spec.specs.Rule.{Condition, Action, block, redirect, allow_all_requests, Rule}
-use Rattle.session_spec.specs.Json.{tree_of}
-use Rattle.session_spec.specs.ReadRule.{read_rule, read_rules}
+use Rattle.json_spec.specs.Json.{tree_of}
+use Rattle.json_spec.specs.ReadRule.{read_rule, read_rules}
 
 -- ---- what is read
 

@@ -32,8 +32,8 @@ use Rattle.rule_spec.specs.declared.rule_refusal.HeaderCause.{HeaderCause}
 use Rattle.rule_spec.specs.declared.rule_refusal.HeaderCause.TheVariants.{NoHeaders, BadShape, Op}
 use Rattle.rule_spec.specs.Rule.{Action, block, redirect, allow, upgrade_scheme, modify_headers, allow_all_requests}
 use Rattle.rule_spec.specs.Redirects.{is_short, is_new_host, is_new_port, is_new_path, is_new_query, is_new_fragment, is_new_scheme, is_extension_path, is_redirect_url, is_substitution, max_entries}
-use Rattle.session_spec.specs.Json.{text_at}
-use Rattle.session_spec.specs.RuleFields.{first_refusal, refused_if, refusal_in, unless_refused, each, list_of, as_texts}
+use Rattle.json_spec.specs.Json.{text_at}
+use Rattle.json_spec.specs.RuleFields.{first_refusal, refused_if, refusal_in, unless_refused, each, list_of, as_texts}
 
 -- ---- transforms
 

@@ -15,6 +15,7 @@ use Rattle.rule_spec.specs.declared.rule_refusal.RuleRefusal.{RuleRefusal}
 use Rattle.rule_spec.specs.declared.rule_refusal.RuleRefusal.TheVariants.{BadField}
 use Rattle.rule_spec.specs.RulePath.{key_of}
 use Rattle.rule_spec.specs.Holds.{has_tab}
+use Rattle.rule_spec.specs.IsRule.{is_tab}
 
 -- ---- the tests of a rule
 
@@ -81,10 +82,8 @@ method_set methods = filter (has_method methods) all_methods
 abbrev pub as_methods : Data → Option (List Method)
 as_methods d = option_map method_set (list_of as_method d)
 
--- -1 is a request from no tab
 abbrev pub tab_in_range : ℤ → Option ℤ
-tab_in_range (pos n) = if nat_le n 2147483647 then Some (pos n) else None
-tab_in_range (negsuc n) = if nat_le n 0 then Some (negsuc n) else None
+tab_in_range tab = if is_tab tab then Some tab else None
 
 abbrev pub as_tab : Data → Option ℤ
 as_tab d = option_and_then tab_in_range (option_and_then as_i64 (as_number d))

@@ -22,10 +22,10 @@ use Rattle.rule_spec.specs.declared.rule_refusal.RuleRefusal.{RuleRefusal}
 use Rattle.rule_spec.specs.declared.rule_refusal.RuleRefusal.TheVariants.{NotObject, BadId, DuplicateId, BadPriority, BadField, BothFilters, BadUrlFilter, BadRegex, BadDomain, EmptyList, BothTypeLists, AllowAllTypes, TabsNotSession, HostFault}
 use Rattle.rule_spec.specs.declared.placed_refusal.PlacedRefusal.{PlacedRefusal}
 use Rattle.rule_spec.specs.Rule.{Condition, Action, block, Rule}
-use Rattle.rule_spec.specs.IsRule.{is_number, is_regex_filter, is_frame_kind, IsRule}
-use Rattle.session_spec.specs.Json.{whole_number, text_at}
-use Rattle.session_spec.specs.RuleFields.{first_refusal, refused_if, refusal_in, unless_refused, Fields, fields_in}
-use Rattle.session_spec.specs.RuleAction.{type_of, action_in}
+use Rattle.rule_spec.specs.IsRule.{is_number, is_regex_text, is_frame_kind, IsRule}
+use Rattle.json_spec.specs.Json.{whole_number, text_at}
+use Rattle.json_spec.specs.RuleFields.{first_refusal, refused_if, refusal_in, unless_refused, Fields, fields_in}
+use Rattle.json_spec.specs.RuleAction.{type_of, action_in}
 
 -- ---- the condition
 
@@ -34,10 +34,15 @@ abbrev pub url_filter_test : Option (List ℕ) → Option RuleRefusal
 url_filter_test None = None
 url_filter_test (Some text) = option_map BadUrlFilter (result_err (pattern_of text))
 
--- of a regexFilter that is given and no pattern
-abbrev pub regex_filter_test : Option (List ℕ) → Option RuleRefusal
-regex_filter_test None = None
-regex_filter_test (Some text) = refused_if (not (is_regex_filter text)) BadRegex
+-- of a regexFilter that is given and empty, too long or not ASCII
+abbrev pub regex_text_test : Option (List ℕ) → Option RuleRefusal
+regex_text_test None = None
+regex_text_test (Some text) = refused_if (not (is_regex_text text)) BadRegex
+
+-- of one in which the grammar reads no pattern
+abbrev pub pattern_test : Option (List ℕ) → Option RuleRefusal
+pattern_test None = None
+pattern_test (Some text) = refused_if (is_none (groups_of text)) BadRegex
 
 abbrev pub given_domains : RulePath → Result (List (List ℕ)) DomainRefusal → Result (Option (List (List ℕ))) RuleRefusal
 given_domains field (Ok domains) = Ok (Some domains)
@@ -61,10 +66,11 @@ abbrev pub tests_before_pattern : Fields → List (Option RuleRefusal)
 tests_before_pattern f =
     refused_if (is_some f.url_filter && is_some f.regex_filter) BothFilters
     ∷ url_filter_test f.url_filter
+    ∷ regex_text_test f.regex_filter
     ∷ []
 
 abbrev pub filter_tests : Fields → List (Option RuleRefusal)
-filter_tests f = tests_before_pattern f ++ regex_filter_test f.regex_filter ∷ []
+filter_tests f = tests_before_pattern f ++ pattern_test f.regex_filter ∷ []
 
 -- the filters pass, or the first test that fails
 unfoldable pub filters_in : Fields → Result (Unit {0}) RuleRefusal

@@ -1,0 +1,17 @@
+//! Rules: what they are made of, and what every rule keeps.
+//!
+//! What a rule is stands in `rule_spec`, `specs/Rule.antt`, and what it keeps in `specs/IsRule.antt` there.
+#![tactic(auto)]
+
+mod action;
+mod condition;
+mod parts;
+mod rule;
+#[cfg(test)]
+mod tests;
+
+pub use action::Action;
+pub use condition::Condition;
+pub use parts::{ConditionParts, RuleParts};
+pub use rule::Rule;
+pub use rule_spec::{HeaderCause, PlacedRefusal, RuleKind, RulePath, RuleRefusal};

@@ -1,0 +1,6 @@
+pub mod Json
+pub mod RuleFields
+pub mod RuleAction
+pub mod ReadRule
+pub mod MayRefuse
+pub mod Examples

@@ -1,0 +1,10 @@
+//! What is read from JSON: how a text is a tree, and how a tree is a rule or a list of rules, or the first refusal.
+#![tactic(auto)]
+
+mod examples;
+
+pub use examples::{
+    allow_all_lists_frames, fields_are_read, fields_come_before_filters, head_comes_in_order,
+    header_changes_have_forms, lists_come_in_order, old_names_stand_alone, redirects_have_forms,
+    second_of_an_id_is_named, session_rules_name_tabs,
+};

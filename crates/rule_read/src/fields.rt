@@ -1,0 +1,231 @@
+ghost use Rattle.std.specs.Prelude.{◌≡◌, Ok, OnOk, IfOk, IfErr, option_map};
+ghost use Rattle.std.specs.Option.{option_copied};
+ghost use Rattle.serde_json.specs.View.{view};
+ghost use Rattle.serde_json.specs.Find.{as_str, as_bool};
+ghost use Rattle.dnr_base.specs.KindSet.{kinds_of};
+ghost use Rattle.dnr_base.specs.MethodSet.{methods_of};
+ghost use Rattle.json_spec.specs.RuleFields.{as_texts, as_party, as_kinds, as_methods, as_tabs, field_in, absent_in, old_list_in, fields_in};
+ghost use Rattle.json_spec.specs.MayRefuse.{IsRefused};
+ghost use Rattle.rule_read.specs.Seen.{fields_seen};
+
+use crate::forms;
+use dnr_base::{Items, KindSet, MethodSet, Text};
+use rule_spec::{RulePath, RuleRefusal};
+use serde_json::Value;
+use std::alloc::Global;
+
+// The fields of a condition as they stand in the file. Each is `None` where it is absent.
+#[derive(Drop)]
+pub(crate) struct Fields<'a> {
+    pub url_filter: Option<&'a str>,
+    pub regex_filter: Option<&'a str>,
+    pub case_sensitive: Option<bool>,
+    pub initiators: Option<Items<Text>>,
+    pub not_initiators: Option<Items<Text>>,
+    pub old_initiators: Option<Items<Text>>,
+    pub old_not_initiators: Option<Items<Text>>,
+    pub hosts: Option<Items<Text>>,
+    pub not_hosts: Option<Items<Text>>,
+    pub third_party: Option<bool>,
+    pub kinds: Option<KindSet>,
+    pub not_kinds: Option<KindSet>,
+    pub methods: Option<MethodSet>,
+    pub not_methods: Option<MethodSet>,
+    pub tabs: Option<Items<i32>>,
+    pub not_tabs: Option<Items<i32>>,
+}
+
+// Reads the fields of a condition, in the order in which they are tested.
+pub(crate) fn read_fields(alloc: Global, condition: &Value) -> Result<Fields<'_>, RuleRefusal>
+    ensures ok { IfOk result (λ fields. fields_in (view condition.now) ≡ Ok (fields_seen fields)) }
+    ensures refused { IfErr result (IsRefused (fields_in (view condition.now))) }
+{
+    test_absent(condition, RulePath::TopDomains)?;
+    test_absent(condition, RulePath::ExcludedTopDomains)?;
+    test_absent(condition, RulePath::ResponseHeaders)?;
+    test_absent(condition, RulePath::ExcludedResponseHeaders)?;
+    let url_filter = text_field(condition, RulePath::UrlFilter)?;
+    let regex_filter = text_field(condition, RulePath::RegexFilter)?;
+    let case_sensitive = bool_field(condition, RulePath::IsUrlFilterCaseSensitive)?;
+    let initiators = texts_field(alloc, condition, RulePath::InitiatorDomains)?;
+    let not_initiators = texts_field(alloc, condition, RulePath::ExcludedInitiatorDomains)?;
+    let (new, old) = (RulePath::InitiatorDomains, RulePath::Domains);
+    let old_initiators = old_field(alloc, condition, new, old)?;
+    let (new, old) = (RulePath::ExcludedInitiatorDomains, RulePath::ExcludedDomains);
+    let old_not_initiators = old_field(alloc, condition, new, old)?;
+    let hosts = texts_field(alloc, condition, RulePath::RequestDomains)?;
+    let not_hosts = texts_field(alloc, condition, RulePath::ExcludedRequestDomains)?;
+    let third_party = party_field(condition, RulePath::DomainType)?;
+    let kinds = kinds_field(alloc, condition, RulePath::ResourceTypes)?;
+    let not_kinds = kinds_field(alloc, condition, RulePath::ExcludedResourceTypes)?;
+    let methods = methods_field(alloc, condition, RulePath::RequestMethods)?;
+    let not_methods = methods_field(alloc, condition, RulePath::ExcludedRequestMethods)?;
+    let tabs = tabs_field(alloc, condition, RulePath::TabIds)?;
+    let not_tabs = tabs_field(alloc, condition, RulePath::ExcludedTabIds)?;
+    Ok(Fields {
+        url_filter,
+        regex_filter,
+        case_sensitive,
+        initiators,
+        not_initiators,
+        old_initiators,
+        old_not_initiators,
+        hosts,
+        not_hosts,
+        third_party,
+        kinds,
+        not_kinds,
+        methods,
+        not_methods,
+        tabs,
+        not_tabs,
+    })
+}
+
+// Refuses a field that no rule may have.
+#[tactic(auto, unfolding(json_spec::specs::RuleFields::absent_in))]
+fn test_absent(condition: &Value, field: RulePath) -> Result<(), RuleRefusal>
+    ensures ok { OnOk result (absent_in field (view condition.now) ≡ Ok tt) }
+    ensures refused { IfErr result (IsRefused (absent_in field (view condition.now))) }
+{
+    match condition.get(field.key()) {
+        None => Ok(()),
+        Some(_) => Err(RuleRefusal::BadField(field)),
+    }
+}
+
+#[tactic(auto, unfolding(json_spec::specs::RuleFields::field_in))]
+fn text_field(condition: &Value, field: RulePath) -> Result<Option<&str>, RuleRefusal>
+    ensures ok { IfOk result (λ text. field_in as_str field (view condition.now) ≡ Ok (option_copied text)) }
+    ensures refused { IfErr result (IsRefused (field_in as_str field (view condition.now))) }
+{
+    match condition.get(field.key()) {
+        None => Ok(None),
+        Some(value) => match value.as_str() {
+            Some(text) => Ok(Some(text)),
+            None => Err(RuleRefusal::BadField(field)),
+        },
+    }
+}
+
+#[tactic(auto, unfolding(json_spec::specs::RuleFields::field_in))]
+fn bool_field(condition: &Value, field: RulePath) -> Result<Option<bool>, RuleRefusal>
+    ensures ok { IfOk result (λ value. field_in as_bool field (view condition.now) ≡ Ok value) }
+    ensures refused { IfErr result (IsRefused (field_in as_bool field (view condition.now))) }
+{
+    match condition.get(field.key()) {
+        None => Ok(None),
+        Some(value) => match value.as_bool() {
+            Some(value) => Ok(Some(value)),
+            None => Err(RuleRefusal::BadField(field)),
+        },
+    }
+}
+
+#[tactic(auto, unfolding(json_spec::specs::RuleFields::field_in))]
+fn party_field(condition: &Value, field: RulePath) -> Result<Option<bool>, RuleRefusal>
+    ensures ok { IfOk result (λ party. field_in as_party field (view condition.now) ≡ Ok party) }
+    ensures refused { IfErr result (IsRefused (field_in as_party field (view condition.now))) }
+{
+    match condition.get(field.key()) {
+        None => Ok(None),
+        Some(value) => match forms::as_party(value) {
+            Some(party) => Ok(Some(party)),
+            None => Err(RuleRefusal::BadField(field)),
+        },
+    }
+}
+
+#[tactic(auto, unfolding(json_spec::specs::RuleFields::field_in))]
+fn texts_field(
+    alloc: Global,
+    condition: &Value,
+    field: RulePath,
+) -> Result<Option<Items<Text>>, RuleRefusal>
+    ensures ok { IfOk result (λ texts. field_in as_texts field (view condition.now) ≡ Ok texts) }
+    ensures refused { IfErr result (IsRefused (field_in as_texts field (view condition.now))) }
+{
+    let Some(value) = condition.get(field.key()) else {
+        return Ok(None);
+    };
+    match forms::as_texts(alloc, value) {
+        Ok(Some(texts)) => Ok(Some(texts)),
+        Ok(None) => Err(RuleRefusal::BadField(field)),
+        Err(_) => Err(RuleRefusal::NoMemory),
+    }
+}
+
+// The list of an old name, which does not stand beside that of the new one.
+#[tactic(auto, unfolding(json_spec::specs::RuleFields::old_list_in))]
+fn old_field(
+    alloc: Global,
+    condition: &Value,
+    new: RulePath,
+    old: RulePath,
+) -> Result<Option<Items<Text>>, RuleRefusal>
+    ensures ok { IfOk result (λ texts. old_list_in new old (view condition.now) ≡ Ok texts) }
+    ensures refused { IfErr result (IsRefused (old_list_in new old (view condition.now))) }
+{
+    let texts = texts_field(alloc, condition, old)?;
+    if texts.is_some() && condition.get(new.key()).is_some() {
+        return Err(RuleRefusal::BadField(old));
+    }
+    Ok(texts)
+}
+
+#[tactic(auto, unfolding(json_spec::specs::RuleFields::field_in))]
+fn kinds_field(
+    alloc: Global,
+    condition: &Value,
+    field: RulePath,
+) -> Result<Option<KindSet>, RuleRefusal>
+    ensures ok { IfOk result (λ kinds. field_in as_kinds field (view condition.now) ≡ Ok (option_map kinds_of kinds)) }
+    ensures refused { IfErr result (IsRefused (field_in as_kinds field (view condition.now))) }
+{
+    let Some(value) = condition.get(field.key()) else {
+        return Ok(None);
+    };
+    match forms::as_kinds(alloc, value) {
+        Ok(Some(kinds)) => Ok(Some(kinds)),
+        Ok(None) => Err(RuleRefusal::BadField(field)),
+        Err(_) => Err(RuleRefusal::NoMemory),
+    }
+}
+
+#[tactic(auto, unfolding(json_spec::specs::RuleFields::field_in))]
+fn methods_field(
+    alloc: Global,
+    condition: &Value,
+    field: RulePath,
+) -> Result<Option<MethodSet>, RuleRefusal>
+    ensures ok { IfOk result (λ methods. field_in as_methods field (view condition.now) ≡ Ok (option_map methods_of methods)) }
+    ensures refused { IfErr result (IsRefused (field_in as_methods field (view condition.now))) }
+{
+    let Some(value) = condition.get(field.key()) else {
+        return Ok(None);
+    };
+    match forms::as_methods(alloc, value) {
+        Ok(Some(methods)) => Ok(Some(methods)),
+        Ok(None) => Err(RuleRefusal::BadField(field)),
+        Err(_) => Err(RuleRefusal::NoMemory),
+    }
+}
+
+#[tactic(auto, unfolding(json_spec::specs::RuleFields::field_in))]
+fn tabs_field(
+    alloc: Global,
+    condition: &Value,
+    field: RulePath,
+) -> Result<Option<Items<i32>>, RuleRefusal>
+    ensures ok { IfOk result (λ tabs. field_in as_tabs field (view condition.now) ≡ Ok tabs) }
+    ensures refused { IfErr result (IsRefused (field_in as_tabs field (view condition.now))) }
+{
+    let Some(value) = condition.get(field.key()) else {
+        return Ok(None);
+    };
+    match forms::as_tabs(alloc, value) {
+        Ok(Some(tabs)) => Ok(Some(tabs)),
+        Ok(None) => Err(RuleRefusal::BadField(field)),
+        Err(_) => Err(RuleRefusal::NoMemory),
+    }
+}

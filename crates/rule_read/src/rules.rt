@@ -1,0 +1,216 @@
+ghost use Rattle.std.specs.Prelude.{◌≡◌, ◌++◌, [], ◌∷◌, ℕ, List, min, length, map, false, codes, Ok, Err, OnOk, OnErr, IfOk, IfErr, IfSome, option_map};
+ghost use Rattle.std.specs.Ordering.{nat_cmp};
+ghost use Rattle.std.specs.BTreeSet.{contains};
+ghost use Rattle.serde_json.specs.View.{view, items_view};
+ghost use Rattle.serde_json.specs.Find.{as_array};
+ghost use Rattle.dnr_base.specs.Faults.{Rose};
+ghost use Rattle.json_spec.specs.ReadRule as spec;
+ghost use Rattle.json_spec.specs.ReadRule.{rule_in, IsRuleAtPattern};
+ghost use Rattle.std.specs.Prelude.{unwrap_or};
+ghost use Rattle.std.specs.Option.{option_copied};
+ghost use Rattle.dnr_base.specs.MethodSet.{methods_of};
+ghost use Rattle.dnr_rules.specs.Seen.{condition_seen};
+ghost use Rattle.json_spec.specs.MayRefuse.{MayRefuse};
+ghost use Rattle.rule_read.specs.Seen.{fields_seen, lists_seen};
+ghost use Rattle.rule_read.specs.Reading.{Taken, MayStop, ReadsNext, StopsAt};
+
+use crate::action::{read_action, test_frames};
+use crate::conditions::{
+    DomainLists, Filters, kinds_in, read_domain_lists, read_filters, test_lists, test_tabs,
+};
+use crate::fields::{Fields, read_fields};
+use crate::numbers::{Numbers, id_of, read_numbers};
+use dnr_base::{Items, MethodSet};
+use dnr_rules::{Action, ConditionParts, PlacedRefusal, Rule, RuleKind, RuleParts, RuleRefusal};
+use regex_host::RegexHost;
+use serde_json::Value;
+use std::alloc::Global;
+use std::collections::BTreeSet;
+
+/// Reads a rule: Chrome's reference of declarativeNetRequest, `Rule`. Letters of domains, of a transform's host
+/// and of names of headers are read in lower case. An entry of a list of types, methods or tabs counts once.
+/// Keys that are not known are ignored.
+///
+/// # Errors
+///
+/// The first refusal in the order of `RuleRefusal`; a rule alone is no `DuplicateId`. Or, where it comes:
+///
+/// - `HostFault`: the host failed at the pattern of the regexFilter, and its count of faults rose in this call.
+/// - `NoMemory`: memory ran out.
+pub fn read_rule<H: RegexHost>(
+    alloc: Global,
+    value: &Value,
+    kind: RuleKind,
+    host: &mut H,
+) -> Result<Rule, RuleRefusal>
+    ensures ok { IfOk result (λ rule. spec.read_rule kind (view value.now) ≡ Ok rule) }
+    ensures refused { IfErr result (MayRefuse (spec.read_rule kind (view value.now))
+        (Rose (H.faults host.old) (H.faults host.new) × IsRuleAtPattern (λ id. false) (view value.now))) }
+{
+    let taken = BTreeSet::new(alloc);
+    read_among(alloc, value, kind, &taken, host)
+}
+
+// Reads a rule whose id is not one of those that are taken.
+fn read_among<H: RegexHost>(
+    alloc: Global,
+    value: &Value,
+    kind: RuleKind,
+    taken: &BTreeSet<u32>,
+    host: &mut H,
+) -> Result<Rule, RuleRefusal>
+    ensures ok { IfOk result (λ rule. rule_in kind (λ id. contains nat_cmp taken.now id) (view value.now) ≡ Ok rule) }
+    ensures refused { IfErr result (MayRefuse (rule_in kind (λ id. contains nat_cmp taken.now id) (view value.now))
+        (Rose (H.faults host.old) (H.faults host.new) × IsRuleAtPattern (λ id. contains nat_cmp taken.now id) (view value.now))) }
+{
+    let numbers = read_numbers(value, taken)?;
+    let fields = read_fields(alloc, numbers.condition)?;
+    let filters = read_filters(alloc, &fields, host)?;
+    let lists = read_domain_lists(alloc, &fields)?;
+    test_lists(&fields)?;
+    test_frames(value.get("action"), &fields)?;
+    test_tabs(kind, &fields)?;
+    let action = read_action(alloc, value.get("action"), filters.groups)?;
+    Ok(Rule::build(RuleParts {
+        id: numbers.id,
+        priority: numbers.priority,
+        condition: condition_of(alloc, fields, filters, lists),
+        action,
+    }))
+}
+
+// The condition of what was read.
+fn condition_of(
+    alloc: Global,
+    fields: Fields<'_>,
+    filters: Filters,
+    lists: DomainLists,
+) -> ConditionParts
+    requires url_filter { filters.url_filter ≡ option_copied fields.url_filter }
+    requires regex_filter { filters.regex_filter ≡ option_copied fields.regex_filter }
+    ensures { condition_seen result ≡ spec.condition_of (fields_seen fields.entry) (lists_seen lists) }
+{
+    let Filters {
+        url_filter,
+        regex_filter,
+        groups: _,
+    } = filters;
+    ConditionParts {
+        url_filter,
+        regex_filter,
+        case_sensitive: fields.case_sensitive.unwrap_or(false),
+        initiators: lists.initiators,
+        not_initiators: lists.not_initiators,
+        hosts: lists.hosts,
+        not_hosts: lists.not_hosts,
+        third_party: fields.third_party,
+        kinds: kinds_in(fields.kinds, fields.not_kinds),
+        methods: fields.methods,
+        not_methods: methods_or_none(fields.not_methods),
+        tabs: fields.tabs,
+        not_tabs: tabs_or_none(alloc, fields.not_tabs),
+    }
+}
+
+fn methods_or_none(methods: Option<MethodSet>) -> MethodSet
+    ensures { methods_of result ≡ unwrap_or (option_map methods_of methods) [] }
+{
+    match methods {
+        Some(methods) => methods,
+        None => MethodSet::empty(),
+    }
+}
+
+fn tabs_or_none(alloc: Global, tabs: Option<Items<i32>>) -> Items<i32>
+    ensures { result ≡ unwrap_or tabs [] }
+{
+    match tabs {
+        Some(tabs) => tabs,
+        None => Items::build(Vec::new(alloc)),
+    }
+}
+
+/// Reads a list of rules, of which each has an id of its own.
+///
+/// # Errors
+///
+/// The first rule of the list that is refused, with its place and its id; the second rule of an id is
+/// `DuplicateId`. A value that is no list is `NotObject` at place 0. `HostFault` and `NoMemory` stop the reading
+/// where they come.
+pub fn read_rules<H: RegexHost>(
+    alloc: Global,
+    value: &Value,
+    kind: RuleKind,
+    host: &mut H,
+) -> Result<Vec<Rule>, PlacedRefusal>
+    ensures ok { IfOk result (λ rules. spec.read_rules kind (view value.now) ≡ Ok rules.items) }
+    ensures refused { IfErr result (MayStop kind (as_array (view value.now)) (Rose (H.faults host.old) (H.faults host.new))) }
+{
+    match value.as_array() {
+        Some(values) => read_list(alloc, values, kind, host),
+        None => Err(PlacedRefusal {
+            place: 0,
+            id: None,
+            cause: RuleRefusal::NotObject,
+            set: None,
+        }),
+    }
+}
+
+fn read_list<H: RegexHost>(
+    alloc: Global,
+    values: &[Value],
+    kind: RuleKind,
+    host: &mut H,
+) -> Result<Vec<Rule>, PlacedRefusal>
+    ensures ok { IfOk result (λ rules. spec.read_from kind [] (items_view values.now) ≡ Ok rules.items) }
+    ensures refused { IfErr result (MayStop kind (Some (items_view values.now)) (Rose (H.faults host.old) (H.faults host.new))) }
+{
+    let mut taken = BTreeSet::new(alloc);
+    let mut rules = Vec::new(alloc);
+    for value in values {
+        read_next(alloc, value, kind, host, &mut taken, &mut rules)?;
+    }
+    Ok(rules)
+}
+
+/// Reads the next rule of a list, behind the rules that were read, whose ids are taken.
+///
+/// # Errors
+///
+/// The refusal of the rule, with its place behind the others and its id. `rules` is then as it was, and `taken` may
+/// have the id of the rule besides.
+pub fn read_next<H: RegexHost>(
+    alloc: Global,
+    value: &Value,
+    kind: RuleKind,
+    host: &mut H,
+    taken: &mut BTreeSet<u32>,
+    rules: &mut Vec<Rule>,
+) -> Result<(), PlacedRefusal>
+    requires { Taken taken.old rules.old.items }
+    ensures taken { OnOk result (Taken taken.new rules.new.items) }
+    ensures read { OnOk result (ReadsNext kind (view value.now) rules.old.items rules.new.items) }
+    ensures refused { IfErr result (StopsAt kind (view value.now) rules.old.items (Rose (H.faults host.old) (H.faults host.new))) }
+{
+    let rule = match read_among(alloc, value, kind, taken, host) {
+        Ok(rule) => rule,
+        Err(cause) => return Err(placed(rules.len(), value, cause)),
+    };
+    if taken.insert(rule.id()).is_err() || rules.push(rule).is_err() {
+        return Err(placed(rules.len(), value, RuleRefusal::NoMemory));
+    }
+    Ok(())
+}
+
+// The refusal of the rule at this place.
+fn placed(place: usize, value: &Value, cause: RuleRefusal) -> PlacedRefusal
+    ensures { result ≡ spec.placed place (view value.now) cause }
+{
+    PlacedRefusal {
+        place: u32::try_from(place).unwrap_or(u32::MAX),
+        id: id_of(value),
+        cause,
+        set: None,
+    }
+}
