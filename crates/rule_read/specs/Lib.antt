@@ -1,4 +1,2 @@
 pub mod Seen
-pub mod Parts
-pub mod Changes
 pub mod Reading

@@ -8,13 +8,14 @@ ghost use Rattle.dnr_spec.specs.Patterns.{groups_of};
 ghost use Rattle.json_spec.specs.ReadRule as spec;
 ghost use Rattle.json_spec.specs.ReadRule.{filters_in, domains_in, domain_lists_in, lists_in, tabs_in, IsAtPattern, kinds_from};
 ghost use Rattle.json_spec.specs.MayRefuse.{MayRefuse, IsRefused, RefusesTest};
-ghost use Rattle.rule_read.specs.Seen.{fields_seen, lists_seen};
+ghost use Rattle.rule_fields.specs.Seen.{fields_seen};
+ghost use Rattle.rule_read.specs.Seen.{lists_seen};
 
-use crate::fields::Fields;
 use dnr_base::{Items, Kind, KindSet, MethodSet, NoMemory, Text};
 use dnr_spec::{DomainRefusal, PatternRefusal};
 use domain_set::DomainSet;
 use regex_host::{HostRefusal, RegexHost};
+use rule_fields::Fields;
 use rule_spec::{RuleKind, RulePath, RuleRefusal};
 use std::alloc::Global;
 use url_filter::Pattern;

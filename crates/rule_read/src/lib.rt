@@ -1,18 +1,12 @@
 //! Rules from JSON, as Chrome's reference of declarativeNetRequest writes them.
 //!
-//! What a rule is read as, and which refusal comes first, stands in `session_spec`, `specs/RuleFields.antt`,
-//! `specs/RuleAction.antt` and `specs/ReadRule.antt`.
+//! What a rule is read as, and which refusal comes first, stands in `json_spec`, `specs/ReadRule.antt`.
 #![tactic(auto)]
 
-mod action;
 mod conditions;
-mod fields;
-mod forms;
-mod headers;
+mod frames;
 mod numbers;
-mod redirects;
 mod rules;
-mod transforms;
 #[cfg(test)]
 mod tests;
 

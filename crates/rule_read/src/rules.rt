@@ -11,18 +11,20 @@ ghost use Rattle.std.specs.Option.{option_copied};
 ghost use Rattle.dnr_base.specs.MethodSet.{methods_of};
 ghost use Rattle.dnr_rules.specs.Seen.{condition_seen};
 ghost use Rattle.json_spec.specs.MayRefuse.{MayRefuse};
-ghost use Rattle.rule_read.specs.Seen.{fields_seen, lists_seen};
+ghost use Rattle.rule_fields.specs.Seen.{fields_seen};
+ghost use Rattle.rule_read.specs.Seen.{lists_seen};
 ghost use Rattle.rule_read.specs.Reading.{Taken, MayStop, ReadsNext, StopsAt};
 
-use crate::action::{read_action, test_frames};
+use crate::frames::test_frames;
 use crate::conditions::{
     DomainLists, Filters, kinds_in, read_domain_lists, read_filters, test_lists, test_tabs,
 };
-use crate::fields::{Fields, read_fields};
 use crate::numbers::{Numbers, id_of, read_numbers};
+use action_read::read_action;
 use dnr_base::{Items, MethodSet};
 use dnr_rules::{Action, ConditionParts, PlacedRefusal, Rule, RuleKind, RuleParts, RuleRefusal};
 use regex_host::RegexHost;
+use rule_fields::{Fields, read_fields};
 use serde_json::Value;
 use std::alloc::Global;
 use std::collections::BTreeSet;

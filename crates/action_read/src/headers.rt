@@ -6,7 +6,7 @@ ghost use Rattle.json_spec.specs.RuleAction as spec;
 ghost use Rattle.json_spec.specs.RuleAction.{changes_at, ops_in, modify_in};
 ghost use Rattle.dnr_rules.specs.Seen.{action_seen};
 ghost use Rattle.json_spec.specs.MayRefuse.{IsRefused};
-ghost use Rattle.rule_read.specs.Changes.{change_seen, changes_seen};
+ghost use Rattle.action_read.specs.Changes.{change_seen, changes_seen};
 
 use dnr_base::{Direction, Items, NoMemory, Operation};
 use dnr_rules::Action;

@@ -9,7 +9,7 @@ ghost use Rattle.json_spec.specs.RuleFields.{each};
 ghost use Rattle.json_spec.specs.RuleAction as spec;
 ghost use Rattle.json_spec.specs.RuleAction.{part_in, transform_in};
 ghost use Rattle.json_spec.specs.MayRefuse.{IsRefused};
-ghost use Rattle.rule_read.specs.Parts.{test_of};
+ghost use Rattle.action_read.specs.Parts.{test_of};
 
 use dnr_base::{Items, NoMemory, QueryPair, QueryTransform, Scheme, Text, Transform};
 use rule_spec::RuleRefusal;

@@ -6,7 +6,7 @@ ghost use Rattle.dnr_base.specs.KindSet.{kinds_of};
 ghost use Rattle.dnr_base.specs.MethodSet.{methods_of};
 ghost use Rattle.json_spec.specs.RuleFields.{as_texts, as_party, as_kinds, as_methods, as_tabs, field_in, absent_in, old_list_in, fields_in};
 ghost use Rattle.json_spec.specs.MayRefuse.{IsRefused};
-ghost use Rattle.rule_read.specs.Seen.{fields_seen};
+ghost use Rattle.rule_fields.specs.Seen.{fields_seen};
 
 use crate::forms;
 use dnr_base::{Items, KindSet, MethodSet, Text};
@@ -16,7 +16,7 @@ use std::alloc::Global;
 
 // The fields of a condition as they stand in the file. Each is `None` where it is absent.
 #[derive(Drop)]
-pub(crate) struct Fields<'a> {
+pub struct Fields<'a> {
     pub url_filter: Option<&'a str>,
     pub regex_filter: Option<&'a str>,
     pub case_sensitive: Option<bool>,
@@ -36,7 +36,7 @@ pub(crate) struct Fields<'a> {
 }
 
 // Reads the fields of a condition, in the order in which they are tested.
-pub(crate) fn read_fields(alloc: Global, condition: &Value) -> Result<Fields<'_>, RuleRefusal>
+pub fn read_fields(alloc: Global, condition: &Value) -> Result<Fields<'_>, RuleRefusal>
     ensures ok { IfOk result (λ fields. fields_in (view condition.now) ≡ Ok (fields_seen fields)) }
     ensures refused { IfErr result (IsRefused (fields_in (view condition.now))) }
 {

@@ -2,7 +2,7 @@
 use Rattle.std.specs.Prelude.{List, map}
 use Rattle.std.specs.Option.{option_copied}
 use Rattle.json_spec.specs.RuleAction as spec
-use Rattle.rule_read.specs.declared.headers.Change.{Change}
+use Rattle.action_read.specs.declared.headers.Change.{Change}
 
 abbrev pub change_seen : Change → spec.Change
 change_seen change = record { header = change.header.now; operation = change.operation; value = option_copied change.value }

@@ -1,0 +1,9 @@
+//! The fields of a rule's condition from JSON: which forms they have, and which of them is refused first.
+//!
+//! What each is read as stands in `json_spec`, `specs/RuleFields.antt`.
+#![tactic(auto)]
+
+mod fields;
+mod forms;
+
+pub use fields::{Fields, read_fields};
