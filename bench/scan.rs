@@ -18,9 +18,46 @@ enum Action {
 struct Rule {
     id: u32,
     priority: u32,
+    types: u16,
+    methods: Option<u16>,
+    hosts: Option<Vec<String>>,
+    initiators: Option<Vec<String>>,
+    third_party: Option<bool>,
     filter: Option<Filter>,
     action: Action,
 }
+
+/// What rules are tested on. The text is in lower case.
+struct Request {
+    text: String,
+    host: Range<usize>,
+    initiator: Option<String>,
+    third_party: bool,
+    kind: u16,
+    method: u16,
+}
+
+/// The names of types and methods, of which each is a bit.
+const TYPES: [&str; 15] = [
+    "main_frame",
+    "sub_frame",
+    "stylesheet",
+    "script",
+    "image",
+    "font",
+    "object",
+    "xmlhttprequest",
+    "ping",
+    "csp_report",
+    "media",
+    "websocket",
+    "webtransport",
+    "webbundle",
+    "other",
+];
+const METHODS: [&str; 9] = [
+    "connect", "delete", "get", "head", "options", "patch", "post", "put", "other",
+];
 
 #[derive(PartialEq)]
 enum Anchor {
@@ -140,37 +177,118 @@ fn between<'a>(line: &'a str, before: &str, after: &str) -> Option<&'a str> {
     Some(rest.split_once(after)?.0)
 }
 
+/// The texts of the list of this key.
+fn list_of(line: &str, key: &str) -> Option<Vec<String>> {
+    let (_, rest) = line.split_once(&format!("\"{key}\":["))?;
+    let list = rest.split_once(']')?.0;
+    Some(
+        list.split(',')
+            .map(|name| name.trim_matches('"').to_string())
+            .collect(),
+    )
+}
+
+fn bit_of(table: &[&str], name: &str) -> u16 {
+    table
+        .iter()
+        .position(|other| *other == name)
+        .map_or(0, |place| 1 << place)
+}
+
+fn bits_of(table: &[&str], names: &[String]) -> u16 {
+    names
+        .iter()
+        .fold(0, |bits, name| bits | bit_of(table, name))
+}
+
 fn read_rule(line: &str) -> Option<Rule> {
+    let types = list_of(line, "resourceTypes").map(|names| bits_of(&TYPES, &names));
     Some(Rule {
         id: between(line, "\"id\":", ",")?.parse().ok()?,
         priority: between(line, "\"priority\":", ",")?.parse().ok()?,
+        types: types.unwrap_or(0x7ffe),
+        methods: list_of(line, "requestMethods").map(|names| bits_of(&METHODS, &names)),
+        hosts: list_of(line, "requestDomains"),
+        initiators: list_of(line, "initiatorDomains"),
+        third_party: between(line, "\"domainType\":\"", "\"").map(|name| name == "thirdParty"),
         filter: between(line, "\"urlFilter\":\"", "\"").map(Filter::new),
-        action: match between(line, "\"type\":\"", "\"")? {
+        action: match between(line, "\"action\":{\"type\":\"", "\"")? {
             "allow" => Action::Allow,
             _ => Action::Block,
         },
     })
 }
 
-fn deciding<'a>(rules: &'a [Rule], text: &[u8], host: &Range<usize>) -> Option<&'a Rule> {
-    rules
-        .iter()
-        .filter(|rule| match &rule.filter {
-            Some(filter) => filter.matches(text, host),
-            None => true,
-        })
-        .min_by_key(|rule| (Reverse(rule.priority), rule.action, rule.id))
+fn host_in(url: &str) -> Option<Range<usize>> {
+    let start = url.find("://")? + 3;
+    let end = url[start..]
+        .find('/')
+        .map_or(url.len(), |length| start + length);
+    Some(start..end)
 }
 
-fn verdict<'a>(rules: &'a [Rule], line: &str) -> Option<&'a Rule> {
-    let url = between(line, "\"url\":\"", "\"")?;
-    if between(line, "\"type\":\"", "\"")? == "main_frame" {
-        return None;
+/// The last two labels: without a suffix list each last label is a suffix.
+fn registrable(host: &str) -> &str {
+    match host.rmatch_indices('.').nth(1) {
+        Some((dot, _)) => &host[dot + 1..],
+        None => host,
     }
-    let text = url.to_ascii_lowercase();
-    let start = text.find("://")? + 3;
-    let end = start + text[start..].find('/')?;
-    deciding(rules, text.as_bytes(), &(start..end))
+}
+
+fn read_request(line: &str) -> Option<Request> {
+    let text = between(line, "\"url\":\"", "\"")?.to_ascii_lowercase();
+    let host = host_in(&text)?;
+    let initiator = between(line, "\"initiator\":\"", "\"")
+        .and_then(|url| Some(url[host_in(url)?].to_string()));
+    let third_party = initiator
+        .as_ref()
+        .is_none_or(|other| registrable(other) != registrable(&text[host.clone()]));
+    Some(Request {
+        third_party,
+        initiator,
+        host,
+        kind: bit_of(&TYPES, between(line, "\"type\":\"", "\"")?),
+        method: bit_of(&METHODS, between(line, "\"method\":\"", "\"").unwrap_or("get")),
+        text,
+    })
+}
+
+fn covers(domains: &[String], host: &str) -> bool {
+    domains.iter().any(|domain| {
+        host.strip_suffix(domain.as_str())
+            .is_some_and(|rest| rest.is_empty() || rest.ends_with('.'))
+    })
+}
+
+fn holds(rule: &Rule, request: &Request) -> bool {
+    rule.types & request.kind != 0
+        && rule
+            .methods
+            .is_none_or(|methods| methods & request.method != 0)
+        && rule
+            .hosts
+            .as_ref()
+            .is_none_or(|domains| covers(domains, &request.text[request.host.clone()]))
+        && rule
+            .filter
+            .as_ref()
+            .is_none_or(|filter| filter.matches(request.text.as_bytes(), &request.host))
+        && rule.initiators.as_ref().is_none_or(|domains| {
+            request
+                .initiator
+                .as_ref()
+                .is_some_and(|host| covers(domains, host))
+        })
+        && rule
+            .third_party
+            .is_none_or(|third| third == request.third_party)
+}
+
+fn deciding<'a>(rules: &'a [Rule], request: &Request) -> Option<&'a Rule> {
+    rules
+        .iter()
+        .filter(|rule| holds(rule, request))
+        .min_by_key(|rule| (Reverse(rule.priority), rule.action, rule.id))
 }
 
 fn main() -> io::Result<()> {
@@ -187,7 +305,7 @@ fn main() -> io::Result<()> {
             "{{\"line\":{},\"generation\":0,\"verdict\":",
             index + 1
         )?;
-        match verdict(&rules, line) {
+        match read_request(line).and_then(|request| deciding(&rules, &request)) {
             None => writeln!(out, "\"none\"}}")?,
             Some(rule) => {
                 let outcome = match rule.action {
