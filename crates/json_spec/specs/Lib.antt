@@ -2,5 +2,6 @@ pub mod Json
 pub mod RuleFields
 pub mod RuleAction
 pub mod ReadRule
+pub mod RulesFile
 pub mod MayRefuse
 pub mod Examples
