@@ -4,3 +4,6 @@ pub mod RuleAction
 pub mod ReadRule
 pub mod MayRefuse
 pub mod Examples
+pub mod CommandPath
+pub mod RequestLine
+pub mod RequestExamples
