@@ -5,3 +5,6 @@ pub mod ReadRule
 pub mod RulesFile
 pub mod MayRefuse
 pub mod Examples
+pub mod CommandPath
+pub mod RequestLine
+pub mod RequestExamples
