@@ -1,14 +1,13 @@
 -- What a session prints for the lines of its script: a relation, in which a state is carried along.
-use Rattle.std.specs.Prelude.{◌≡◌, ◌⊎◌, ℕ, ◌+◌, List, [], ◌∷◌, ◌++◌, true, false, Bool, Result, Ok, Err}
-use Rattle.dnr_base.specs.declared.request.Request.{Request}
+use Rattle.std.specs.Prelude.{◌≡◌, ◌⊎◌, ℕ, ◌+◌, List, [], ◌∷◌, ◌++◌, Result, Ok, Err}
 use Rattle.dnr_base.specs.declared.rule_name.RuleName.{RuleName}
-use Rattle.dnr_spec.specs.Lines.{is_blank}
 use Rattle.dnr_spec.specs.Suffixes.{SuffixRule}
 use Rattle.rule_spec.specs.State.{State}
 use Rattle.rule_spec.specs.Scan.{scan}
 use Rattle.rule_spec.specs.PatternRule.{NamesPattern}
-use Rattle.json_spec.specs.RequestLine.{LineFault, match_line}
-use Rattle.json_spec.specs.ReplyLines.{verdict_line, bad_line, fault_line}
+use Rattle.json_spec.specs.declared.line_fault.LineFault.{LineFault}
+use Rattle.json_spec.specs.RequestLine.{Command, blank, request, explain, command_of}
+use Rattle.json_spec.specs.ReplyLines.{verdict_line, bad_line, fault_line, not_yet_line}
 
 -- What the answers of a session rest on beside its state: the suffix list, and whether the count of the pattern host
 -- that decides requests rose in the run.
@@ -23,20 +22,18 @@ pub record SaysFault (rose : Type 0) (state : State) (number : ℕ) (said : List
   pub pattern : NamesPattern state rule
   pub line : said ≡ fault_line number state.count rule
 
--- a line that is not blank prints its request's verdict or a fault, or why it is no request
-abbrev pub Says : Setting → State → ℕ → Result Request LineFault → List ℕ → Type 0
+-- A request prints its verdict or a fault, and a line that can't be read why not. A blank line prints nothing. Nothing
+-- is explained yet.
+abbrev pub Says : Setting → State → ℕ → Result Command LineFault → List ℕ → Type 0
+Says setting state number (Ok blank) said = said ≡ []
+Says setting state number (Ok (request r)) said =
+    (said ≡ verdict_line number state.count (scan setting.suffixes state r)) ⊎ SaysFault setting.rose state number said
+Says setting state number (Ok (explain r)) said = said ≡ not_yet_line number
 Says setting state number (Err fault) said = said ≡ bad_line number fault
-Says setting state number (Ok request) said =
-    (said ≡ verdict_line number state.count (scan setting.suffixes state request)) ⊎ SaysFault setting.rose state number said
-
--- a blank line prints nothing
-abbrev pub SaysUnlessBlank : Bool → Setting → State → ℕ → List ℕ → List ℕ → Type 0
-SaysUnlessBlank true setting state number line said = said ≡ []
-SaysUnlessBlank false setting state number line said = Says setting state number (match_line number line) said
 
 -- a line of this number, in this state, may print this, and leave that state
 pub record Answer (setting : Setting) (now : State) (number : ℕ) (line said : List ℕ) (after : State) : Type 0 where
-  pub reply : SaysUnlessBlank (is_blank line) setting now number line said
+  pub reply : Says setting now number (command_of number line) said
   pub state : after ≡ now
 
 -- what a first line said and what the others said

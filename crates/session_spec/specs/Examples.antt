@@ -1,28 +1,30 @@
 -- Examples, each computed from the definitions alone.
 use Rattle.std.specs.Prelude.{◌≡◌, ℕ, ◌+◌, List, [], ◌∷◌, ◌++◌, codes, Bool, true, false, Some, None, Result, Ok, Err, replicate, bytes_eq, if◌then◌else◌}
 use Rattle.dnr_base.specs.Faults.{Count}
-use Rattle.dnr_base.specs.declared.request.Request.{Request}
 use Rattle.dnr_spec.specs.declared.status.Status.TheVariants as status
-use Rattle.dnr_spec.specs.Lines.{lines_of, is_blank}
+use Rattle.dnr_spec.specs.Lines.{lines_of}
 use Rattle.rule_spec.specs.declared.rule_kind.RuleKind.TheVariants.{Static, Session}
 use Rattle.rule_spec.specs.Rule.{Rule}
 use Rattle.rule_spec.specs.State.{State}
 use Rattle.rule_spec.specs.Scan.{scan}
 use Rattle.json_spec.specs.RulesFile.{FileRefusal, rules_of}
-use Rattle.json_spec.specs.RequestLine.{LineFault, match_line}
-use Rattle.json_spec.specs.ReplyLines.{verdict_line, bad_line}
+use Rattle.json_spec.specs.declared.line_fault.LineFault.{LineFault}
+use Rattle.json_spec.specs.RequestLine.{Command, blank, request, explain, command_of}
+use Rattle.json_spec.specs.ReplyLines.{verdict_line, bad_line, not_yet_line}
 use Rattle.session_spec.specs.Refusals.{refusal_line, count_line}
 use Rattle.session_spec.specs.Words.{match_files, check_file, task_of}
 use Rattle.session_spec.specs.Out.{Files, Counts, opening, Out}
 
 -- ---- what `match` writes where no host fails
 
-abbrev pub reply_to : State → ℕ → Result Request LineFault → List ℕ
+abbrev pub reply_to : State → ℕ → Result Command LineFault → List ℕ
+reply_to state number (Ok blank) = []
+reply_to state number (Ok (request r)) = verdict_line number state.count (scan [] state r)
+reply_to state number (Ok (explain r)) = not_yet_line number
 reply_to state number (Err fault) = bad_line number fault
-reply_to state number (Ok request) = verdict_line number state.count (scan [] state request)
 
 abbrev pub reply_of : State → ℕ → List ℕ → List ℕ
-reply_of state number line = if is_blank line then [] else reply_to state number (match_line number line)
+reply_of state number line = reply_to state number (command_of number line)
 
 -- the replies to the lines, which are numbered from this one on
 abbrev pub replies : State → ℕ → List (List ℕ) → List ℕ
