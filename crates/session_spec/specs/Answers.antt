@@ -7,7 +7,7 @@ use Rattle.rule_spec.specs.Scan.{scan}
 use Rattle.rule_spec.specs.PatternRule.{NamesPattern}
 use Rattle.json_spec.specs.declared.line_fault.LineFault.{LineFault}
 use Rattle.json_spec.specs.RequestLine.{Command, blank, request, explain, command_of}
-use Rattle.json_spec.specs.ReplyLines.{verdict_line, bad_line, fault_line, not_yet_line}
+use Rattle.session_spec.specs.Output.{verdict_line, bad_line, fault_line, not_yet_line}
 
 -- What the answers of a session rest on beside its state: the suffix list, and whether the count of the pattern host
 -- that decides requests rose in the run.

@@ -10,7 +10,7 @@ use Rattle.rule_spec.specs.Scan.{scan}
 use Rattle.json_spec.specs.RulesFile.{FileRefusal, rules_of}
 use Rattle.json_spec.specs.declared.line_fault.LineFault.{LineFault}
 use Rattle.json_spec.specs.RequestLine.{Command, blank, request, explain, command_of}
-use Rattle.json_spec.specs.ReplyLines.{verdict_line, bad_line, not_yet_line}
+use Rattle.session_spec.specs.Output.{verdict_line, bad_line, not_yet_line}
 use Rattle.session_spec.specs.Refusals.{refusal_line, count_line}
 use Rattle.session_spec.specs.Words.{match_files, check_file, task_of}
 use Rattle.session_spec.specs.Out.{Files, Counts, opening, Out}

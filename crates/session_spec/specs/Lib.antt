@@ -1,4 +1,5 @@
 pub mod Refusals
+pub mod Output
 pub mod Words
 pub mod Answers
 pub mod Out
