@@ -7,6 +7,8 @@
 mod bad;
 mod lists;
 mod names;
+#[cfg(test)]
+mod tests;
 mod verdict;
 
 pub use bad::{write_bad, write_not_yet};

@@ -1,5 +1,6 @@
 // The lists of a verdict: operations and headers.
-ghost use Rattle.std.specs.Prelude.{◌≡◌, ◌++◌, codes, map, OnOk, string_bytes};
+ghost use Rattle.std.specs.Prelude.{◌≡◌, ◌++◌, map, IfOk, OnOk, string_bytes};
+ghost use Rattle.std.specs.Option.{option_copied};
 ghost use Rattle.session_spec.specs.Output as spec;
 
 use crate::names::{direction_name, operation_name, quoted_text, write_rule};
@@ -45,6 +46,7 @@ fn write_op(alloc: Global, op: &NamedOp, into: &mut String) -> Result<(), NoMemo
 }
 
 fn text_or_null(alloc: Global, text: Option<&str>) -> Result<String, NoMemory>
+    ensures { IfOk result (λ written. string_bytes written ≡ spec.text_or_null (option_copied text.entry)) }
 {
     match text {
         Some(text) => quoted_text(alloc, text),

@@ -6,6 +6,7 @@ use crate::lists::{write_headers, write_ops};
 use crate::names::{outcome_name, quoted_text, write_rule};
 use dnr_base::{NoMemory, RuleName, Text};
 use dnr_verdict::Verdict;
+use rule_spec::Outcome;
 use std::alloc::Global;
 
 /// Appends what a request line of this number prints. `number` is the count of the updates before it.
@@ -21,8 +22,7 @@ pub fn write_verdict(
     ensures { OnOk result (string_bytes into.new ≡ string_bytes into.old ++ spec.verdict_line line number verdict.now) }
 {
     write_start(line, number, into)?;
-    let outcome = outcome_name(verdict.outcome);
-    write!(into, ",\"verdict\":\"{outcome}\"")?;
+    write_outcome(verdict.outcome, into)?;
     write_rule_field(alloc, &verdict.rule, into)?;
     write_url(alloc, &verdict.target, into)?;
     write_ops(alloc, verdict.ops.as_slice(), into)?;
@@ -58,8 +58,20 @@ fn write_start(line: u32, number: u32, into: &mut String) -> Result<(), NoMemory
     Ok(())
 }
 
+fn write_outcome(outcome: Outcome, into: &mut String) -> Result<(), NoMemory>
+    ensures { OnOk result (string_bytes into.new ≡ string_bytes into.old ++ spec.outcome_field outcome) }
+{
+    let outcome = outcome_name(outcome);
+    write!(into, ",\"verdict\":\"{outcome}\"")?;
+    Ok(())
+}
+
 // Appends the rule that decides, if there is one.
-fn write_rule_field(alloc: Global, rule: &Option<RuleName>, into: &mut String) -> Result<(), NoMemory>
+fn write_rule_field(
+    alloc: Global,
+    rule: &Option<RuleName>,
+    into: &mut String,
+) -> Result<(), NoMemory>
     ensures { OnOk result (string_bytes into.new ≡ string_bytes into.old ++ spec.rule_field rule.now) }
 {
     let Some(rule) = rule else {

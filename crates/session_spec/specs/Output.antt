@@ -42,6 +42,9 @@ outcome_name outcome.Redirect = codes "redirect"
 outcome_name outcome.Upgrade = codes "upgrade"
 outcome_name outcome.Allow = codes "allow"
 
+abbrev pub outcome_field : Outcome → List ℕ
+outcome_field outcome = codes ",\"verdict\":\"" ++ (outcome_name outcome ++ codes "\"")
+
 -- `[EXTENSION,SET,ID]`
 abbrev pub rule_text : RuleName → List ℕ
 rule_text rule = codes "[" ++ (quoted rule.ext ++ (codes "," ++ (quoted rule.set ++ (codes "," ++ (decimal rule.id ++ codes "]")))))
@@ -96,9 +99,9 @@ answer_start line generation = codes "{\"line\":" ++ (decimal line ++ (codes ",\
 -- what a request line of this number prints
 abbrev pub verdict_line : ℕ → ℕ → Verdict → List ℕ
 verdict_line line generation verdict =
-    answer_start line generation ++ (codes ",\"verdict\":\"" ++ (outcome_name verdict.outcome ++ (codes "\"" ++ (rule_field verdict.rule
-    ++ (url_field verdict.target ++ (ops_field verdict.ops ++ (headers_field (codes "requestHeaders") verdict.request_headers
-    ++ (headers_field (codes "responseHeaders") verdict.response_headers ++ codes "}\n"))))))))
+    answer_start line generation ++ (outcome_field verdict.outcome ++ (rule_field verdict.rule ++ (url_field verdict.target
+    ++ (ops_field verdict.ops ++ (headers_field (codes "requestHeaders") verdict.request_headers
+    ++ (headers_field (codes "responseHeaders") verdict.response_headers ++ codes "}\n"))))))
 
 -- what it prints where a pattern host failed at this rule
 abbrev pub fault_line : ℕ → ℕ → RuleName → List ℕ
@@ -127,4 +130,4 @@ bad_line line fault = bad_start line ++ (bad_fields fault ++ codes "}\n")
 
 -- what a line prints that asks for what is not there yet
 abbrev pub not_yet_line : ℕ → List ℕ
-not_yet_line line = bad_start line ++ codes "\"not-yet-supported\"}\n"
+not_yet_line line = codes "{\"line\":" ++ (decimal line ++ codes ",\"bad\":\"not-yet-supported\"}\n")
