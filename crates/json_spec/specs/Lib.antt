@@ -2,5 +2,9 @@ pub mod Json
 pub mod RuleFields
 pub mod RuleAction
 pub mod ReadRule
+pub mod RulesFile
 pub mod MayRefuse
 pub mod Examples
+pub mod CommandPath
+pub mod RequestLine
+pub mod RequestExamples

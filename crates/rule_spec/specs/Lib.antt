@@ -6,4 +6,5 @@ pub mod Holds
 pub mod Reaches
 pub mod State
 pub mod Scan
+pub mod PatternRule
 pub mod Examples

@@ -1,87 +1,86 @@
 -- The examples are computed.
-use Rattle.session_spec.specs.Scan.{scan}
-use Rattle.session_spec.specs.Examples.{request_line}
-use Rattle.session_spec.specs.Out.{opening}
 use Rattle.std.specs.Prelude.{refl, ◌++◌, [], ◌∷◌, codes}
-use Rattle.std.proofs.Common.{arith}
+use Rattle.std.proofs.Common.{arith, inl}
 use Rattle.std.specs.Str.{is_utf8}
 use Rattle.url.proofs.OnLiterals.{url_on_literals}
 use Rattle.serde_json.proofs.OnLiterals.{serde_json_on_literals}
-use Rattle.session_spec.specs.Examples.{NoRulesDecideNothing, MainFrameIsLeftAlone, AllowPrevailsAtEqualPriority, GreaterPriorityPrevails, SmallerIdPrevails, BlankLinesCount, CrAloneIsNoBlankLine, BrokenLinesAreBad, NullIsPresent, FractionIsNoId, LastValueOfAKeyCounts, SecondOfEqualIdsIsAtFault, FirstRuleAtFaultIsNamed, NestingHasALimit, BlockPrevailsAcrossExtensions, NewerExtensionPrevails, EarlierRulesetPrevails, MatchTakesTwoFileNames, TwoFilesAreServed, UsageIsForBadWords}
+use Rattle.rule_spec.specs.Scan.{scan}
+use Rattle.json_spec.specs.RuleFields.{field_in, absent_in, old_list_in, fields_in}
+use Rattle.json_spec.specs.RequestLine.{url_in, initiator_in, kind_in, method_in, tab_in, frame_in, headers_in, as_header, request_in, command_in, command_of}
+use Rattle.json_spec.specs.RequestLine as line
+use Rattle.json_spec.specs.RuleAction.{part_in, transform_in, extension_in, substitution_in, redirect_in, changes_at, ops_in, modify_in, action_in}
+use Rattle.json_spec.specs.ReadRule.{domains_in, filters_in, domain_lists_in, lists_in, numbers_in, frames_in, tabs_in, rule_in, read_rules}
+use Rattle.session_spec.specs.Examples.{request_line, NoRulesDecideNothing, MainFrameIsLeftAlone, AllowPrevailsAtEqualPriority, GreaterPriorityPrevails, SmallerIdPrevails, BlankLinesCount, CrAloneIsNoBlankLine, BrokenLinesAreBad, NullIsPresent, FractionIsNoId, LastValueOfAKeyCounts, SecondOfEqualIdsIsAtFault, FirstRuleAtFaultIsNamed, FilterIsRefusedWithItsReason, NestingHasALimit, MatchTakesTwoFileNames, CheckTakesAKind, TwoFilesAreServed, RulesAreCounted, UsageIsForBadWords}
+use Rattle.session_spec.specs.Out.{opening}
 
 pub no_rules_decide_nothing : NoRulesDecideNothing
-unfolding url_on_literals serde_json_on_literals is_utf8 scan
+unfolding field_in absent_in old_list_in fields_in part_in transform_in extension_in substitution_in redirect_in changes_at ops_in modify_in action_in domains_in filters_in domain_lists_in lists_in numbers_in frames_in tabs_in rule_in read_rules url_in initiator_in kind_in method_in tab_in frame_in line.frames_in as_header headers_in request_in command_in command_of url_on_literals serde_json_on_literals is_utf8 scan
 no_rules_decide_nothing = refl
 
 pub main_frame_is_left_alone : MainFrameIsLeftAlone
-unfolding url_on_literals serde_json_on_literals is_utf8 scan
+unfolding field_in absent_in old_list_in fields_in part_in transform_in extension_in substitution_in redirect_in changes_at ops_in modify_in action_in domains_in filters_in domain_lists_in lists_in numbers_in frames_in tabs_in rule_in read_rules url_in initiator_in kind_in method_in tab_in frame_in line.frames_in as_header headers_in request_in command_in command_of url_on_literals serde_json_on_literals is_utf8 scan
 main_frame_is_left_alone = refl
 
 pub allow_prevails_at_equal_priority : AllowPrevailsAtEqualPriority
-unfolding url_on_literals serde_json_on_literals is_utf8 scan
+unfolding field_in absent_in old_list_in fields_in part_in transform_in extension_in substitution_in redirect_in changes_at ops_in modify_in action_in domains_in filters_in domain_lists_in lists_in numbers_in frames_in tabs_in rule_in read_rules url_in initiator_in kind_in method_in tab_in frame_in line.frames_in as_header headers_in request_in command_in command_of url_on_literals serde_json_on_literals is_utf8 scan
 allow_prevails_at_equal_priority = refl
 
 pub greater_priority_prevails : GreaterPriorityPrevails
-unfolding url_on_literals serde_json_on_literals is_utf8 scan
+unfolding field_in absent_in old_list_in fields_in part_in transform_in extension_in substitution_in redirect_in changes_at ops_in modify_in action_in domains_in filters_in domain_lists_in lists_in numbers_in frames_in tabs_in rule_in read_rules url_in initiator_in kind_in method_in tab_in frame_in line.frames_in as_header headers_in request_in command_in command_of url_on_literals serde_json_on_literals is_utf8 scan
 greater_priority_prevails = refl
 
 pub smaller_id_prevails : SmallerIdPrevails
-unfolding url_on_literals serde_json_on_literals is_utf8 scan
+unfolding field_in absent_in old_list_in fields_in part_in transform_in extension_in substitution_in redirect_in changes_at ops_in modify_in action_in domains_in filters_in domain_lists_in lists_in numbers_in frames_in tabs_in rule_in read_rules url_in initiator_in kind_in method_in tab_in frame_in line.frames_in as_header headers_in request_in command_in command_of url_on_literals serde_json_on_literals is_utf8 scan
 smaller_id_prevails = refl
 
 pub blank_lines_count : BlankLinesCount
-unfolding url_on_literals serde_json_on_literals is_utf8 scan
+unfolding field_in absent_in old_list_in fields_in part_in transform_in extension_in substitution_in redirect_in changes_at ops_in modify_in action_in domains_in filters_in domain_lists_in lists_in numbers_in frames_in tabs_in rule_in read_rules url_in initiator_in kind_in method_in tab_in frame_in line.frames_in as_header headers_in request_in command_in command_of url_on_literals serde_json_on_literals is_utf8 scan
 blank_lines_count = refl
 
 pub cr_alone_is_no_blank_line : CrAloneIsNoBlankLine
-unfolding url_on_literals serde_json_on_literals is_utf8 scan
+unfolding field_in absent_in old_list_in fields_in part_in transform_in extension_in substitution_in redirect_in changes_at ops_in modify_in action_in domains_in filters_in domain_lists_in lists_in numbers_in frames_in tabs_in rule_in read_rules url_in initiator_in kind_in method_in tab_in frame_in line.frames_in as_header headers_in request_in command_in command_of url_on_literals serde_json_on_literals is_utf8 scan
 cr_alone_is_no_blank_line = refl
 
 pub broken_lines_are_bad : BrokenLinesAreBad
-unfolding url_on_literals serde_json_on_literals is_utf8 scan
+unfolding field_in absent_in old_list_in fields_in part_in transform_in extension_in substitution_in redirect_in changes_at ops_in modify_in action_in domains_in filters_in domain_lists_in lists_in numbers_in frames_in tabs_in rule_in read_rules url_in initiator_in kind_in method_in tab_in frame_in line.frames_in as_header headers_in request_in command_in command_of url_on_literals serde_json_on_literals is_utf8 scan
 broken_lines_are_bad = refl
 
 pub null_is_present : NullIsPresent
-unfolding url_on_literals serde_json_on_literals is_utf8 scan
+unfolding field_in absent_in old_list_in fields_in part_in transform_in extension_in substitution_in redirect_in changes_at ops_in modify_in action_in domains_in filters_in domain_lists_in lists_in numbers_in frames_in tabs_in rule_in read_rules url_in initiator_in kind_in method_in tab_in frame_in line.frames_in as_header headers_in request_in command_in command_of url_on_literals serde_json_on_literals is_utf8 scan
 null_is_present = refl
 
 pub fraction_is_no_id : FractionIsNoId
-unfolding url_on_literals serde_json_on_literals is_utf8 scan
+unfolding field_in absent_in old_list_in fields_in part_in transform_in extension_in substitution_in redirect_in changes_at ops_in modify_in action_in domains_in filters_in domain_lists_in lists_in numbers_in frames_in tabs_in rule_in read_rules url_in initiator_in kind_in method_in tab_in frame_in line.frames_in as_header headers_in request_in command_in command_of url_on_literals serde_json_on_literals is_utf8 scan
 fraction_is_no_id = refl
 
 pub last_value_of_a_key_counts : LastValueOfAKeyCounts
-unfolding url_on_literals serde_json_on_literals is_utf8 scan
+unfolding field_in absent_in old_list_in fields_in part_in transform_in extension_in substitution_in redirect_in changes_at ops_in modify_in action_in domains_in filters_in domain_lists_in lists_in numbers_in frames_in tabs_in rule_in read_rules url_in initiator_in kind_in method_in tab_in frame_in line.frames_in as_header headers_in request_in command_in command_of url_on_literals serde_json_on_literals is_utf8 scan
 last_value_of_a_key_counts = refl
 
 pub second_of_equal_ids_is_at_fault : SecondOfEqualIdsIsAtFault
-unfolding url_on_literals serde_json_on_literals is_utf8 scan
+unfolding field_in absent_in old_list_in fields_in part_in transform_in extension_in substitution_in redirect_in changes_at ops_in modify_in action_in domains_in filters_in domain_lists_in lists_in numbers_in frames_in tabs_in rule_in read_rules url_in initiator_in kind_in method_in tab_in frame_in line.frames_in as_header headers_in request_in command_in command_of url_on_literals serde_json_on_literals is_utf8 scan
 second_of_equal_ids_is_at_fault = refl
 
 pub first_rule_at_fault_is_named : FirstRuleAtFaultIsNamed
-unfolding url_on_literals serde_json_on_literals is_utf8 scan
+unfolding field_in absent_in old_list_in fields_in part_in transform_in extension_in substitution_in redirect_in changes_at ops_in modify_in action_in domains_in filters_in domain_lists_in lists_in numbers_in frames_in tabs_in rule_in read_rules url_in initiator_in kind_in method_in tab_in frame_in line.frames_in as_header headers_in request_in command_in command_of url_on_literals serde_json_on_literals is_utf8 scan
 first_rule_at_fault_is_named = refl
 
+pub filter_is_refused_with_its_reason : FilterIsRefusedWithItsReason
+unfolding field_in absent_in old_list_in fields_in part_in transform_in extension_in substitution_in redirect_in changes_at ops_in modify_in action_in domains_in filters_in domain_lists_in lists_in numbers_in frames_in tabs_in rule_in read_rules url_in initiator_in kind_in method_in tab_in frame_in line.frames_in as_header headers_in request_in command_in command_of url_on_literals serde_json_on_literals is_utf8 scan
+filter_is_refused_with_its_reason = refl
+
 pub nesting_has_a_limit : NestingHasALimit
-unfolding url_on_literals serde_json_on_literals is_utf8 scan
+unfolding field_in absent_in old_list_in fields_in part_in transform_in extension_in substitution_in redirect_in changes_at ops_in modify_in action_in domains_in filters_in domain_lists_in lists_in numbers_in frames_in tabs_in rule_in read_rules url_in initiator_in kind_in method_in tab_in frame_in line.frames_in as_header headers_in request_in command_in command_of url_on_literals serde_json_on_literals is_utf8 scan
 nesting_has_a_limit = (refl, refl)
-
-pub block_prevails_across_extensions : BlockPrevailsAcrossExtensions
-unfolding scan
-block_prevails_across_extensions = refl
-
-pub newer_extension_prevails : NewerExtensionPrevails
-unfolding scan
-newer_extension_prevails = refl
-
-pub earlier_ruleset_prevails : EarlierRulesetPrevails
-unfolding scan
-earlier_ruleset_prevails = refl
 
 pub match_takes_two_file_names : MatchTakesTwoFileNames
 match_takes_two_file_names = (refl, refl, refl)
 
+pub check_takes_a_kind : CheckTakesAKind
+check_takes_a_kind = (refl, refl, refl)
+
 pub two_files_are_served : TwoFilesAreServed
-unfolding url_on_literals serde_json_on_literals is_utf8 scan
+unfolding field_in absent_in old_list_in fields_in part_in transform_in extension_in substitution_in redirect_in changes_at ops_in modify_in action_in domains_in filters_in domain_lists_in lists_in numbers_in frames_in tabs_in rule_in read_rules url_in initiator_in kind_in method_in tab_in frame_in line.frames_in as_header headers_in request_in command_in command_of url_on_literals serde_json_on_literals is_utf8 scan
 two_files_are_served = record {
   rules = [];
   loaded = record { file = codes "[]"; held = refl; short = omega arith; read = refl };
@@ -93,9 +92,17 @@ two_files_are_served = record {
     state = opening [];
     rest = [];
     split = refl;
-    first = record { reply = refl; state = refl };
+    first = record { reply = inl refl; state = refl };
     later = (refl, refl);
   };
+}
+
+pub rules_are_counted : RulesAreCounted
+unfolding field_in absent_in old_list_in fields_in part_in transform_in extension_in substitution_in redirect_in changes_at ops_in modify_in action_in domains_in filters_in domain_lists_in lists_in numbers_in frames_in tabs_in rule_in read_rules url_in initiator_in kind_in method_in tab_in frame_in line.frames_in as_header headers_in request_in command_in command_of url_on_literals serde_json_on_literals is_utf8 scan
+rules_are_counted = record {
+  rules = [];
+  loaded = record { file = codes "[]"; held = refl; short = omega arith; read = refl };
+  output = refl;
 }
 
 pub usage_is_for_bad_words : UsageIsForBadWords

@@ -1,24 +1,39 @@
 -- What a session prints for the lines of its script: a relation, in which a state is carried along.
-use Rattle.std.specs.Prelude.{◌≡◌, ℕ, ◌+◌, List, [], ◌∷◌, ◌++◌, Option, Some, None, if◌then◌else◌, true, false, Bool}
-use Rattle.dnr_base.specs.declared.request.Request.{Request}
-use Rattle.dnr_spec.specs.Lines.{is_blank}
-use Rattle.session_spec.specs.RequestLine.{request_of}
-use Rattle.session_spec.specs.State.{State}
-use Rattle.session_spec.specs.Scan.{scan}
-use Rattle.session_spec.specs.Output.{verdict_line, bad_line}
+use Rattle.std.specs.Prelude.{◌≡◌, ◌⊎◌, ℕ, ◌+◌, List, [], ◌∷◌, ◌++◌, Result, Ok, Err}
+use Rattle.dnr_base.specs.declared.rule_name.RuleName.{RuleName}
+use Rattle.dnr_spec.specs.Suffixes.{SuffixRule}
+use Rattle.rule_spec.specs.State.{State}
+use Rattle.rule_spec.specs.Scan.{scan}
+use Rattle.rule_spec.specs.PatternRule.{NamesPattern}
+use Rattle.json_spec.specs.declared.line_fault.LineFault.{LineFault}
+use Rattle.json_spec.specs.RequestLine.{Command, blank, request, explain, command_of}
+use Rattle.session_spec.specs.Output.{verdict_line, bad_line, fault_line, not_yet_line}
 
--- what a line that is not blank prints
-abbrev pub reply_to : State → ℕ → Option Request → List ℕ
-reply_to state number None = bad_line number
-reply_to state number (Some request) = verdict_line number state.count (scan state request)
+-- What the answers of a session rest on beside its state: the suffix list, and whether the count of the pattern host
+-- that decides requests rose in the run.
+pub record Setting : Type 1 where
+  pub suffixes : List SuffixRule
+  pub rose : Type 0
 
--- a blank line prints nothing
-abbrev pub reply_of : State → ℕ → List ℕ → List ℕ
-reply_of state number line = if is_blank line then [] else reply_to state number (request_of number line)
+-- in place of a verdict: the host failed at the pattern of a rule in force
+pub record SaysFault (rose : Type 0) (state : State) (number : ℕ) (said : List ℕ) : Type 0 where
+  pub rule : RuleName
+  pub host : rose
+  pub pattern : NamesPattern state rule
+  pub line : said ≡ fault_line number state.count rule
+
+-- A request prints its verdict or a fault, and a line that can't be read why not. A blank line prints nothing. Nothing
+-- is explained yet.
+abbrev pub Says : Setting → State → ℕ → Result Command LineFault → List ℕ → Type 0
+Says setting state number (Ok blank) said = said ≡ []
+Says setting state number (Ok (request r)) said =
+    (said ≡ verdict_line number state.count (scan setting.suffixes state r)) ⊎ SaysFault setting.rose state number said
+Says setting state number (Ok (explain r)) said = said ≡ not_yet_line number
+Says setting state number (Err fault) said = said ≡ bad_line number fault
 
 -- a line of this number, in this state, may print this, and leave that state
-pub record Answer (now : State) (number : ℕ) (line said : List ℕ) (after : State) : Type 0 where
-  pub reply : said ≡ reply_of now number line
+pub record Answer (setting : Setting) (now : State) (number : ℕ) (line said : List ℕ) (after : State) : Type 0 where
+  pub reply : Says setting now number (command_of number line) said
   pub state : after ≡ now
 
 -- what a first line said and what the others said
@@ -31,7 +46,7 @@ pub record FirstAndRest (written : List ℕ) (First : List ℕ → State → Typ
   pub later : Rest state rest
 
 -- the lines, which are numbered from this one on, may print this, from the first state to the last
-abbrev pub Answers : State → ℕ → List (List ℕ) → List ℕ → State → Type 0
-Answers state number [] written last = (written ≡ []) × (last ≡ state)
-Answers state number (line ∷ lines) written last =
-    FirstAndRest written (λ said next. Answer state number line said next) (λ next rest. Answers next (number + 1) lines rest last)
+abbrev pub Answers : Setting → State → ℕ → List (List ℕ) → List ℕ → State → Type 0
+Answers setting state number [] written last = (written ≡ []) × (last ≡ state)
+Answers setting state number (line ∷ lines) written last =
+    FirstAndRest written (λ said next. Answer setting state number line said next) (λ next rest. Answers setting next (number + 1) lines rest last)

@@ -1,26 +1,30 @@
 -- Examples, each computed from the definitions alone.
-use Rattle.std.specs.Prelude.{◌≡◌, ℕ, ◌+◌, List, [], ◌∷◌, ◌++◌, codes, Bool, true, false, Some, None, Result, Ok, Err, replicate, bytes_eq, negsuc, if◌then◌else◌}
-use Rattle.dnr_base.specs.declared.kind.Kind.TheVariants.{Script}
-use Rattle.dnr_base.specs.declared.method.Method.TheVariants.{Get}
-use Rattle.session_spec.specs.declared.outcome.Outcome.TheVariants as outcome
-use Rattle.session_spec.specs.declared.rule_fault.RuleFault.TheVariants as fault
-use Rattle.dnr_base.specs.declared.scheme.Scheme.TheVariants.{Http}
-use Rattle.dnr_spec.specs.declared.status.Status.TheVariants as status
-use Rattle.dnr_base.specs.Kind.{default_kinds}
-use Rattle.dnr_spec.specs.Lines.{lines_of}
-use Rattle.session_spec.specs.Rule.{Action, block, allow, Rule}
-use Rattle.session_spec.specs.FileRefusal.{FileRefusal, bad_json, bad_rule}
-use Rattle.session_spec.specs.RuleFile.{rules_of}
-use Rattle.dnr_base.specs.declared.request.Request.{Request}
-use Rattle.session_spec.specs.State.{RuleSet, State}
-use Rattle.session_spec.specs.Scan.{scan}
-use Rattle.session_spec.specs.Output.{refusal_line}
+use Rattle.std.specs.Prelude.{◌≡◌, ℕ, ◌+◌, List, [], ◌∷◌, ◌++◌, codes, Bool, true, false, Some, None, Result, Ok, Err, replicate, bytes_eq, if◌then◌else◌}
 use Rattle.dnr_base.specs.Faults.{Count}
-use Rattle.session_spec.specs.Words.{match_files, task_of}
-use Rattle.session_spec.specs.Answers.{reply_of}
+use Rattle.dnr_spec.specs.declared.status.Status.TheVariants as status
+use Rattle.dnr_spec.specs.Lines.{lines_of}
+use Rattle.rule_spec.specs.declared.rule_kind.RuleKind.TheVariants.{Static, Session}
+use Rattle.rule_spec.specs.Rule.{Rule}
+use Rattle.rule_spec.specs.State.{State}
+use Rattle.rule_spec.specs.Scan.{scan}
+use Rattle.json_spec.specs.RulesFile.{FileRefusal, rules_of}
+use Rattle.json_spec.specs.declared.line_fault.LineFault.{LineFault}
+use Rattle.json_spec.specs.RequestLine.{Command, blank, request, explain, command_of}
+use Rattle.session_spec.specs.Output.{verdict_line, bad_line, not_yet_line}
+use Rattle.session_spec.specs.Refusals.{refusal_line, count_line}
+use Rattle.session_spec.specs.Words.{match_files, check_file, task_of}
 use Rattle.session_spec.specs.Out.{Files, Counts, opening, Out}
 
--- ---- what `match` writes
+-- ---- what `match` writes where no host fails
+
+abbrev pub reply_to : State → ℕ → Result Command LineFault → List ℕ
+reply_to state number (Ok blank) = []
+reply_to state number (Ok (request r)) = verdict_line number state.count (scan [] state r)
+reply_to state number (Ok (explain r)) = not_yet_line number
+reply_to state number (Err fault) = bad_line number fault
+
+abbrev pub reply_of : State → ℕ → List ℕ → List ℕ
+reply_of state number line = reply_to state number (command_of number line)
 
 -- the replies to the lines, which are numbered from this one on
 abbrev pub replies : State → ℕ → List (List ℕ) → List ℕ
@@ -33,7 +37,7 @@ written_for (Err refusal) script = refusal_line (codes "r.json") refusal
 
 -- the bytes that are written for a rules file `r.json` and a script
 abbrev pub written : List ℕ → List ℕ → List ℕ
-written file script = written_for (rules_of file) script
+written file script = written_for (rules_of Static file) script
 
 -- a request of this type to `http://a.com/`, without an LF
 abbrev pub request_line : List ℕ → List ℕ
@@ -92,18 +96,18 @@ abbrev pub CrAloneIsNoBlankLine : Type 0
 CrAloneIsNoBlankLine =
     written (codes "[]")
     (codes "\r\r\n\r")
-    ≡ codes "{\"line\":1,\"bad\":\"not-yet-supported\"}\n"
-    ++ codes "{\"line\":2,\"bad\":\"not-yet-supported\"}\n"
+    ≡ codes "{\"line\":1,\"bad\":\"json\"}\n"
+    ++ codes "{\"line\":2,\"bad\":\"json\"}\n"
 
--- No JSON, another key, a type or a scheme that is not known: each is a bad line, and the next is served.
+-- No JSON, a host or a scheme that is none, a type that is not known: each is a bad line, and the next is served.
 abbrev pub BrokenLinesAreBad : Type 0
 BrokenLinesAreBad =
     written (codes "[]")
-    (codes "{\"url\":\n{\"url\":\"http://a.com/\",\"type\":\"script\",\"tab\":3}\n" ++ request_line (codes "page") ++ codes "\n{\"url\":\"file:///x\",\"type\":\"script\"}\n" ++ request_line (codes "script") ++ codes "\n")
-    ≡ codes "{\"line\":1,\"bad\":\"not-yet-supported\"}\n"
-    ++ codes "{\"line\":2,\"bad\":\"not-yet-supported\"}\n"
-    ++ codes "{\"line\":3,\"bad\":\"not-yet-supported\"}\n"
-    ++ codes "{\"line\":4,\"bad\":\"not-yet-supported\"}\n"
+    (codes "{\"url\":\n{\"url\":\"http://a!b.com/\",\"type\":\"script\"}\n{\"url\":\"file:///x\",\"type\":\"script\"}\n" ++ request_line (codes "page") ++ codes "\n" ++ request_line (codes "script") ++ codes "\n")
+    ≡ codes "{\"line\":1,\"bad\":\"json\"}\n"
+    ++ codes "{\"line\":2,\"bad\":\"url\",\"path\":\"url\",\"why\":\"bad-host\"}\n"
+    ++ codes "{\"line\":3,\"bad\":\"url\",\"path\":\"url\",\"why\":\"bad-scheme\"}\n"
+    ++ codes "{\"line\":4,\"bad\":\"command\",\"path\":\"type\"}\n"
     ++ codes "{\"line\":5,\"generation\":0,\"verdict\":\"none\"}\n"
 
 -- A priority that is null is not an absent one.
@@ -111,14 +115,14 @@ abbrev pub NullIsPresent : Type 0
 NullIsPresent =
     written (codes "[" ++ rule_text (codes "\"id\":1,\"priority\":null") (codes "block") ++ codes "]")
     []
-    ≡ codes "{\"file\":\"r.json\",\"refused\":\"not-yet-supported\",\"place\":0,\"path\":\"priority\"}\n"
+    ≡ codes "{\"file\":\"r.json\",\"refused\":\"bad-priority\",\"place\":0,\"id\":1}\n"
 
 -- `1.0` is no whole number.
 abbrev pub FractionIsNoId : Type 0
 FractionIsNoId =
     written (codes "[" ++ rule_text (codes "\"id\":1.0") (codes "block") ++ codes "]")
     []
-    ≡ codes "{\"file\":\"r.json\",\"refused\":\"not-yet-supported\",\"place\":0,\"path\":\"id\"}\n"
+    ≡ codes "{\"file\":\"r.json\",\"refused\":\"bad-id\",\"place\":0,\"id\":null}\n"
 
 -- Of a repeated key the last value counts.
 abbrev pub LastValueOfAKeyCounts : Type 0
@@ -132,66 +136,27 @@ abbrev pub SecondOfEqualIdsIsAtFault : Type 0
 SecondOfEqualIdsIsAtFault =
     written (codes "[" ++ rule_text (codes "\"id\":1") (codes "block") ++ codes "," ++ rule_text (codes "\"id\":2") (codes "block") ++ codes "," ++ rule_text (codes "\"id\":1,\"priority\":0") (codes "block") ++ codes "]")
     []
-    ≡ codes "{\"file\":\"r.json\",\"refused\":\"not-yet-supported\",\"place\":2,\"path\":\"id\"}\n"
+    ≡ codes "{\"file\":\"r.json\",\"refused\":\"duplicate-id\",\"place\":2,\"id\":1}\n"
 
--- The first rule at fault is named, by the path of its first fault.
+-- The first rule at fault is named, by its first fault.
 abbrev pub FirstRuleAtFaultIsNamed : Type 0
 FirstRuleAtFaultIsNamed =
-    written (codes "[" ++ rule_text (codes "\"id\":1") (codes "block") ++ codes ",{\"id\":2,\"condition\":{\"resourceTypes\":[\"script\"]},\"action\":{\"type\":\"redirect\"}}," ++ rule_text (codes "\"id\":1") (codes "block") ++ codes "]")
+    written (codes "[" ++ rule_text (codes "\"id\":1") (codes "block") ++ codes ",{\"id\":2,\"condition\":{\"resourceTypes\":[\"page\"]},\"action\":{\"type\":\"page\"}}," ++ rule_text (codes "\"id\":1") (codes "block") ++ codes "]")
     []
-    ≡ codes "{\"file\":\"r.json\",\"refused\":\"not-yet-supported\",\"place\":1,\"path\":\"condition\"}\n"
+    ≡ codes "{\"file\":\"r.json\",\"refused\":\"bad-field\",\"place\":1,\"id\":2,\"path\":\"condition.resourceTypes\"}\n"
+
+-- A urlFilter that is none is refused with its reason.
+abbrev pub FilterIsRefusedWithItsReason : Type 0
+FilterIsRefusedWithItsReason =
+    written (codes "[{\"id\":1,\"condition\":{\"urlFilter\":\"||*x\"},\"action\":{\"type\":\"block\"}}]")
+    []
+    ≡ codes "{\"file\":\"r.json\",\"refused\":\"bad-url-filter\",\"place\":0,\"id\":1,\"why\":\"anchor-star\"}\n"
 
 -- 127 nestings are read, and 128 are no JSON.
 abbrev pub NestingHasALimit : Type 0
 NestingHasALimit =
-    (rules_of (replicate 127 91 ++ replicate 127 93) ≡ Err (bad_rule 0 fault.Rule))
-    × (rules_of (replicate 128 91 ++ replicate 128 93) ≡ Err bad_json)
-
--- ---- which rule decides, over several extensions
-
-abbrev pub rule_of : ℕ → ℕ → Action → Rule
-rule_of id priority action = record { id = id; priority = priority; condition = record { url_filter = None; kinds = default_kinds }; action = action }
-
-abbrev pub set_of : List ℕ → Bool → Rule → RuleSet
-set_of id enabled rule = record { id = id; enabled = enabled; rules = rule ∷ [] }
-
-abbrev pub state_of : List RuleSet → List RuleSet → State
-state_of older newer = record {
-  extensions = record { name = codes "a"; sets = older } ∷ record { name = codes "b"; sets = newer } ∷ [];
-  count = 0;
-}
-
--- a request of type `script` to `http://x/`
-abbrev pub script_request : Request
-script_request = record {
-  line = 1;
-  view = record { full = codes "http://x/"; cut = 9; scheme = Http; host = record { start = 7; end = 8 } };
-  initiator = None;
-  kind = Script;
-  method = Get;
-  tab = negsuc 0;
-  frames = [];
-  request_headers = None;
-  response_headers = None;
-}
-
--- Across extensions `block` prevails, whatever the priorities and which is newer.
-abbrev pub BlockPrevailsAcrossExtensions : Type 0
-BlockPrevailsAcrossExtensions =
-    scan (state_of (set_of (codes "s") true (rule_of 1 1 block) ∷ []) (set_of (codes "s") true (rule_of 1 100 allow) ∷ [])) script_request
-    ≡ record { outcome = outcome.Block; rule = Some (record { extension = codes "a"; set = codes "s"; id = 1 }) }
-
--- Of two that block the newer is named.
-abbrev pub NewerExtensionPrevails : Type 0
-NewerExtensionPrevails =
-    scan (state_of (set_of (codes "s") true (rule_of 1 100 block) ∷ []) (set_of (codes "s") true (rule_of 1 1 block) ∷ [])) script_request
-    ≡ record { outcome = outcome.Block; rule = Some (record { extension = codes "b"; set = codes "s"; id = 1 }) }
-
--- A ruleset that is not enabled says nothing; of the others the earlier goes before the smaller id.
-abbrev pub EarlierRulesetPrevails : Type 0
-EarlierRulesetPrevails =
-    scan (state_of (set_of (codes "r") false (rule_of 1 9 allow) ∷ set_of (codes "s") true (rule_of 5 1 block) ∷ set_of (codes "t") true (rule_of 1 1 block) ∷ []) []) script_request
-    ≡ record { outcome = outcome.Block; rule = Some (record { extension = codes "a"; set = codes "s"; id = 5 }) }
+    (written (replicate 127 91 ++ replicate 127 93) [] ≡ codes "{\"file\":\"r.json\",\"refused\":\"not-object\",\"place\":0,\"id\":null}\n")
+    × (written (replicate 128 91 ++ replicate 128 93) [] ≡ codes "{\"file\":\"r.json\",\"refused\":\"bad-json\"}\n")
 
 -- ---- words
 
@@ -201,6 +166,13 @@ MatchTakesTwoFileNames =
     (task_of (codes "match" ∷ codes "a" ∷ codes "b" ∷ []) ≡ Some (match_files (codes "a") (codes "b")))
     × (task_of (codes "match" ∷ codes "a" ∷ []) ≡ None)
     × (task_of (codes "match" ∷ codes "a" ∷ codes "-b" ∷ []) ≡ None)
+
+-- `check` takes a kind and the name of a file.
+abbrev pub CheckTakesAKind : Type 0
+CheckTakesAKind =
+    (task_of (codes "check" ∷ codes "session" ∷ codes "a" ∷ []) ≡ Some (check_file Session (codes "a")))
+    × (task_of (codes "check" ∷ codes "local" ∷ codes "a" ∷ []) ≡ None)
+    × (task_of (codes "check" ∷ codes "static" ∷ codes "-a" ∷ []) ≡ None)
 
 -- ---- statuses
 
@@ -213,13 +185,18 @@ abbrev pub no_fault : Count
 no_fault = record { before = 0; now = 0 }
 
 abbrev pub none : Counts
-none = record { shelf = no_fault; sink = no_fault }
+none = record { shelf = no_fault; sink = no_fault; hosts = no_fault ∷ no_fault ∷ [] }
 
 -- The two files are served, with the one line that says `none`.
 abbrev pub TwoFilesAreServed : Type 0
 TwoFilesAreServed =
     Out (codes "match" ∷ codes "r.json" ∷ codes "s.jsonl" ∷ []) two_files none status.Done
     (codes "{\"line\":1,\"generation\":0,\"verdict\":\"none\"}\n")
+
+-- A file without rules is counted.
+abbrev pub RulesAreCounted : Type 0
+RulesAreCounted =
+    Out (codes "check" ∷ codes "static" ∷ codes "r.json" ∷ []) two_files none status.Done (codes "{\"rules\":0}\n")
 
 -- A command without its files ends with Usage, and one with them never does. Where nothing failed no fault is told.
 abbrev pub UsageIsForBadWords : Type 0

@@ -1,11 +1,4 @@
-pub mod Rule
-pub mod Holds
-pub mod State
-pub mod Precedence
-pub mod Scan
-pub mod FileRefusal
-pub mod RuleFile
-pub mod RequestLine
+pub mod Refusals
 pub mod Output
 pub mod Words
 pub mod Answers

@@ -1,7 +1,7 @@
 //! Examples of the definitions. Each is stated in `specs/Examples.antt` and computed from the definitions
 //! by the prover; the functions do nothing.
 
-ghost use Rattle.session_spec.specs.Examples.{NoRulesDecideNothing, MainFrameIsLeftAlone, AllowPrevailsAtEqualPriority, GreaterPriorityPrevails, SmallerIdPrevails, BlankLinesCount, CrAloneIsNoBlankLine, BrokenLinesAreBad, NullIsPresent, FractionIsNoId, LastValueOfAKeyCounts, SecondOfEqualIdsIsAtFault, FirstRuleAtFaultIsNamed, NestingHasALimit, BlockPrevailsAcrossExtensions, NewerExtensionPrevails, EarlierRulesetPrevails, MatchTakesTwoFileNames, TwoFilesAreServed, UsageIsForBadWords};
+ghost use Rattle.session_spec.specs.Examples.{NoRulesDecideNothing, MainFrameIsLeftAlone, AllowPrevailsAtEqualPriority, GreaterPriorityPrevails, SmallerIdPrevails, BlankLinesCount, CrAloneIsNoBlankLine, BrokenLinesAreBad, NullIsPresent, FractionIsNoId, LastValueOfAKeyCounts, SecondOfEqualIdsIsAtFault, FirstRuleAtFaultIsNamed, FilterIsRefusedWithItsReason, NestingHasALimit, MatchTakesTwoFileNames, CheckTakesAKind, TwoFilesAreServed, RulesAreCounted, UsageIsForBadWords};
 
 /// Without rules a request goes on.
 #[tactic(auto, using(crate::proofs::Computed::no_rules_decide_nothing))]
@@ -45,7 +45,7 @@ pub fn cr_alone_is_no_blank_line()
     ensures { CrAloneIsNoBlankLine }
 {}
 
-/// No JSON, another key, a type or a scheme that is not known: each is a bad line, and the next is served.
+/// No JSON, a host or a scheme that is none, a type that is not known: each is a bad line, and the next is served.
 #[tactic(auto, using(crate::proofs::Computed::broken_lines_are_bad))]
 pub fn broken_lines_are_bad()
     ensures { BrokenLinesAreBad }
@@ -75,7 +75,7 @@ pub fn second_of_equal_ids_is_at_fault()
     ensures { SecondOfEqualIdsIsAtFault }
 {}
 
-/// The first rule at fault is named, by the path of its first fault.
+/// The first rule at fault is named, by its first fault.
 #[tactic(auto, using(crate::proofs::Computed::first_rule_at_fault_is_named))]
 pub fn first_rule_at_fault_is_named()
     ensures { FirstRuleAtFaultIsNamed }
@@ -85,24 +85,6 @@ pub fn first_rule_at_fault_is_named()
 #[tactic(auto, using(crate::proofs::Computed::nesting_has_a_limit))]
 pub fn nesting_has_a_limit()
     ensures { NestingHasALimit }
-{}
-
-/// Across extensions `block` prevails, whatever the priorities and which is newer.
-#[tactic(auto, using(crate::proofs::Computed::block_prevails_across_extensions))]
-pub fn block_prevails_across_extensions()
-    ensures { BlockPrevailsAcrossExtensions }
-{}
-
-/// Of two that block the newer is named.
-#[tactic(auto, using(crate::proofs::Computed::newer_extension_prevails))]
-pub fn newer_extension_prevails()
-    ensures { NewerExtensionPrevails }
-{}
-
-/// A ruleset that is not enabled says nothing; of the others the earlier goes before the smaller id.
-#[tactic(auto, using(crate::proofs::Computed::earlier_ruleset_prevails))]
-pub fn earlier_ruleset_prevails()
-    ensures { EarlierRulesetPrevails }
 {}
 
 /// `match` takes two names of files, and a name does not begin with `-`.
@@ -121,4 +103,22 @@ pub fn two_files_are_served()
 #[tactic(auto, using(crate::proofs::Computed::usage_is_for_bad_words))]
 pub fn usage_is_for_bad_words()
     ensures { UsageIsForBadWords }
+{}
+
+/// A urlFilter that is none is refused with its reason.
+#[tactic(auto, using(crate::proofs::Computed::filter_is_refused_with_its_reason))]
+pub fn filter_is_refused_with_its_reason()
+    ensures { FilterIsRefusedWithItsReason }
+{}
+
+/// `check` takes a kind and the name of a file.
+#[tactic(auto, using(crate::proofs::Computed::check_takes_a_kind))]
+pub fn check_takes_a_kind()
+    ensures { CheckTakesAKind }
+{}
+
+/// A file without rules is counted.
+#[tactic(auto, using(crate::proofs::Computed::rules_are_counted))]
+pub fn rules_are_counted()
+    ensures { RulesAreCounted }
 {}
