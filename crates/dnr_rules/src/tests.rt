@@ -1,6 +1,19 @@
-//! What a rule takes in memory, and that threads may share it.
+//! Rules with each field of a condition, read back and copied, which actions are unsafe, what a rule takes in
+//! memory, and that threads may share it.
+ghost use Rattle.std.specs.Prelude.{◌≡◌, ◌<◌, pos, negsuc, [], ◌∷◌, length, codes, Ok, IfOk, IfSome};
+ghost use Rattle.dnr_base.specs.MethodSet.{methods_of};
+ghost use Rattle.dnr_spec.specs.UrlFilter.{pattern_of};
+ghost use Rattle.rule_spec.specs.IsRule.{AreDomains};
 
-use crate::{Action, Condition, Rule};
+use crate::{Action, Condition, ConditionParts, Rule, RuleParts};
+use dnr_base::{
+    Copied, Direction, Items, Kind, KindSet, Method, MethodSet, NoMemory, Operation, Redirect, Text,
+};
+use domain_set::DomainSet;
+use header_actions::HeaderOp;
+use std::alloc::Global;
+use std::test::Fail;
+use url_filter::Pattern;
 
 fn is_send<T: Send>() {}
 
@@ -19,5 +32,170 @@ fn threads_share_rules() {
 #[test]
 fn a_rule_is_small(rt: HostRuntime) {
     assert_eq!(rt; size_of::<Action>(), 56);
-    assert_eq!(rt; size_of::<Rule>(), 288);
+    assert_eq!(rt; size_of::<Rule>(), 296);
+}
+
+fn text(alloc: Global, text: &str) -> Option<Text>
+    ensures { IfSome result (λ copy. copy ≡ text.now) }
+{
+    Some(Text::build(String::from_str(alloc, text).ok()?))
+}
+
+#[tactic(auto, using(crate::proofs::Tested::read_again))]
+fn filter(alloc: Global, text: &str) -> Option<Pattern>
+    ensures { IfSome result (λ filter. pattern_of filter ≡ Ok filter) }
+{
+    Pattern::read(alloc, text).ok()
+}
+
+// The set of a domain.
+fn domain(alloc: Global, entry: &str) -> Option<DomainSet>
+    ensures some { IfSome result (λ set. 0 < length set) }
+    ensures domains { IfSome result AreDomains }
+{
+    let list = [text(alloc, entry)?];
+    let set = DomainSet::read(alloc, list.as_slice()).ok()?;
+    if set.entries().is_empty() {
+        return None;
+    }
+    Some(set)
+}
+
+fn no_tab_and_seven(alloc: Global) -> Option<Items<i32>>
+    ensures { IfSome result (λ tabs. tabs ≡ negsuc 0 ∷ pos 7 ∷ []) }
+{
+    let tabs = [-1, 7];
+    Some(Items::build(tabs.as_slice().to_vec(alloc).ok()?))
+}
+
+fn post_alone() -> MethodSet
+    ensures { 0 < length (methods_of result) }
+{
+    let mut methods = MethodSet::empty();
+    methods.insert(Method::Post);
+    methods
+}
+
+// A rule with every field of a condition but `regexFilter`.
+fn whole_rule(alloc: Global) -> Option<Rule> {
+    let mut kinds = KindSet::empty();
+    kinds.insert(Kind::Script);
+    let mut not_methods = MethodSet::empty();
+    not_methods.insert(Method::Head);
+    let condition = ConditionParts {
+        url_filter: Some(filter(alloc, "||host^")?),
+        regex_filter: None,
+        case_sensitive: true,
+        initiators: Some(domain(alloc, "from.test")?),
+        not_initiators: domain(alloc, "not-from.test")?,
+        hosts: Some(domain(alloc, "to.test")?),
+        not_hosts: domain(alloc, "not-to.test")?,
+        third_party: Some(false),
+        kinds,
+        methods: Some(post_alone()),
+        not_methods,
+        tabs: Some(no_tab_and_seven(alloc)?),
+        not_tabs: Items::build(Vec::new(alloc)),
+    };
+    Some(Rule::build(RuleParts {
+        id: 5,
+        priority: 3,
+        condition,
+        action: Action::Block,
+    }))
+}
+
+// Whether the set is given and covers the host.
+fn covers(set: Option<&DomainSet>, host: &str) -> bool {
+    match set {
+        Some(set) => set.covers(host),
+        None => false,
+    }
+}
+
+// Whether these are the numbers and the filter of `whole_rule`.
+fn has_filter(rule: &Rule) -> bool {
+    let filter = match rule.condition().url_filter() {
+        Some(filter) => filter.text() == "||host^",
+        None => false,
+    };
+    filter && rule.condition().case_sensitive() && (rule.id(), rule.priority()) == (5, 3)
+}
+
+// Whether these are its domains.
+fn has_domains(condition: &Condition) -> bool {
+    covers(condition.initiators(), "from.test")
+        && covers(Some(condition.not_initiators()), "not-from.test")
+        && covers(condition.hosts(), "to.test")
+        && covers(Some(condition.not_hosts()), "not-to.test")
+}
+
+// Whether these are its types and methods.
+fn has_sets(condition: &Condition) -> bool {
+    let methods = match condition.methods() {
+        Some(methods) => methods.contains(Method::Post),
+        None => false,
+    };
+    methods
+        && condition.kinds().contains(Kind::Script)
+        && condition.not_methods().contains(Method::Head)
+}
+
+// Whether these are its tabs.
+fn has_tabs(condition: &Condition) -> bool {
+    let tabs = match condition.tabs() {
+        Some(tabs) => tabs.as_slice() == [-1, 7].as_slice(),
+        None => false,
+    };
+    tabs && condition.not_tabs().as_slice().is_empty()
+}
+
+#[test]
+fn a_rule_and_its_copy_have_the_fields_given(rt: HostRuntime) -> Result<(), Fail> {
+    let rule = whole_rule(rt.alloc()).ok_or("a rule")?;
+    let copy = rule.copied(rt.alloc())?;
+    for rule in [&rule, &copy] {
+        let condition = rule.condition();
+        let fields = has_domains(condition) && has_sets(condition) && has_tabs(condition);
+        assert!(rt; fields && has_filter(rule), "its fields");
+        assert!(rt; condition.third_party() == Some(false), "its party");
+        assert!(rt; !rule.uses_regex() && !rule.is_unsafe(), "its kind");
+    }
+    Ok(())
+}
+
+fn headers(alloc: Global, name: &str) -> Option<Items<HeaderOp>> {
+    let read = HeaderOp::read(alloc, Direction::Request, name, Operation::Remove, None);
+    let mut list = Vec::new(alloc);
+    list.push(read.ok()?).ok()?;
+    Some(Items::build(list))
+}
+
+fn redirect(alloc: Global) -> Option<Action> {
+    let url = text(alloc, "https://a.test/")?;
+    Some(Action::Redirect(Box::new(alloc, Redirect::Url(url)).ok()?))
+}
+
+fn changes(alloc: Global) -> Option<Action> {
+    let request = headers(alloc, "a")?;
+    Some(Action::ModifyHeaders(request, headers(alloc, "b")?))
+}
+
+// Whether the action and its copy are unsafe.
+fn both_unsafe(alloc: Global, action: &Action) -> Result<bool, NoMemory> {
+    let copy = action.copy(alloc)?;
+    Ok(action.is_unsafe() && copy.is_unsafe())
+}
+
+#[test]
+fn redirects_and_header_changes_are_unsafe(rt: HostRuntime) -> Result<(), Fail> {
+    let alloc = rt.alloc();
+    let redirect = redirect(alloc).ok_or("a redirect")?;
+    let changes = changes(alloc).ok_or("header changes")?;
+    assert!(rt; both_unsafe(alloc, &redirect)?, "a redirect");
+    assert!(rt; both_unsafe(alloc, &changes)?, "header changes");
+    for action in [Action::Block, Action::Allow, Action::UpgradeScheme] {
+        assert!(rt; !both_unsafe(alloc, &action)?, "a safe action");
+    }
+    Ok(())
 }

@@ -5,7 +5,10 @@ ghost use Rattle.serde_json.specs.Find.{as_str, as_bool};
 ghost use Rattle.dnr_base.specs.KindSet.{kinds_of};
 ghost use Rattle.dnr_base.specs.MethodSet.{methods_of};
 ghost use Rattle.json_spec.specs.RuleFields.{as_texts, as_party, as_kinds, as_methods, as_tabs, field_in, absent_in, old_list_in, fields_in};
-ghost use Rattle.json_spec.specs.MayRefuse.{IsRefused};
+ghost use Rattle.json_spec.specs.RuleFields.{first_refusal};
+ghost use Rattle.json_spec.specs.MayRefuse.{IsRefused, RefusesTest};
+ghost use Rattle.rule_fields.specs.Groups.{forbidden_tests, filter_tests, domain_tests, set_tests};
+ghost use Rattle.rule_fields.specs.Groups.{HasNoForbidden, HasFilters, HasDomains, HasSets};
 ghost use Rattle.rule_fields.specs.Seen.{fields_seen};
 
 use crate::forms;
@@ -14,7 +17,7 @@ use rule_spec::{RulePath, RuleRefusal};
 use serde_json::Value;
 use std::alloc::Global;
 
-// The fields of a condition as they stand in the file. Each is `None` where it is absent.
+/// The fields of a condition as they stand in the file. Each is `None` where it is absent.
 #[derive(Drop)]
 pub struct Fields<'a> {
     pub url_filter: Option<&'a str>,
@@ -35,26 +38,124 @@ pub struct Fields<'a> {
     pub not_tabs: Option<Items<i32>>,
 }
 
-// Reads the fields of a condition, in the order in which they are tested.
+/// Reads the fields of a condition, which are tested in this order: those that no rule may have, the filters, the
+/// lists of domains (new names, then old ones, then hosts), the party, types, methods and tabs.
+///
+/// # Errors
+///
+/// - `BadField`: the first that no rule may have, that has another form than its own, or that stands under its old
+///   name beside the new one.
+/// - `NoMemory`: memory ran out.
 pub fn read_fields(alloc: Global, condition: &Value) -> Result<Fields<'_>, RuleRefusal>
     ensures ok { IfOk result (λ fields. fields_in (view condition.now) ≡ Ok (fields_seen fields)) }
     ensures refused { IfErr result (IsRefused (fields_in (view condition.now))) }
 {
+    test_forbidden(condition)?;
+    let filters = read_filters(condition)?;
+    let domains = read_domains(alloc, condition)?;
+    let sets = read_sets(alloc, condition)?;
+    Ok(Fields {
+        url_filter: filters.url_filter,
+        regex_filter: filters.regex_filter,
+        case_sensitive: filters.case_sensitive,
+        initiators: domains.initiators,
+        not_initiators: domains.not_initiators,
+        old_initiators: domains.old_initiators,
+        old_not_initiators: domains.old_not_initiators,
+        hosts: domains.hosts,
+        not_hosts: domains.not_hosts,
+        third_party: sets.third_party,
+        kinds: sets.kinds,
+        not_kinds: sets.not_kinds,
+        methods: sets.methods,
+        not_methods: sets.not_methods,
+        tabs: sets.tabs,
+        not_tabs: sets.not_tabs,
+    })
+}
+
+// Refuses the fields that no rule may have.
+fn test_forbidden(condition: &Value) -> Result<(), RuleRefusal>
+    ensures absent { OnOk result (HasNoForbidden (view condition.now)) }
+    ensures refused { IfErr result (RefusesTest (first_refusal (forbidden_tests (view condition.now))) ⊥) }
+{
     test_absent(condition, RulePath::TopDomains)?;
     test_absent(condition, RulePath::ExcludedTopDomains)?;
     test_absent(condition, RulePath::ResponseHeaders)?;
-    test_absent(condition, RulePath::ExcludedResponseHeaders)?;
+    test_absent(condition, RulePath::ExcludedResponseHeaders)
+}
+
+#[derive(Drop)]
+struct FilterFields<'a> {
+    url_filter: Option<&'a str>,
+    regex_filter: Option<&'a str>,
+    case_sensitive: Option<bool>,
+}
+
+fn read_filters(condition: &Value) -> Result<FilterFields<'_>, RuleRefusal>
+    ensures read { IfOk result (HasFilters (view condition.now)) }
+    ensures refused { IfErr result (RefusesTest (first_refusal (filter_tests (view condition.now))) ⊥) }
+{
     let url_filter = text_field(condition, RulePath::UrlFilter)?;
     let regex_filter = text_field(condition, RulePath::RegexFilter)?;
     let case_sensitive = bool_field(condition, RulePath::IsUrlFilterCaseSensitive)?;
+    Ok(FilterFields {
+        url_filter,
+        regex_filter,
+        case_sensitive,
+    })
+}
+
+#[derive(Drop)]
+struct DomainFields {
+    initiators: Option<Items<Text>>,
+    not_initiators: Option<Items<Text>>,
+    old_initiators: Option<Items<Text>>,
+    old_not_initiators: Option<Items<Text>>,
+    hosts: Option<Items<Text>>,
+    not_hosts: Option<Items<Text>>,
+}
+
+fn read_domains(alloc: Global, condition: &Value) -> Result<DomainFields, RuleRefusal>
+    ensures read { IfOk result (HasDomains (view condition.now)) }
+    ensures refused { IfErr result (RefusesTest (first_refusal (domain_tests (view condition.now))) ⊥) }
+{
     let initiators = texts_field(alloc, condition, RulePath::InitiatorDomains)?;
     let not_initiators = texts_field(alloc, condition, RulePath::ExcludedInitiatorDomains)?;
     let (new, old) = (RulePath::InitiatorDomains, RulePath::Domains);
     let old_initiators = old_field(alloc, condition, new, old)?;
-    let (new, old) = (RulePath::ExcludedInitiatorDomains, RulePath::ExcludedDomains);
+    let (new, old) = (
+        RulePath::ExcludedInitiatorDomains,
+        RulePath::ExcludedDomains,
+    );
     let old_not_initiators = old_field(alloc, condition, new, old)?;
     let hosts = texts_field(alloc, condition, RulePath::RequestDomains)?;
     let not_hosts = texts_field(alloc, condition, RulePath::ExcludedRequestDomains)?;
+    Ok(DomainFields {
+        initiators,
+        not_initiators,
+        old_initiators,
+        old_not_initiators,
+        hosts,
+        not_hosts,
+    })
+}
+
+#[derive(Drop)]
+struct SetFields {
+    third_party: Option<bool>,
+    kinds: Option<KindSet>,
+    not_kinds: Option<KindSet>,
+    methods: Option<MethodSet>,
+    not_methods: Option<MethodSet>,
+    tabs: Option<Items<i32>>,
+    not_tabs: Option<Items<i32>>,
+}
+
+fn read_sets(alloc: Global, condition: &Value) -> Result<SetFields, RuleRefusal>
+    ensures read { IfOk result (HasSets (view condition.now)) }
+    ensures refused { IfErr result (RefusesTest (first_refusal (set_tests (view condition.now))) ⊥) }
+{
     let third_party = party_field(condition, RulePath::DomainType)?;
     let kinds = kinds_field(alloc, condition, RulePath::ResourceTypes)?;
     let not_kinds = kinds_field(alloc, condition, RulePath::ExcludedResourceTypes)?;
@@ -62,16 +163,7 @@ pub fn read_fields(alloc: Global, condition: &Value) -> Result<Fields<'_>, RuleR
     let not_methods = methods_field(alloc, condition, RulePath::ExcludedRequestMethods)?;
     let tabs = tabs_field(alloc, condition, RulePath::TabIds)?;
     let not_tabs = tabs_field(alloc, condition, RulePath::ExcludedTabIds)?;
-    Ok(Fields {
-        url_filter,
-        regex_filter,
-        case_sensitive,
-        initiators,
-        not_initiators,
-        old_initiators,
-        old_not_initiators,
-        hosts,
-        not_hosts,
+    Ok(SetFields {
         third_party,
         kinds,
         not_kinds,

@@ -7,3 +7,6 @@ mod fields;
 mod forms;
 
 pub use fields::{Fields, read_fields};
+
+#[cfg(test)]
+mod tests;

@@ -1,8 +1,8 @@
 -- A rule that is read keeps what every rule keeps.
-use Rattle.std.proofs.Common.{◌≡◌, ℕ, ◌+◌, ◌<◌, ◌≤◌, List, [], ◌∷◌, ◌++◌, length, map, Bool, true, false, cond, not, ◌&&◌, ◌||◌, ◌==◌, Option, Some, None, Result, Ok, Err, refl, sym, ap, ◌∙◌, subst, arith, ◌⊎◌, inl, inr, ⊎_elim}
-use Rattle.std.specs.Prelude.{IsTrue, IfSome, IsSome, is_some, is_none, unwrap_or, option_map, option_and_then, nat_le, nat_lt, position, codes, nat_eq}
+use Rattle.std.proofs.Common.{◌≡◌, ℕ, ℤ, fold, ◌+◌, ◌<◌, List, [], ◌∷◌, ◌++◌, length, map, Bool, true, false, cond, not, ◌&&◌, ◌||◌, ◌==◌, Option, Some, None, Result, Ok, Err, refl, sym, ap, ◌∙◌, subst, arith, ◌⊎◌, inl, inr, ⊎_elim}
+use Rattle.std.specs.Prelude.{IsTrue, IfSome, is_some, is_none, unwrap_or, option_map, option_and_then, nat_le, nat_lt, codes, nat_eq}
 use Rattle.std.specs.Option.{option_map_or}
-use Rattle.std.specs.Result.{result_unwrap_or, is_ok, result_err}
+use Rattle.std.specs.Result.{result_unwrap_or, result_err}
 use Rattle.std.specs.List.{list_all, starts_with}
 use Rattle.std.proofs.lemmas.List.{length-map}
 use Rattle.std.proofs.lemmas.Bool.Decides.{nat_tests}
@@ -15,20 +15,22 @@ use Rattle.dnr_spec.specs.declared.pattern_refusal.PatternRefusal.{PatternRefusa
 use Rattle.dnr_spec.specs.declared.pattern_refusal.PatternRefusal.TheVariants.{Empty, TooLong, AnchorStar, NotAscii}
 use Rattle.std.specs.Char.{is_ascii}
 use Rattle.dnr_spec.specs.UrlFilter.{pattern_of, max_pattern}
-use Rattle.dnr_spec.specs.Domains.{domains_of, unless_bad, is_domain, lower_case}
+use Rattle.dnr_spec.specs.Patterns.{groups_of}
+use Rattle.dnr_spec.specs.Domains.{domains_of, unless_bad, lower_case}
 use Rattle.rule_spec.specs.declared.rule_path.RulePath.{RulePath}
 use Rattle.rule_spec.specs.declared.rule_path.RulePath.TheVariants as path
 use Rattle.rule_spec.specs.declared.rule_refusal.RuleRefusal.{RuleRefusal}
-use Rattle.rule_spec.specs.declared.rule_refusal.RuleRefusal.TheVariants.{BadField, BadId, BadPriority, EmptyList, BothTypeLists, BothFilters, BadUrlFilter, BadRegex, BadDomain, AllowAllTypes, BadAction, BadTransform, BadHeader}
-use Rattle.rule_spec.specs.declared.rule_kind.RuleKind.{RuleKind}
+use Rattle.rule_spec.specs.declared.rule_refusal.RuleRefusal.TheVariants.{BadId, BadPriority, EmptyList, BothFilters, BadUrlFilter, BadRegex, AllowAllTypes, BadAction, BadTransform, BadHeader}
 use Rattle.rule_spec.specs.Rule.{Condition, Action, Rule, modify_headers}
 use Rattle.rule_spec.specs.Rule as rules
-use Rattle.rule_spec.specs.IsRule.{is_number, is_regex_filter, is_frame_kind, are_frame_kinds, AreDomains, IsGivenWhole, IsCondition, IsAction, IsRule, IsOperation, AreOperations, filter_groups}
+use Rattle.rule_spec.specs.Holds.{has_tab}
+use Rattle.rule_spec.specs.RulePath.{key_of}
+use Rattle.rule_spec.specs.IsRule.{is_number, is_regex_text, is_regex_filter, is_tab, AreTabs, is_frame_kind, are_frame_kinds, AreDomains, IsGivenWhole, IsCondition, IsAction, IsRule, IsOperation, AreOperations, filter_groups}
 use Rattle.json_spec.specs.Json.{whole_number, text_at}
 use Rattle.json_spec.specs.RuleFields.{first_refusal, refused_if, refusal_in, unless_refused, Fields, fields_in}
 use Rattle.std.specs.Str.{bytes_eq, str_to_ascii_lowercase}
-use Rattle.serde_json.specs.Data.{Items, no_items, item, array}
-use Rattle.serde_json.specs.Find.{get, as_str, as_array, as_object}
+use Rattle.serde_json.specs.Data.{Items, no_items, item}
+use Rattle.serde_json.specs.Find.{get, as_str, as_number, as_i64, as_array, as_object}
 use Rattle.dnr_base.specs.declared.scheme.Scheme.{Scheme}
 use Rattle.dnr_base.specs.Scheme.{scheme_named}
 use Rattle.dnr_base.specs.declared.redirect.Redirect.{Redirect}
@@ -42,9 +44,9 @@ use Rattle.dnr_spec.specs.declared.header_refusal.HeaderRefusal.{HeaderRefusal}
 use Rattle.dnr_spec.specs.declared.header_refusal.HeaderRefusal.TheVariants.{BadName, BadValue, ValueMissing, ValueGiven, AppendNotAllowed}
 use Rattle.rule_spec.specs.declared.rule_refusal.HeaderCause.TheVariants.{NoHeaders}
 use Rattle.rule_spec.specs.Redirects.{is_short, is_short_pair, is_new_host, is_new_port, is_new_path, is_new_query, is_new_fragment, is_new_scheme, is_extension_path, is_redirect_url, is_substitution, IsPart, IsKeptHost, AreChanges, IsTransform, IsRedirect}
-use Rattle.json_spec.specs.RuleFields.{each}
-use Rattle.json_spec.specs.RuleAction.{tested_text, short_text, new_scheme, as_new_scheme, list_from, pair_from, as_pair, changes_from, as_changes, given_part, part_from, part_in, part_of, transform_tests, transform_of, transform_in, extension_in, url_in, substitution_in, transformed_by, redirect_from, redirect_of, redirect_at, redirecting, redirect_in, or_bad_redirect, if_passes, Change, as_change, changes_at, read_change, with_op, ops_of, or_bad_op, ops_in, is_no_item, is_empty_list, modifying, modify_from, modify_in, action_named, type_of, or_bad_action, action_in}
-use Rattle.json_spec.specs.ReadRule.{url_filter_test, regex_filter_test, tests_before_pattern, filter_tests, filters_in, given_domains, domains_from, domains_in, domain_tests, DomainLists, domain_lists_of, domain_lists_in, either, list_of, empty_test, list_tests, lists_in, kinds_from, condition_of, in_range, as_id, id_of, priority_from, priority_of, Numbers, number_tests, numbers_of, numbers_in, condition_at, fields_at, no_lists, lists_at, groups_at, gives_frames, is_allow_all, no_numbers, numbers_at, frames_in, tabs_in, rule_tests, rule_of, rule_in, RulesKeepTheirForm}
+use Rattle.json_spec.specs.RuleFields.{each, tab_in_range, as_tab, with_tab, tab_set, as_tabs, given_field, field_from, field_in, field_of, field_tests, fields_of}
+use Rattle.json_spec.specs.RuleAction.{tested_text, short_text, new_scheme, as_new_scheme, list_from, pair_from, as_pair, changes_from, as_changes, given_part, part_from, part_in, part_of, transform_tests, transform_of, transform_in, extension_in, url_in, substitution_in, transformed_by, redirect_from, redirect_at, redirecting, redirect_in, or_bad_redirect, if_passes, Change, as_change, changes_at, read_change, with_op, ops_of, or_bad_op, ops_in, is_no_item, is_empty_list, modifying, modify_from, modify_in, action_named, type_of, or_bad_action, action_in}
+use Rattle.json_spec.specs.ReadRule.{url_filter_test, regex_text_test, pattern_test, filter_tests, filters_in, given_domains, domains_from, domains_in, domain_tests, DomainLists, domain_lists_of, domain_lists_in, either, list_of, empty_test, list_tests, lists_in, kinds_from, condition_of, in_range, as_id, id_of, priority_from, priority_of, Numbers, number_tests, numbers_of, numbers_in, condition_at, fields_at, no_lists, lists_at, no_fields, groups_at, gives_frames, is_allow_all, no_numbers, frames_in, rule_tests, rule_of, rule_in, RulesKeepTheirForm}
 
 -- ---- tests that pass
 
@@ -137,9 +139,23 @@ not_not : (b : Bool) → not b ≡ false → b ≡ true
 not_not true h = refl
 not_not false h = cc
 
-regex_filter-valid : (o : Option (List ℕ)) → regex_filter_test o ≡ None → IfSome o (λ text. IsTrue (is_regex_filter text))
-regex_filter-valid None h = tt
-regex_filter-valid (Some text) h = not_not (is_regex_filter text) (not_refused (not (is_regex_filter text)) BadRegex h)
+there_is : {X : Type 0} (o : Option X) → is_none o ≡ false → is_some o ≡ true
+there_is None h = cc
+there_is (Some x) h = refl
+
+all_more : (a b : Bool) → a ≡ true → b ≡ true → (a && b) ≡ true
+all_more true b p q = q
+all_more false b p q = cc
+
+both : (a b : Bool) → (a && b) ≡ true → (a ≡ true) × (b ≡ true)
+both true b h = (refl, h)
+both false b h = cc
+
+regex_filter-valid : (o : Option (List ℕ)) → regex_text_test o ≡ None → pattern_test o ≡ None → IfSome o (λ text. IsTrue (is_regex_filter text))
+regex_filter-valid None h e = tt
+regex_filter-valid (Some text) h e =
+    all_more (is_regex_text text) (is_some (groups_of text)) (not_not (is_regex_text text) (not_refused (not (is_regex_text text)) BadRegex h))
+    (there_is (groups_of text) (not_refused (is_none (groups_of text)) BadRegex e))
 
 one_of : {X Y : Type 0} (a : Option X) (b : Option Y) → (is_some a && is_some b) ≡ false → (is_none a || is_none b) ≡ true
 one_of None b h = refl
@@ -159,7 +175,7 @@ filters-valid f h =
     record {
       one_filter = one_of f.url_filter f.regex_filter (not_refused (is_some f.url_filter && is_some f.regex_filter) BothFilters (first_none one));
       url_filter = url_filter-valid f.url_filter (first_none two);
-      regex_filter = regex_filter-valid f.regex_filter (first_none (rest_pass two));
+      regex_filter = regex_filter-valid f.regex_filter (first_none (rest_pass two)) (first_none (rest_pass (rest_pass two)));
     }
 
 -- ---- lists
@@ -239,7 +255,7 @@ lists-valid f lists h e =
           (reads path.InitiatorDomains f.initiators (first_none initiators)) (reads path.Domains f.old_initiators (first_none old_initiators));
       not_initiators = or_empty-valid (either (list_of (domains_from path.ExcludedInitiatorDomains f.not_initiators)) (list_of (domains_from path.ExcludedDomains f.old_not_initiators)))
           (either-valid AreDomains (list_of (domains_from path.ExcludedInitiatorDomains f.not_initiators)) (list_of (domains_from path.ExcludedDomains f.old_not_initiators))
-              (reads path.ExcludedInitiatorDomains f.not_initiators (first_none not_initiators)) (reads path.ExcludedDomains f.old_not_initiators (first_none old_not_initiators)));
+          (reads path.ExcludedInitiatorDomains f.not_initiators (first_none not_initiators)) (reads path.ExcludedDomains f.old_not_initiators (first_none old_not_initiators)));
       hosts = reads path.RequestDomains f.hosts (first_none hosts);
       not_hosts = or_empty-valid (list_of (domains_from path.ExcludedRequestDomains f.not_hosts)) (reads path.ExcludedRequestDomains f.not_hosts (first_none not_hosts));
       initiators_whole = either-valid (λ list. 0 < length list) (list_of (domains_from path.InitiatorDomains f.initiators)) (list_of (domains_from path.Domains f.old_initiators))
@@ -263,10 +279,96 @@ sets-valid f e =
       tabs = given_whole path.TabIds f.tabs (first_none (rest_pass methods));
     }
 
+-- ---- lists of one form
+
+more-valid : {X : Type 0} (test : X → Bool) (o : Option X) (rest : Option (List X)) (list : List X) → ((x : X) → o ≡ Some x → test x ≡ true) → ((xs : List X) → rest ≡ Some xs → list_all test xs ≡ true)
+    → option_and_then (λ x. option_map (λ xs. x ∷ xs) rest) o ≡ Some list → list_all test list ≡ true
+more-valid test None rest list valid later h = cc
+more-valid test (Some x) None list valid later h = cc
+more-valid test (Some x) (Some xs) list valid later h =
+    let same : x ∷ xs ≡ list = cc in subst (λ l. list_all test l ≡ true) same (all_more (test x) (list_all test xs) (valid x refl) (later xs refl))
+
+-- every item of a list passes a test where each form gives what passes it
+each-valid : {X : Type 0} (test : X → Bool) (form : Data → Option X) → ((d : Data) (x : X) → form d ≡ Some x → test x ≡ true) → (items : Items) (list : List X) → each form items ≡ Some list → list_all test list ≡ true
+each-valid test form valid no_items list h = let same : [] ≡ list = cc in subst (λ l. list_all test l ≡ true) same refl
+each-valid test form valid (item d items) list h = more-valid test (form d) (each form items) list (valid d) (each-valid test form valid items) h
+
+list-valid : {X : Type 0} (test : X → Bool) (form : Data → Option X) → ((d : Data) (x : X) → form d ≡ Some x → test x ≡ true) → (o : Option Items) (list : List X) → option_and_then (each form) o ≡ Some list → list_all test list ≡ true
+list-valid test form valid None list h = cc
+list-valid test form valid (Some items) list h = each-valid test form valid items list h
+
+-- ---- tabs
+
+in_range_tab-valid : (o : Option ℤ) (tab : ℤ) → option_and_then tab_in_range o ≡ Some tab → is_tab tab ≡ true
+in_range_tab-valid None tab h = cc
+in_range_tab-valid (Some other) tab h = kept is_tab other tab (is_tab other) refl h
+
+tab-valid : (d : Data) (tab : ℤ) → as_tab d ≡ Some tab → is_tab tab ≡ true
+tab-valid d tab h = in_range_tab-valid (option_and_then as_i64 (as_number d)) tab h
+
+all_behind : (tabs : List ℤ) (tab : ℤ) → list_all is_tab tabs ≡ true → is_tab tab ≡ true → list_all is_tab (tabs ++ tab ∷ []) ≡ true
+all_behind [] tab h e = all_more (is_tab tab) true e refl
+all_behind (other ∷ tabs) tab h e =
+    let two = both (is_tab other) (list_all is_tab tabs) h in
+    all_more (is_tab other) (list_all is_tab (tabs ++ tab ∷ [])) two.0 (all_behind tabs tab two.1 e)
+
+one_of_two : (b : Bool) (tabs others : List ℤ) → list_all is_tab tabs ≡ true → list_all is_tab others ≡ true → list_all is_tab (cond b tabs others) ≡ true
+one_of_two true tabs others h e = h
+one_of_two false tabs others h e = e
+
+with_tab-valid : (tabs : List ℤ) (tab : ℤ) → list_all is_tab tabs ≡ true → is_tab tab ≡ true → list_all is_tab (with_tab tabs tab) ≡ true
+with_tab-valid tabs tab h e = one_of_two (has_tab tabs tab) tabs (tabs ++ tab ∷ []) h (all_behind tabs tab h e)
+
+folded-valid : (earlier tabs : List ℤ) → list_all is_tab earlier ≡ true → list_all is_tab tabs ≡ true → list_all is_tab (fold with_tab earlier tabs) ≡ true
+folded-valid earlier [] h e = h
+folded-valid earlier (tab ∷ tabs) h e =
+    let two = both (is_tab tab) (list_all is_tab tabs) e in
+    folded-valid (with_tab earlier tab) tabs (with_tab-valid earlier tab h two.0) two.1
+
+set_of-valid : (o : Option (List ℤ)) (tabs : List ℤ) → ((list : List ℤ) → o ≡ Some list → list_all is_tab list ≡ true) → option_map tab_set o ≡ Some tabs → list_all is_tab tabs ≡ true
+set_of-valid None tabs p h = cc
+set_of-valid (Some list) tabs p h =
+    let same : tab_set list ≡ tabs = cc in
+    subst (λ l. list_all is_tab l ≡ true) same (folded-valid [] list refl (p list refl))
+
+tabs_read : (d : Data) (tabs : List ℤ) → as_tabs d ≡ Some tabs → AreTabs tabs
+tabs_read d tabs h =
+    set_of-valid (option_and_then (each as_tab) (as_array d)) tabs (λ list is. list-valid is_tab as_tab tab-valid (as_array d) list is) h
+
+given_tabs : (field : RulePath) (o : Option (List ℤ)) → ((tabs : List ℤ) → o ≡ Some tabs → AreTabs tabs) → IfSome (field_of (given_field field o)) AreTabs
+given_tabs field None p = tt
+given_tabs field (Some tabs) p = p tabs refl
+
+tabs_from : (field : RulePath) (o : Option Data) → IfSome (field_of (field_from as_tabs field o)) AreTabs
+tabs_from field None = tt
+tabs_from field (Some d) = given_tabs field (as_tabs d) (tabs_read d)
+
+pub record AreTabLists (f : Fields) : Type 0 where
+  pub tabs : IfSome f.tabs AreTabs
+  pub not_tabs : IfSome f.not_tabs AreTabs
+
+fields-tabs : (c : Data) (f : Fields) → fields_in c ≡ Ok f → AreTabLists f
+unfolding fields_in field_in
+fields-tabs c f h =
+    let p = all_passed (field_tests c) (fields_of c) f h in
+    subst AreTabLists p.1 (record {
+      tabs = tabs_from path.TabIds (get (key_of path.TabIds) c);
+      not_tabs = tabs_from path.ExcludedTabIds (get (key_of path.ExcludedTabIds) c);
+    })
+
+pub tabs-valid : (d : Data) → refusal_in (fields_in (condition_at d)) ≡ None → AreTabLists (fields_at d)
+tabs-valid d h =
+    let there = value_there (fields_in (condition_at d)) h in
+    subst AreTabLists (sym (ap (λ r. result_unwrap_or r no_fields) there.1)) (fields-tabs (condition_at d) there.0 there.1)
+
+or_no_tabs : (o : Option (List ℤ)) → IfSome o AreTabs → AreTabs (unwrap_or o [])
+or_no_tabs None p = refl
+or_no_tabs (Some tabs) p = p
+
 -- ---- the condition
 
-pub condition-valid : (f : Fields) (lists : DomainLists) → AreFilters f → AreDomainLists lists → AreSets f → IsCondition (condition_of f lists)
-condition-valid f lists filters domains sets = record {
+pub condition-valid : (f : Fields) (lists : DomainLists) → AreFilters f → AreDomainLists lists → AreSets f → AreTabLists f → IsCondition (condition_of f lists)
+condition-valid f lists filters domains sets tabs = record {
   one_filter = filters.one_filter;
   url_filter = filters.url_filter;
   regex_filter = filters.regex_filter;
@@ -275,7 +377,8 @@ condition-valid f lists filters domains sets = record {
   hosts = (domains.hosts_whole, domains.hosts);
   not_hosts = domains.not_hosts;
   methods = sets.methods;
-  tabs = sets.tabs;
+  tabs = (sets.tabs, tabs.tabs);
+  not_tabs = or_no_tabs f.not_tabs tabs.not_tabs;
 }
 
 -- ---- redirects
@@ -295,10 +398,6 @@ part-valid : {X : Type 0} (P : X → Type 0) (form : Data → Option X) (o : Opt
 part-valid P form None part valid h = let same : None ≡ part = cc in subst (λ p. IfSome p P) same tt
 part-valid P form (Some d) part valid h = given_part-valid P (form d) part (valid d) h
 
-both : (a b : Bool) → (a && b) ≡ true → (a ≡ true) × (b ≡ true)
-both true b h = (refl, h)
-both false b h = cc
-
 named-valid : (o : Option Scheme) (scheme : Scheme) → option_and_then (λ s. cond (is_new_scheme s) (Some s) None) o ≡ Some scheme → is_new_scheme scheme ≡ true
 named-valid None scheme h = cc
 named-valid (Some s) scheme h = kept is_new_scheme s scheme (is_new_scheme s) refl h
@@ -310,26 +409,6 @@ scheme-valid (Some name) scheme h = named-valid (scheme_named name) scheme h
 kept_host : (o : Option (List ℕ)) → IfSome o (λ text. IsTrue (is_short text && is_new_host text)) → IfSome (option_map str_to_ascii_lowercase o) IsKeptHost
 kept_host None p = tt
 kept_host (Some text) p = (text, p, refl)
-
-all_more : (a b : Bool) → a ≡ true → b ≡ true → (a && b) ≡ true
-all_more true b p q = q
-all_more false b p q = cc
-
-more-valid : {X : Type 0} (test : X → Bool) (o : Option X) (rest : Option (List X)) (list : List X) → ((x : X) → o ≡ Some x → test x ≡ true) → ((xs : List X) → rest ≡ Some xs → list_all test xs ≡ true)
-    → option_and_then (λ x. option_map (λ xs. x ∷ xs) rest) o ≡ Some list → list_all test list ≡ true
-more-valid test None rest list valid later h = cc
-more-valid test (Some x) None list valid later h = cc
-more-valid test (Some x) (Some xs) list valid later h =
-    let same : x ∷ xs ≡ list = cc in subst (λ l. list_all test l ≡ true) same (all_more (test x) (list_all test xs) (valid x refl) (later xs refl))
-
--- every item of a list passes a test where each form gives what passes it
-each-valid : {X : Type 0} (test : X → Bool) (form : Data → Option X) → ((d : Data) (x : X) → form d ≡ Some x → test x ≡ true) → (items : Items) (list : List X) → each form items ≡ Some list → list_all test list ≡ true
-each-valid test form valid no_items list h = let same : [] ≡ list = cc in subst (λ l. list_all test l ≡ true) same refl
-each-valid test form valid (item d items) list h = more-valid test (form d) (each form items) list (valid d) (each-valid test form valid items) h
-
-list-valid : {X : Type 0} (test : X → Bool) (form : Data → Option X) → ((d : Data) (x : X) → form d ≡ Some x → test x ≡ true) → (o : Option Items) (list : List X) → option_and_then (each form) o ≡ Some list → list_all test list ≡ true
-list-valid test form valid None list h = cc
-list-valid test form valid (Some items) list h = each-valid test form valid items list h
 
 list_from-valid : {X : Type 0} (test : X → Bool) (form : Data → Option X) → ((d : Data) (x : X) → form d ≡ Some x → test x ≡ true) → (o : Option Data) (list : List X) → list_from form o ≡ Some list → list_all test list ≡ true
 list_from-valid test form valid None list h = let same : [] ≡ list = cc in subst (λ l. list_all test l ≡ true) same refl
@@ -481,8 +560,8 @@ made_op false false false false false name operation value op h =
 op-valid : (direction : Direction) (change : Change) (op : HeaderOp) → read_change direction change ≡ Ok op → IsOperation direction op
 op-valid direction change op h =
     let same = made_op (not (is_name change.header)) (has_bad_value change.value) (needs_value change.operation && is_none change.value)
-        (not (needs_value change.operation) && is_some change.value) (is_append change.operation && not (may_append direction change.header))
-        (str_to_ascii_lowercase change.header) change.operation change.value op h in
+    (not (needs_value change.operation) && is_some change.value) (is_append change.operation && not (may_append direction change.header))
+    (str_to_ascii_lowercase change.header) change.operation change.value op h in
     (change.header, subst (λ v. header_op_of direction change.header op.operation v ≡ Ok op) (sym same.1) (subst (λ o. header_op_of direction change.header o change.value ≡ Ok op) (sym same.0) h))
 
 with_op-valid : (direction : Direction) (reading : Result HeaderOp HeaderRefusal) (rest : Result (List HeaderOp) HeaderRefusal) (ops : List HeaderOp)
@@ -560,10 +639,10 @@ modify-valid condition d action h =
     let request = op_there (ops_of direction.Request m.0) n.0 n.2 in
     let response = op_there (ops_of direction.Response m.1) n.1 n.3 in
     let count : 0 < length n.0 + length n.1 =
-        ⊎_elim
-        (λ e. let one : 0 < length n.0 = ops-some direction.Request m.0 n.0 request (changes-some asked m.0 m.2 e) in omega (arith, one))
-        (λ e. let one : 0 < length n.1 = ops-some direction.Response m.1 n.1 response (changes-some answered m.1 m.3 e) in omega (arith, one))
-        (both_false (is_empty_list asked) (is_empty_list answered) some.0) in
+    ⊎_elim
+    (λ e. let one : 0 < length n.0 = ops-some direction.Request m.0 n.0 request (changes-some asked m.0 m.2 e) in omega (arith, one))
+    (λ e. let one : 0 < length n.1 = ops-some direction.Response m.1 n.1 response (changes-some answered m.1 m.3 e) in omega (arith, one))
+    (both_false (is_empty_list asked) (is_empty_list answered) some.0) in
     subst (IsAction condition) n.4 (count, ops-valid direction.Request m.0 n.0 request, ops-valid direction.Response m.1 n.1 response)
 
 -- ---- actions
@@ -645,14 +724,15 @@ rules_keep_their_form kind is_taken d rule h =
     let acts = value_there (action_in (groups_at d) (get (codes "action") d)) (first_none behind_tabs) in
     let valid = numbers-valid is_taken d numbers.0 numbers.1 in
     let sets = sets-valid f whole in
+    let tabs = tabs-valid d (first_none behind_numbers) in
     let numbers_are = ap (λ r. result_unwrap_or r no_numbers) (sym numbers.1) in
     let lists_are = ap (λ r. result_unwrap_or r no_lists) (sym domains.1) in
     let action_is = ap (λ r. result_unwrap_or r rules.block) (sym acts.1) in
     subst IsRule read.1 (record {
       id = subst (λ n. IsTrue (is_number n.id)) numbers_are valid.0;
       priority = subst (λ n. IsTrue (is_number n.priority)) numbers_are valid.1;
-      condition = subst (λ lists. IsCondition (condition_of f lists)) lists_are (condition-valid f domains.0 (filters-valid f filters) (lists-valid f domains.0 domains.1 whole) sets);
+      condition = subst (λ lists. IsCondition (condition_of f lists)) lists_are (condition-valid f domains.0 (filters-valid f filters) (lists-valid f domains.0 domains.1 whole) sets tabs);
       action = subst (λ a. IsAction (condition_of f (lists_at d)) a) action_is
           (action-valid (condition_of f (lists_at d)) (groups_at d) (get (codes "action") d) acts.0 refl
-              (λ all. frames-valid f.kinds f.not_kinds (frames_given (is_allow_all (type_of (get (codes "action") d))) (gives_frames f.kinds) (frames_pass (get (codes "action") d) f frames) all) sets.kinds) acts.1);
+          (λ all. frames-valid f.kinds f.not_kinds (frames_given (is_allow_all (type_of (get (codes "action") d))) (gives_frames f.kinds) (frames_pass (get (codes "action") d) f frames) all) sets.kinds) acts.1);
     })
