@@ -1,5 +1,5 @@
 -- A test that fails refuses the whole, where those before it pass.
-use Rattle.std.proofs.Common.{◌≡◌, List, [], ◌∷◌, Result, Ok, Err, Option, Some, None, refl, ap, ◌∙◌}
+use Rattle.std.proofs.Common.{◌≡◌, List, ◌∷◌, Result, Err, Option, ap, ◌∙◌}
 use Rattle.rule_spec.specs.declared.rule_refusal.RuleRefusal.{RuleRefusal}
 use Rattle.rule_spec.specs.declared.rule_refusal.RuleRefusal.TheVariants.{HostFault, NoMemory}
 use Rattle.json_spec.specs.RuleFields.{first_refusal, refusal_in, unless_refused}

@@ -1,9 +1,6 @@
 -- Examples of rules from JSON, each computed from the definitions alone.
-use Rattle.std.specs.Prelude.{◌≡◌, ℕ, ℤ, pos, negsuc, List, [], ◌∷◌, ◌++◌, codes, Bool, true, false, Option, Some, None, Result, Ok, Err, option_map}
-use Rattle.serde_json.specs.Data.{Data}
+use Rattle.std.specs.Prelude.{◌≡◌, ℕ, pos, negsuc, List, [], ◌∷◌, ◌++◌, codes, false, Option, Some, None, Result, Ok, Err, option_map}
 use Rattle.dnr_base.specs.declared.kind.Kind.TheVariants.{MainFrame, SubFrame, Script}
-use Rattle.dnr_base.specs.declared.operation.Operation.TheVariants.{Set}
-use Rattle.dnr_base.specs.declared.redirect.Redirect.TheVariants.{RegexSubstitution}
 use Rattle.dnr_base.specs.Kind.{default_kinds}
 use Rattle.dnr_spec.specs.declared.pattern_refusal.PatternRefusal.TheVariants as pattern
 use Rattle.dnr_spec.specs.declared.header_refusal.HeaderRefusal.TheVariants.{AppendNotAllowed}
@@ -14,7 +11,7 @@ use Rattle.rule_spec.specs.declared.rule_refusal.RuleRefusal.{RuleRefusal}
 use Rattle.rule_spec.specs.declared.rule_refusal.RuleRefusal.TheVariants as refusal
 use Rattle.rule_spec.specs.declared.rule_refusal.HeaderCause.TheVariants as cause
 use Rattle.rule_spec.specs.declared.placed_refusal.PlacedRefusal.{PlacedRefusal}
-use Rattle.rule_spec.specs.Rule.{Condition, Action, block, redirect, allow_all_requests, Rule}
+use Rattle.rule_spec.specs.Rule.{Condition, block, allow_all_requests, Rule}
 use Rattle.json_spec.specs.Json.{tree_of}
 use Rattle.json_spec.specs.ReadRule.{read_rule, read_rules}
 

@@ -1,5 +1,5 @@
 -- Why a reading stops: the definition refuses it so, or memory ran out, or a pattern host failed.
-use Rattle.std.specs.Prelude.{◌≡◌, Option, Some, Result, Ok, Err}
+use Rattle.std.specs.Prelude.{◌≡◌, Option, Some, Result, Err}
 use Rattle.rule_spec.specs.declared.rule_refusal.RuleRefusal.{RuleRefusal}
 use Rattle.rule_spec.specs.declared.rule_refusal.RuleRefusal.TheVariants.{HostFault, NoMemory}
 

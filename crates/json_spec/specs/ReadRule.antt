@@ -1,15 +1,14 @@
 -- Rules from JSON: Chrome's reference of declarativeNetRequest, `Rule`, with the limits of this engine. The first
 -- test that fails names the refusal.
-use Rattle.std.specs.Prelude.{◌≡◌, ◌⊎◌, ℕ, ◌+◌, min, List, [], ◌∷◌, ◌++◌, length, codes, filter, Bool, true, false, not, ◌==◌, ◌&&◌, ◌||◌, Option, Some, None, IsSome, is_some, is_none, unwrap_or, option_map, option_and_then, Result, Ok, Err, if◌then◌else◌}
+use Rattle.std.specs.Prelude.{◌≡◌, ◌⊎◌, ℕ, min, List, [], ◌∷◌, ◌++◌, length, codes, filter, Bool, true, false, not, ◌==◌, ◌&&◌, ◌||◌, Option, Some, None, IsSome, is_some, is_none, unwrap_or, option_map, option_and_then, Result, Ok, Err, if◌then◌else◌}
 use Rattle.std.specs.Option.{option_map_or}
 use Rattle.std.specs.Result.{result_unwrap_or, result_err}
 use Rattle.std.specs.List.{list_all, list_any}
 use Rattle.std.specs.Str.{bytes_eq}
-use Rattle.serde_json.specs.Data.{Data, null, Items, no_items, item, Members}
-use Rattle.serde_json.specs.Find.{get, as_str, as_array, as_object}
+use Rattle.serde_json.specs.Data.{Data, null, Items, no_items, item}
+use Rattle.serde_json.specs.Find.{get, as_array, as_object}
 use Rattle.dnr_base.specs.declared.kind.Kind.{Kind}
 use Rattle.dnr_base.specs.Kind.{all_kinds, default_kinds, has_kind}
-use Rattle.dnr_spec.specs.declared.pattern_refusal.PatternRefusal.{PatternRefusal}
 use Rattle.dnr_spec.specs.declared.domain_refusal.DomainRefusal.{DomainRefusal}
 use Rattle.dnr_spec.specs.UrlFilter.{pattern_of}
 use Rattle.dnr_spec.specs.Patterns.{groups_of}
@@ -21,9 +20,9 @@ use Rattle.rule_spec.specs.declared.rule_path.RulePath.TheVariants as path
 use Rattle.rule_spec.specs.declared.rule_refusal.RuleRefusal.{RuleRefusal}
 use Rattle.rule_spec.specs.declared.rule_refusal.RuleRefusal.TheVariants.{NotObject, BadId, DuplicateId, BadPriority, BadField, BothFilters, BadUrlFilter, BadRegex, BadDomain, EmptyList, BothTypeLists, AllowAllTypes, TabsNotSession, HostFault}
 use Rattle.rule_spec.specs.declared.placed_refusal.PlacedRefusal.{PlacedRefusal}
-use Rattle.rule_spec.specs.Rule.{Condition, Action, block, Rule}
+use Rattle.rule_spec.specs.Rule.{Condition, block, Rule}
 use Rattle.rule_spec.specs.IsRule.{is_number, is_regex_text, is_frame_kind, IsRule}
-use Rattle.json_spec.specs.Json.{whole_number, text_at}
+use Rattle.json_spec.specs.Json.{whole_number}
 use Rattle.json_spec.specs.RuleFields.{first_refusal, refused_if, refusal_in, unless_refused, Fields, fields_in}
 use Rattle.json_spec.specs.RuleAction.{type_of, action_in}
 

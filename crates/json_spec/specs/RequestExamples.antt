@@ -1,5 +1,5 @@
 -- Examples of script lines that ask for a request, each computed from the definitions alone.
-use Rattle.std.specs.Prelude.{◌≡◌, ℕ, ℤ, pos, negsuc, List, [], ◌∷◌, ◌++◌, codes, Option, Some, None, Result, Ok, Err}
+use Rattle.std.specs.Prelude.{◌≡◌, ℕ, pos, negsuc, List, [], ◌∷◌, ◌++◌, codes, Option, Some, None, Result, Ok, Err}
 use Rattle.dnr_base.specs.declared.frame.Frame.{Frame}
 use Rattle.dnr_base.specs.declared.header.Header.{Header}
 use Rattle.dnr_base.specs.declared.kind.Kind.TheVariants.{Image}

@@ -1,6 +1,6 @@
 -- What a script line reads as: nothing, or a JSON object whose `cmd` says what it asks for. Fields are tested in the
 -- order in which they stand here, and the first at fault is named; keys that are not known are ignored.
-use Rattle.std.specs.Prelude.{ℕ, ◌+◌, ℤ, negsuc, List, [], ◌∷◌, codes, Bool, true, false, not, ◌&&◌, ◌≡◌, nat_le, Option, Some, None, option_and_then, Result, Ok, Err, if◌then◌else◌}
+use Rattle.std.specs.Prelude.{ℕ, ◌+◌, ℤ, negsuc, List, [], ◌∷◌, codes, Bool, not, ◌&&◌, ◌≡◌, nat_le, min, Option, Some, None, option_and_then, Result, Ok, Err, if◌then◌else◌}
 use Rattle.std.specs.List.{list_any}
 use Rattle.std.specs.Str.{bytes_eq, str_to_ascii_lowercase}
 use Rattle.serde_json.specs.Data.{Data, null, string, Items, no_items, item, Members}
@@ -15,7 +15,7 @@ use Rattle.dnr_base.specs.Request.{IsRequest, max_frames, max_headers}
 use Rattle.dnr_base.specs.View.{View, host_of}
 use Rattle.dnr_spec.specs.declared.view_refusal.ViewRefusal.{ViewRefusal}
 use Rattle.dnr_spec.specs.Headers.{is_name, ends_value}
-use Rattle.dnr_spec.specs.Lines.{is_blank}
+use Rattle.dnr_spec.specs.Lines.{max_lines, is_blank}
 use Rattle.dnr_spec.specs.UrlView.{view_of}
 use Rattle.json_spec.specs.declared.command_path.CommandPath.{CommandPath}
 use Rattle.json_spec.specs.declared.command_path.CommandPath.TheVariants as path
@@ -215,9 +215,9 @@ abbrev pub command_of_tree : ℕ → Option Data → Result Command LineFault
 command_of_tree number None = Err BadJson
 command_of_tree number (Some d) = command_in number d
 
--- the command of the line of this number
+-- the command of the line of this number; a script has no more lines than a line's number can say
 unfoldable pub command_of : ℕ → List ℕ → Result Command LineFault
-command_of number line = if is_blank line then Ok blank else command_of_tree number (tree_of line)
+command_of number line = if is_blank line then Ok blank else command_of_tree (min number max_lines) (tree_of line)
 
 -- ---- why a reading stops
 
@@ -226,14 +226,10 @@ abbrev pub IsFaultOf : {X : Type 0} → Result X LineFault → LineFault → Typ
 IsFaultOf expected NoMemory = Unit {0}
 IsFaultOf expected fault = expected ≡ Err fault
 
--- ---- laws
+-- ---- what every command keeps
 
--- what a command keeps whose request is within its limits
+-- its request is within the limits of requests
 abbrev pub IsWithinLimits : Command → Type 0
 IsWithinLimits blank = Unit {0}
 IsWithinLimits (request r) = IsRequest r
 IsWithinLimits (explain r) = IsRequest r
-
--- every command that is read keeps them
-abbrev pub CommandsAreWithinLimits : Type 0
-CommandsAreWithinLimits = (number : ℕ) (line : List ℕ) (command : Command) → command_of number line ≡ Ok command → IsWithinLimits command

@@ -1,20 +1,16 @@
 -- The action of a rule as it stands in a JSON object: Chrome's reference of declarativeNetRequest, `RuleAction`,
 -- `Redirect`, `URLTransform` and `ModifyHeaderInfo`.
-use Rattle.std.specs.Prelude.{ℕ, ◌+◌, ◌-◌, ◌*◌, List, [], ◌∷◌, length, codes, fold, slice_index, slice_range, Bool, true, false, not, ◌==◌, ◌&&◌, ◌||◌, nat_le, nat_eq, Option, Some, None, is_some, is_none, option_map, option_and_then, Result, Ok, Err, if◌then◌else◌}
+use Rattle.std.specs.Prelude.{ℕ, ◌+◌, List, [], ◌∷◌, length, codes, Bool, true, false, ◌&&◌, nat_le, Option, Some, None, is_some, is_none, option_map, option_and_then, Result, Ok, Err, if◌then◌else◌}
 use Rattle.std.specs.Option.{option_map_or}
-use Rattle.std.specs.Result.{result_unwrap_or, is_ok}
-use Rattle.std.specs.List.{list_all, list_any, starts_with}
-use Rattle.std.specs.Char.{is_ascii_digit}
+use Rattle.std.specs.Result.{result_unwrap_or}
 use Rattle.std.specs.Str.{bytes_eq, str_to_ascii_lowercase}
-use Rattle.url.specs.Parts.{Parts}
-use Rattle.serde_json.specs.Data.{Data, Items, no_items, item, null, boolean, number, string, array, object}
+use Rattle.serde_json.specs.Data.{Data, Items, no_items, item}
 use Rattle.serde_json.specs.Find.{get, as_str, as_bool, as_array, as_object}
 use Rattle.dnr_base.specs.declared.direction.Direction.{Direction}
 use Rattle.dnr_base.specs.declared.direction.Direction.TheVariants as direction
 use Rattle.dnr_base.specs.declared.operation.Operation.{Operation}
 use Rattle.dnr_base.specs.declared.operation.Operation.TheVariants.{Append, Set, Remove}
 use Rattle.dnr_base.specs.declared.scheme.Scheme.{Scheme}
-use Rattle.dnr_base.specs.declared.scheme.Scheme.TheVariants.{Http, Https, Ws, Wss, Ftp, ChromeExtension}
 use Rattle.dnr_base.specs.Scheme.{scheme_named}
 use Rattle.dnr_base.specs.declared.redirect.Redirect.{Redirect}
 use Rattle.dnr_base.specs.declared.redirect.Redirect.TheVariants as redirect
@@ -23,17 +19,13 @@ use Rattle.dnr_base.specs.declared.query_transform.QueryTransform.{QueryTransfor
 use Rattle.dnr_base.specs.declared.query_pair.QueryPair.{QueryPair}
 use Rattle.dnr_spec.specs.declared.header_refusal.HeaderRefusal.{HeaderRefusal}
 use Rattle.dnr_spec.specs.Headers.{HeaderOp, header_op_of}
-use Rattle.dnr_spec.specs.Domains.{is_address, is_label_byte}
-use Rattle.dnr_spec.specs.Substitution.{substitution_of}
-use Rattle.dnr_spec.specs.Target.{url_of}
 use Rattle.rule_spec.specs.declared.rule_refusal.RuleRefusal.{RuleRefusal}
 use Rattle.rule_spec.specs.declared.rule_refusal.RuleRefusal.TheVariants.{BadAction, BadRedirect, BadTransform, BadHeader}
-use Rattle.rule_spec.specs.declared.rule_refusal.HeaderCause.{HeaderCause}
 use Rattle.rule_spec.specs.declared.rule_refusal.HeaderCause.TheVariants.{NoHeaders, BadShape, Op}
 use Rattle.rule_spec.specs.Rule.{Action, block, redirect, allow, upgrade_scheme, modify_headers, allow_all_requests}
 use Rattle.rule_spec.specs.Redirects.{is_short, is_new_host, is_new_port, is_new_path, is_new_query, is_new_fragment, is_new_scheme, is_extension_path, is_redirect_url, is_substitution, max_entries}
 use Rattle.json_spec.specs.Json.{text_at}
-use Rattle.json_spec.specs.RuleFields.{first_refusal, refused_if, refusal_in, unless_refused, each, list_of, as_texts}
+use Rattle.json_spec.specs.RuleFields.{first_refusal, refused_if, refusal_in, unless_refused, list_of}
 
 -- ---- transforms
 

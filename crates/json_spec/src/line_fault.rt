@@ -1,5 +1,9 @@
+ghost use Rattle.std.specs.Prelude.{◌≡◌};
+
 use crate::CommandPath;
+use dnr_base::NoMemory;
 use dnr_spec::ViewRefusal;
+use std::alloc::{AllocError, AllocFailed};
 
 /// Why a script line is no command.
 #[derive(Debug, PartialEq, Eq, Drop)]
@@ -12,4 +16,34 @@ pub enum LineFault {
     BadUrl(CommandPath, ViewRefusal),
     /// Memory ran out.
     NoMemory,
+}
+
+impl From<AllocError> for LineFault {
+    ghost use Rattle.json_spec.specs.declared.line_fault.LineFault.TheVariants.{NoMemory};
+
+    ghost from_gives = { λ _ e. e ≡ NoMemory };
+
+    fn from(_: AllocError) -> LineFault {
+        LineFault::NoMemory
+    }
+}
+
+impl<T: Drop> From<AllocFailed<T>> for LineFault {
+    ghost use Rattle.json_spec.specs.declared.line_fault.LineFault.TheVariants.{NoMemory};
+
+    ghost from_gives = { λ _ e. e ≡ NoMemory };
+
+    fn from(_: AllocFailed<T>) -> LineFault {
+        LineFault::NoMemory
+    }
+}
+
+impl From<NoMemory> for LineFault {
+    ghost use Rattle.json_spec.specs.declared.line_fault.LineFault.TheVariants.{NoMemory};
+
+    ghost from_gives = { λ _ e. e ≡ NoMemory };
+
+    fn from(_: NoMemory) -> LineFault {
+        LineFault::NoMemory
+    }
 }

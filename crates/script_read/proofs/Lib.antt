@@ -1,0 +1,5 @@
+pub mod Names
+pub mod Limits
+pub mod Stops
+pub mod FramesRead
+pub mod Pairs

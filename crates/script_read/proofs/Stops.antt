@@ -1,0 +1,9 @@
+-- A part at fault is a fault of the whole.
+use Rattle.std.proofs.Common.{Result, ap}
+use Rattle.json_spec.specs.declared.line_fault.LineFault.{LineFault}
+use Rattle.json_spec.specs.declared.line_fault.LineFault.TheVariants.{NoMemory}
+use Rattle.json_spec.specs.RequestLine.{and_then, IsFaultOf}
+
+pub stops_there : {X Y : Type 0} (part : Result X LineFault) (go_on : X → Result Y LineFault) (fault : LineFault) → IsFaultOf part fault → IsFaultOf (and_then part go_on) fault
+stops_there part go_on NoMemory h = h
+stops_there part go_on fault h = ap (λ p. and_then p go_on) h

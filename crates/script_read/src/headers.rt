@@ -1,0 +1,128 @@
+// The headers of a request.
+ghost use Rattle.std.specs.Prelude.{◌≡◌, not, Ok, IfOk, IfErr, IfSome, option_map};
+ghost use Rattle.std.specs.List.{list_all, list_any};
+ghost use Rattle.std.specs.Option.{option_copied};
+ghost use Rattle.http_header.specs.Token.{is_token_byte};
+ghost use Rattle.serde_json.specs.View.{view, items_view};
+ghost use Rattle.dnr_base.specs.Request.{IsHeaderList};
+ghost use Rattle.dnr_spec.specs.Headers as words;
+ghost use Rattle.json_spec.specs.RequestLine as spec;
+ghost use Rattle.json_spec.specs.RuleFields.{each};
+
+use dnr_base::{Header, Items, NoMemory, Text};
+use http_header::is_token_char;
+use json_spec::{CommandPath, LineFault};
+use serde_json::Value;
+use std::alloc::Global;
+
+// The most headers of one list.
+const MAX_HEADERS: usize = 512;
+
+// The most bytes of a header's name.
+const MAX_NAME: usize = 256;
+
+// The headers of the list in this field, if there is one.
+#[tactic(auto, unfolding(json_spec::specs::RequestLine::headers_in))]
+pub(crate) fn headers_in(
+    alloc: Global,
+    field: CommandPath,
+    tree: &Value,
+) -> Result<Option<Items<Header>>, LineFault>
+    ensures read { IfOk result (λ headers. spec.headers_in field (view tree.now) ≡ Ok headers) }
+    ensures listed { IfOk result (λ headers. IfSome headers IsHeaderList) }
+    ensures refused { IfErr result (spec.IsFaultOf (spec.headers_in field (view tree.now))) }
+{
+    let Some(value) = tree.get(field.name()) else {
+        return Ok(None);
+    };
+    match as_headers(alloc, value)? {
+        Some(headers) => Ok(Some(headers)),
+        None => Err(LineFault::BadCommand(field)),
+    }
+}
+
+#[tactic(auto, using(crate::proofs::Limits::count_is, crate::proofs::Limits::headers_listed))]
+fn as_headers(alloc: Global, value: &Value) -> Result<Option<Items<Header>>, NoMemory>
+    ensures read { IfOk result (λ headers. headers ≡ spec.as_headers (view value.now)) }
+    ensures listed { IfOk result (λ headers. IfSome headers IsHeaderList) }
+{
+    match value.as_array() {
+        Some(values) if values.len() <= MAX_HEADERS => each_header(alloc, values),
+        _ => Ok(None),
+    }
+}
+
+#[tactic(auto, using(json_spec::proofs::Each::read_begins, json_spec::proofs::Each::read_goes, json_spec::proofs::Each::read_stops, json_spec::proofs::Each::read_ends))]
+fn each_header(alloc: Global, values: &[Value]) -> Result<Option<Items<Header>>, NoMemory>
+    ensures { IfOk result (λ headers. headers ≡ each spec.as_header (items_view values.now)) }
+{
+    let mut headers = Vec::with_capacity(alloc, values.len())?;
+    for value in values {
+        let Some(header) = as_header(alloc, value)? else {
+            return Ok(None);
+        };
+        headers.push(header)?;
+    }
+    Ok(Some(Items::build(headers)))
+}
+
+// A header from a pair of its name and its value.
+#[tactic(auto, using(crate::proofs::Pairs::too_few, crate::proofs::Pairs::too_many), unfolding(json_spec::specs::RequestLine::as_header))]
+fn as_header(alloc: Global, value: &Value) -> Result<Option<Header>, NoMemory>
+    ensures { IfOk result (λ header. header ≡ spec.as_header (view value.now)) }
+{
+    let Some(values) = value.as_array() else {
+        return Ok(None);
+    };
+    let [name, value] = values.as_slice() else {
+        return Ok(None);
+    };
+    header_of(alloc, name.as_str(), value.as_str())
+}
+
+fn header_of(
+    alloc: Global,
+    name: Option<&str>,
+    value: Option<&str>,
+) -> Result<Option<Header>, NoMemory>
+    ensures { IfOk result (λ header. header ≡ spec.header_of (option_copied name.entry) (option_copied value.entry)) }
+{
+    match (name, value) {
+        (Some(name), Some(value)) if is_name(name) && is_one_value(value) => Ok(Some(Header {
+            name: Text::build(name.to_ascii_lowercase(alloc)?),
+            value: Text::build(String::from_str(alloc, value)?),
+        })),
+        _ => Ok(None),
+    }
+}
+
+// Whether the name is a field name that is not too long.
+#[tactic(auto, using(crate::proofs::Names::is_name_by_bytes))]
+fn is_name(name: &str) -> bool
+    ensures { result ≡ words.is_name name.now }
+{
+    let bytes = name.as_bytes();
+    !bytes.is_empty() && bytes.len() <= MAX_NAME && has_token_bytes(bytes)
+}
+
+// Whether each byte may stand in a token.
+fn has_token_bytes(bytes: &[u8]) -> bool
+    ensures { result ≡ list_all is_token_byte bytes.now }
+{
+    bytes.iter().all(|byte| is_token_char(*byte))
+}
+
+// Whether no byte would end the value.
+fn is_one_value(value: &str) -> bool
+    ensures { result ≡ spec.is_one_value value.now }
+{
+    !has_end_of_value(value.as_bytes())
+}
+
+fn has_end_of_value(bytes: &[u8]) -> bool
+    ensures { result ≡ list_any words.ends_value bytes.now }
+{
+    bytes
+        .iter()
+        .any(|byte| *byte == b'\r' || *byte == b'\n' || *byte == 0)
+}
