@@ -1,1 +1,5 @@
-pub mod ReadRules
+pub mod TypeSets
+pub mod Texts
+pub mod Chains
+pub mod ReadLists
+pub mod Stages

@@ -1,4 +1,4 @@
-ghost use Rattle.std.specs.Prelude.{◌≡◌, ◌==◌, false, [], List, filter, not, Ok, OnOk, IfOk, IfErr, length, option_map, unwrap_or};
+ghost use Rattle.std.specs.Prelude.{◌≡◌, ◌≤◌, ◌==◌, false, [], List, filter, not, Ok, OnOk, IfOk, IfErr, length, option_map, unwrap_or};
 ghost use Rattle.std.specs.Option.{option_copied, option_map_or};
 ghost use Rattle.dnr_base.specs.Faults.{Rose};
 ghost use Rattle.dnr_base.specs.Kind.{all_kinds, has_kind};
@@ -7,11 +7,12 @@ ghost use Rattle.dnr_base.specs.MethodSet.{methods_of};
 ghost use Rattle.dnr_spec.specs.Patterns.{groups_of};
 ghost use Rattle.json_spec.specs.ReadRule as spec;
 ghost use Rattle.json_spec.specs.ReadRule.{filters_in, domains_in, domain_lists_in, lists_in, tabs_in, IsAtPattern, kinds_from};
+ghost use Rattle.rule_spec.specs.IsRule.{is_regex_text};
 ghost use Rattle.json_spec.specs.MayRefuse.{MayRefuse, IsRefused, RefusesTest};
 ghost use Rattle.rule_fields.specs.Seen.{fields_seen};
 ghost use Rattle.rule_read.specs.Seen.{lists_seen};
 
-use dnr_base::{Items, Kind, KindSet, MethodSet, NoMemory, Text};
+use dnr_base::{Items, Kind, KindSet, MethodSet, Text};
 use dnr_spec::{DomainRefusal, PatternRefusal};
 use domain_set::DomainSet;
 use regex_host::{HostRefusal, RegexHost};
@@ -44,6 +45,7 @@ pub(crate) fn read_filters<H: RegexHost>(
     ensures groups { IfOk result (λ filters. filters.groups ≡ option_map_or groups_of (option_copied fields.now.regex_filter) None) }
     ensures refused { IfErr result (MayRefuse (filters_in (fields_seen fields.now))
         (Rose (H.faults host.old) (H.faults host.new) × IsAtPattern (fields_seen fields.now))) }
+    ensures later { H.faults host.old ≤ H.faults host.new }
 {
     match (fields.url_filter, fields.regex_filter) {
         (None, None) => Ok(Filters {
@@ -57,6 +59,9 @@ pub(crate) fn read_filters<H: RegexHost>(
             groups: None,
         }),
         (None, Some(text)) => {
+            if !is_regex_text(text) {
+                return Err(RuleRefusal::BadRegex);
+            }
             let fold = !fields.case_sensitive.unwrap_or(false);
             let groups = check_pattern(text, fold, host)?;
             let text = copy_text(alloc, text)?;
@@ -92,15 +97,20 @@ fn read_pattern(alloc: Global, text: &str) -> Result<Pattern, RuleRefusal>
     }
 }
 
+// ASCII, not empty and not too long.
+#[tactic(auto, using(crate::proofs::Texts::ascii_is))]
+fn is_regex_text(text: &str) -> bool
+    ensures { result ≡ is_regex_text text.now }
+{
+    !text.is_empty() && text.len() <= MAX_REGEX && text.is_ascii()
+}
+
 // The count of groups of a regexFilter's pattern.
 fn check_pattern<H: RegexHost>(text: &str, fold: bool, host: &mut H) -> Result<u32, RuleRefusal>
     ensures groups { IfOk result (λ groups. groups_of text.now ≡ Some groups) }
-    ensures passes { OnOk result (spec.regex_filter_test (Some text.now) ≡ None) }
-    ensures refused { IfErr result (RefusesTest (spec.regex_filter_test (Some text.now)) (Rose (H.faults host.old) (H.faults host.new))) }
+    ensures refused { IfErr result (RefusesTest (spec.pattern_test (Some text.now)) (Rose (H.faults host.old) (H.faults host.new))) }
+    ensures later { H.faults host.old ≤ H.faults host.new }
 {
-    if text.is_empty() || text.len() > MAX_REGEX || !text.is_ascii() {
-        return Err(RuleRefusal::BadRegex);
-    }
     match host.check(text, fold) {
         Ok(groups) => Ok(groups),
         Err(HostRefusal::NoPattern) => Err(RuleRefusal::BadRegex),
@@ -119,16 +129,26 @@ pub(crate) struct DomainLists {
 }
 
 // Reads the domain lists, in the order in which they are tested.
-pub(crate) fn read_domain_lists(alloc: Global, fields: &Fields<'_>) -> Result<DomainLists, RuleRefusal>
+#[tactic(auto, using(json_spec::proofs::Refused::refused_on), unfolding(json_spec::specs::ReadRule::domain_lists_in))]
+pub(crate) fn read_domain_lists(
+    alloc: Global,
+    fields: &Fields<'_>,
+) -> Result<DomainLists, RuleRefusal>
     ensures ok { IfOk result (λ lists. domain_lists_in (fields_seen fields.now) ≡ Ok (lists_seen lists)) }
     ensures refused { IfErr result (IsRefused (domain_lists_in (fields_seen fields.now))) }
 {
     let initiators = read_domains(alloc, RulePath::InitiatorDomains, &fields.initiators)?;
-    let not_initiators =
-        read_domains(alloc, RulePath::ExcludedInitiatorDomains, &fields.not_initiators)?;
+    let not_initiators = read_domains(
+        alloc,
+        RulePath::ExcludedInitiatorDomains,
+        &fields.not_initiators,
+    )?;
     let old_initiators = read_domains(alloc, RulePath::Domains, &fields.old_initiators)?;
-    let old_not_initiators =
-        read_domains(alloc, RulePath::ExcludedDomains, &fields.old_not_initiators)?;
+    let old_not_initiators = read_domains(
+        alloc,
+        RulePath::ExcludedDomains,
+        &fields.old_not_initiators,
+    )?;
     let hosts = read_domains(alloc, RulePath::RequestDomains, &fields.hosts)?;
     let not_hosts = read_domains(alloc, RulePath::ExcludedRequestDomains, &fields.not_hosts)?;
     Ok(DomainLists {
@@ -234,7 +254,7 @@ fn has_no_kind(kinds: Option<KindSet>) -> bool
     }
 }
 
-fn is_no_kind(kinds: KindSet) -> bool
+pub(crate) fn is_no_kind(kinds: KindSet) -> bool
     ensures { result ≡ (length (kinds_of kinds) == 0) }
 {
     KindSet::same_types_are_one_set();
@@ -270,6 +290,7 @@ pub(crate) fn test_tabs(kind: RuleKind, fields: &Fields<'_>) -> Result<(), RuleR
 }
 
 // All types but these.
+#[tactic(auto, using(crate::proofs::TypeSets::all_begins, crate::proofs::TypeSets::all_removed, crate::proofs::TypeSets::all_kept, crate::proofs::TypeSets::all_ends))]
 fn all_but(excluded: KindSet) -> KindSet
     ensures { kinds_of result ≡ filter (λ kind. not (has_kind (kinds_of excluded) kind)) all_kinds }
 {

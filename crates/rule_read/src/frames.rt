@@ -9,6 +9,7 @@ ghost use Rattle.json_spec.specs.ReadRule as rule;
 ghost use Rattle.json_spec.specs.ReadRule.{frames_in};
 ghost use Rattle.rule_fields.specs.Seen.{fields_seen};
 
+use crate::conditions::is_no_kind;
 use dnr_base::{Kind, KindSet};
 use rule_fields::Fields;
 use rule_spec::RuleRefusal;
@@ -29,7 +30,10 @@ pub(crate) fn test_frames(action: Option<&Value>, fields: &Fields<'_>) -> Result
 fn is_allow_all(action: Option<&Value>) -> bool
     ensures { result ≡ rule.is_allow_all (spec.type_of (option_map (λ action. view action.now) action.entry)) }
 {
-    match action.and_then(|action| action.get("type")).and_then(Value::as_str) {
+    match action
+        .and_then(|action| action.get("type"))
+        .and_then(Value::as_str)
+    {
         Some(name) => name == "allowAllRequests",
         None => false,
     }
@@ -44,12 +48,12 @@ fn gives_frames(kinds: Option<KindSet>) -> bool
     }
 }
 
+#[tactic(auto, using(crate::proofs::TypeSets::frames_alone))]
 fn are_frames(kinds: KindSet) -> bool
     ensures { result ≡ list_all is_frame_kind (kinds_of kinds) }
 {
     let mut others = kinds;
     others.remove(Kind::MainFrame);
     others.remove(Kind::SubFrame);
-    KindSet::same_types_are_one_set();
-    others == KindSet::empty()
+    is_no_kind(others)
 }

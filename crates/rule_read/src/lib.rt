@@ -7,8 +7,7 @@ mod conditions;
 mod frames;
 mod numbers;
 mod rules;
-#[cfg(test)]
-mod tests;
 
-pub use dnr_rules::{HeaderCause, PlacedRefusal, Rule, RuleKind, RulePath, RuleRefusal};
+pub use dnr_rules::Rule;
+pub use rule_spec::{HeaderCause, PlacedRefusal, RuleKind, RulePath, RuleRefusal};
 pub use rules::{read_next, read_rule, read_rules};

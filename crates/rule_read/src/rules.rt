@@ -1,4 +1,4 @@
-ghost use Rattle.std.specs.Prelude.{◌≡◌, ◌++◌, [], ◌∷◌, ℕ, List, min, length, map, false, codes, Ok, Err, OnOk, OnErr, IfOk, IfErr, IfSome, option_map};
+ghost use Rattle.std.specs.Prelude.{◌≡◌, ◌≤◌, ◌++◌, [], ◌∷◌, ℕ, List, min, length, map, false, codes, Ok, Err, OnOk, OnErr, IfOk, IfErr, IfSome, option_map};
 ghost use Rattle.std.specs.Ordering.{nat_cmp};
 ghost use Rattle.std.specs.BTreeSet.{contains};
 ghost use Rattle.serde_json.specs.View.{view, items_view};
@@ -15,16 +15,17 @@ ghost use Rattle.rule_fields.specs.Seen.{fields_seen};
 ghost use Rattle.rule_read.specs.Seen.{lists_seen};
 ghost use Rattle.rule_read.specs.Reading.{Taken, MayStop, ReadsNext, StopsAt};
 
-use crate::frames::test_frames;
 use crate::conditions::{
     DomainLists, Filters, kinds_in, read_domain_lists, read_filters, test_lists, test_tabs,
 };
+use crate::frames::test_frames;
 use crate::numbers::{Numbers, id_of, read_numbers};
 use action_read::read_action;
 use dnr_base::{Items, MethodSet};
-use dnr_rules::{Action, ConditionParts, PlacedRefusal, Rule, RuleKind, RuleParts, RuleRefusal};
+use dnr_rules::{ConditionParts, PlacedRefusal, Rule, RuleKind, RuleParts, RuleRefusal};
 use regex_host::RegexHost;
 use rule_fields::{Fields, read_fields};
+use rule_laws::rules_keep_their_form;
 use serde_json::Value;
 use std::alloc::Global;
 use std::collections::BTreeSet;
@@ -39,6 +40,7 @@ use std::collections::BTreeSet;
 ///
 /// - `HostFault`: the host failed at the pattern of the regexFilter, and its count of faults rose in this call.
 /// - `NoMemory`: memory ran out.
+#[tactic(auto, using(crate::proofs::ReadLists::rule_alone, crate::proofs::ReadLists::refused_alone))]
 pub fn read_rule<H: RegexHost>(
     alloc: Global,
     value: &Value,
@@ -48,6 +50,7 @@ pub fn read_rule<H: RegexHost>(
     ensures ok { IfOk result (λ rule. spec.read_rule kind (view value.now) ≡ Ok rule) }
     ensures refused { IfErr result (MayRefuse (spec.read_rule kind (view value.now))
         (Rose (H.faults host.old) (H.faults host.new) × IsRuleAtPattern (λ id. false) (view value.now))) }
+    ensures later { H.faults host.old ≤ H.faults host.new }
 {
     let taken = BTreeSet::new(alloc);
     read_among(alloc, value, kind, &taken, host)
@@ -64,15 +67,18 @@ fn read_among<H: RegexHost>(
     ensures ok { IfOk result (λ rule. rule_in kind (λ id. contains nat_cmp taken.now id) (view value.now) ≡ Ok rule) }
     ensures refused { IfErr result (MayRefuse (rule_in kind (λ id. contains nat_cmp taken.now id) (view value.now))
         (Rose (H.faults host.old) (H.faults host.new) × IsRuleAtPattern (λ id. contains nat_cmp taken.now id) (view value.now))) }
+    ensures later { H.faults host.old ≤ H.faults host.new }
 {
     let numbers = read_numbers(value, taken)?;
     let fields = read_fields(alloc, numbers.condition)?;
     let filters = read_filters(alloc, &fields, host)?;
     let lists = read_domain_lists(alloc, &fields)?;
     test_lists(&fields)?;
-    test_frames(value.get("action"), &fields)?;
+    let action = value.get("action");
+    test_frames(action, &fields)?;
     test_tabs(kind, &fields)?;
-    let action = read_action(alloc, value.get("action"), filters.groups)?;
+    let action = read_action(alloc, action, filters.groups)?;
+    rules_keep_their_form();
     Ok(Rule::build(RuleParts {
         id: numbers.id,
         priority: numbers.priority,
@@ -139,6 +145,7 @@ fn tabs_or_none(alloc: Global, tabs: Option<Items<i32>>) -> Items<i32>
 /// The first rule of the list that is refused, with its place and its id; the second rule of an id is
 /// `DuplicateId`. A value that is no list is `NotObject` at place 0. `HostFault` and `NoMemory` stop the reading
 /// where they come.
+#[tactic(auto, unfolding(json_spec::specs::ReadRule::read_rules))]
 pub fn read_rules<H: RegexHost>(
     alloc: Global,
     value: &Value,
@@ -147,6 +154,7 @@ pub fn read_rules<H: RegexHost>(
 ) -> Result<Vec<Rule>, PlacedRefusal>
     ensures ok { IfOk result (λ rules. spec.read_rules kind (view value.now) ≡ Ok rules.items) }
     ensures refused { IfErr result (MayStop kind (as_array (view value.now)) (Rose (H.faults host.old) (H.faults host.new))) }
+    ensures later { H.faults host.old ≤ H.faults host.new }
 {
     match value.as_array() {
         Some(values) => read_list(alloc, values, kind, host),
@@ -159,6 +167,7 @@ pub fn read_rules<H: RegexHost>(
     }
 }
 
+#[tactic(auto, using(crate::proofs::ReadLists::list_begins, crate::proofs::ReadLists::none_taken, crate::proofs::ReadLists::list_goes, crate::proofs::ReadLists::list_stops, crate::proofs::ReadLists::list_ends))]
 fn read_list<H: RegexHost>(
     alloc: Global,
     values: &[Value],
@@ -167,6 +176,7 @@ fn read_list<H: RegexHost>(
 ) -> Result<Vec<Rule>, PlacedRefusal>
     ensures ok { IfOk result (λ rules. spec.read_from kind [] (items_view values.now) ≡ Ok rules.items) }
     ensures refused { IfErr result (MayStop kind (Some (items_view values.now)) (Rose (H.faults host.old) (H.faults host.new))) }
+    ensures later { H.faults host.old ≤ H.faults host.new }
 {
     let mut taken = BTreeSet::new(alloc);
     let mut rules = Vec::new(alloc);
@@ -182,6 +192,7 @@ fn read_list<H: RegexHost>(
 ///
 /// The refusal of the rule, with its place behind the others and its id. `rules` is then as it was, and `taken` may
 /// have the id of the rule besides.
+#[tactic(auto, using(crate::proofs::ReadLists::id_more, crate::proofs::ReadLists::reads_next, crate::proofs::ReadLists::stops_at))]
 pub fn read_next<H: RegexHost>(
     alloc: Global,
     value: &Value,
@@ -194,6 +205,8 @@ pub fn read_next<H: RegexHost>(
     ensures taken { OnOk result (Taken taken.new rules.new.items) }
     ensures read { OnOk result (ReadsNext kind (view value.now) rules.old.items rules.new.items) }
     ensures refused { IfErr result (StopsAt kind (view value.now) rules.old.items (Rose (H.faults host.old) (H.faults host.new))) }
+    ensures kept { OnErr result (rules.new.items ≡ rules.old.items) }
+    ensures later { H.faults host.old ≤ H.faults host.new }
 {
     let rule = match read_among(alloc, value, kind, taken, host) {
         Ok(rule) => rule,

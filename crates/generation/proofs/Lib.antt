@@ -1,0 +1,9 @@
+mod Blocks
+mod Walked
+mod Best
+mod Said
+mod Offered
+mod Scanned
+mod Rest
+mod Blamed
+mod Taken

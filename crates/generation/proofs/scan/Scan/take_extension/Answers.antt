@@ -1,0 +1,27 @@
+use Rattle.std.proofs.Common.{ℕ, List, ap, ◌∙◌, refl, subst}
+use Rattle.rule_spec.specs.State.{live_from, live_rules}
+use Rattle.generation.specs.Block.{added_to}
+use Rattle.generation.specs.Refused.{IsPattern}
+use Rattle.generation.proofs.Walked.{ends_in, ends_on, first_pattern, second_pattern}
+use Rattle.generation.proofs.scan.Scan.take_extension.Goals as goal
+
+pub returns-in-Ok-clause-ends : goal.returns-in-Ok-clause-ends
+returns-in-Ok-clause-ends g c =
+    let extension = c.args.extension.now in
+    let start = c.new-kept.result in
+    ends_in (IsPattern c.in-Ok.kept.name (live_from 0 c.sets.result.now)) (IsPattern extension.name (live_rules extension)) (g.H.RegexHost.faults c.take_added.new.host)
+    (g.H.RegexHost.faults c.args.host.now) (g.H.RegexHost.faults c.take_sets.new.host) c.take_sets.result c.in-Ok.ensures.ends
+    (λ rule h. subst (λ (n : List ℕ). IsPattern n (live_rules extension) rule) (ap (λ k. k.name) c.new-kept.ensures)
+    (second_pattern c.args.self.now.suffixes c.args.self.now.request start c.in-Ok.kept (added_to extension) (live_from 0 c.sets.result.now) (added_to extension) (live_from 0 extension.sets)
+    c.in-Ok.ensures.kept (ap (live_from 0) c.sets.ensures) rule h))
+    c.take_sets.ensures.ends
+
+pub returns-in-Err-clause-ends : goal.returns-in-Err-clause-ends
+returns-in-Err-clause-ends g c =
+    let extension = c.args.extension.now in
+    let start = c.new-kept.result in
+    ends_on (IsPattern start.name (added_to extension)) (IsPattern extension.name (live_rules extension)) (g.H.RegexHost.faults c.args.host.now)
+    (g.H.RegexHost.faults c.args.host.now) (g.H.RegexHost.faults c.take_added.new.host) c.in-Err.refusal refl
+    (λ rule h. subst (λ (n : List ℕ). IsPattern n (live_rules extension) rule) (ap (λ k. k.name) c.new-kept.ensures)
+    (first_pattern start.name (added_to extension) (added_to extension) (live_from 0 extension.sets) refl rule h))
+    c.in-Err.ensures.ends

@@ -1,0 +1,6 @@
+pub mod Basis
+pub mod Refused
+pub mod Targets
+pub mod Block
+pub mod Kept
+pub mod Choice

@@ -1,0 +1,49 @@
+-- Why no verdict is given.
+use Rattle.std.specs.Prelude.{◌≡◌, ℕ, ◌≤◌, List, IsSome, Result, Ok, Err}
+use Rattle.std.specs.List.{Contains}
+use Rattle.dnr_base.specs.declared.rule_name.RuleName.{RuleName}
+use Rattle.dnr_base.specs.Faults.{Rose}
+use Rattle.rule_spec.specs.State.{Extension, State, Live, live_rules}
+use Rattle.rule_spec.specs.Scan.{name_of}
+use Rattle.rule_match.specs.declared.refusal.MatchRefusal.{MatchRefusal}
+use Rattle.rule_match.specs.declared.refusal.MatchRefusal.TheVariants as tested
+use Rattle.generation.specs.declared.refusal.DecideRefusal.{DecideRefusal}
+use Rattle.generation.specs.declared.refusal.DecideRefusal.TheVariants.{HostFault, NoMemory}
+
+-- one of these rules of an extension has this name and a regexFilter
+pub record IsPattern (extension : List ℕ) (lives : List Live) (name : RuleName) : Type 0 where
+  pub live : Live
+  pub in_force : Contains lives live
+  pub pattern : IsSome live.rule.condition.regex_filter
+  pub named : name ≡ name_of extension live
+
+-- so has a rule in force of one of these extensions
+pub record IsPatternOf (extensions : List Extension) (name : RuleName) : Type 0 where
+  pub extension : Extension
+  pub installed : Contains extensions extension
+  pub rule : IsPattern extension.name (live_rules extension) name
+
+-- a rule in force of this name has a regexFilter
+pub record NamesPattern (state : State) (name : RuleName) : Type 0 where
+  pub extension : Extension
+  pub live : Live
+  pub installed : Contains state.extensions extension
+  pub in_force : Contains (live_rules extension) live
+  pub pattern : IsSome live.rule.condition.regex_filter
+  pub named : name ≡ name_of extension.name live
+
+-- A host's count of faults rises only where its fault is answered, or memory ran out for the name of the rule that
+-- is blamed.
+abbrev pub Refuses : (RuleName → Type 0) → ℕ → ℕ → DecideRefusal → Type 0
+Refuses blamed before now (HostFault name) = Rose before now × blamed name
+Refuses blamed before now NoMemory = before ≤ now
+
+abbrev pub Ends : {T : Type 0} → (RuleName → Type 0) → ℕ → ℕ → Result T DecideRefusal → Type 0
+Ends blamed before now (Ok x) = now ≡ before
+Ends blamed before now (Err refusal) = Refuses blamed before now refusal
+
+-- the answer where the test of this rule was refused
+abbrev pub IsRefusalAt : MatchRefusal → List ℕ → Live → DecideRefusal → Type 0
+IsRefusalAt tested.HostFault extension live (HostFault name) = name ≡ name_of extension live
+IsRefusalAt tested.NoMemory extension live (HostFault name) = ⊥
+IsRefusalAt refusal extension live NoMemory = Unit {0}

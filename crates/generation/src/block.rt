@@ -1,0 +1,95 @@
+ghost use Rattle.std.specs.Prelude.{◌≡◌, codes, true};
+ghost use Rattle.dnr_base.specs.declared.rank.Rank.TheVariants as rank;
+ghost use Rattle.rule_spec.specs.State as spec;
+ghost use Rattle.generation.specs.Block.{lines_at, live_at, lives_in};
+
+use crate::live::Live;
+use dnr_base::{Items, Rank};
+use dnr_rules::Rule;
+use ruleset_store::{Extension, RuleSet};
+
+// Rules that stand together, with the lines that each comes from, if any, and the ids of those that are switched off.
+#[derive(Drop)]
+pub(crate) struct Block<'a> {
+    rank: Rank,
+    set: &'a str,
+    pub rules: &'a [Rule],
+    origins: &'a [Items<u32>],
+    disabled: &'a [u32],
+}
+
+// The lines of the rule at a place.
+fn lines_at(origins: &[Items<u32>], place: usize) -> &[u32]
+    ensures { result.now ≡ lines_at origins.now place }
+{
+    match origins.get(place) {
+        Some(lines) => lines.as_slice(),
+        None => &[],
+    }
+}
+
+// Whether the id is one of those that are switched off.
+fn is_off(disabled: &[u32], id: u32) -> bool
+    ensures { result ≡ spec.has_number disabled.now id }
+{
+    disabled.iter().any(|other| id == *other)
+}
+
+impl<'a> Block<'a> {
+    // Rules that were added to an extension.
+    fn added(rank: Rank, set: &'a str, rules: &'a [Rule]) -> Block<'a>
+        ensures { lives_in result ≡ spec.live_with rank set.now rules.now }
+    {
+        Block {
+            rank,
+            set,
+            rules,
+            origins: &[],
+            disabled: &[],
+        }
+    }
+
+    // The session rules of an extension.
+    pub(crate) fn session(extension: &'a Extension) -> Block<'a>
+        ensures { lives_in result ≡ spec.live_with rank.Session (codes "_session") extension.now.session }
+    {
+        Block::added(Rank::Session, "_session", extension.session())
+    }
+
+    // The dynamic rules of an extension.
+    pub(crate) fn dynamic(extension: &'a Extension) -> Block<'a>
+        ensures { lives_in result ≡ spec.live_with rank.Dynamic (codes "_dynamic") extension.now.dynamic }
+    {
+        Block::added(Rank::Dynamic, "_dynamic", extension.dynamic())
+    }
+
+    // The rules of the enabled ruleset at this place of its manifest.
+    #[tactic(auto, using(crate::proofs::Blocks::set_lives))]
+    pub(crate) fn of_set(place: u32, set: &'a RuleSet) -> Block<'a>
+        requires { set.now.enabled ≡ true }
+        ensures { lives_in result ≡ spec.live_of place set.now }
+    {
+        Block {
+            rank: Rank::Static(place),
+            set: set.id(),
+            rules: set.rules(),
+            origins: set.origins(),
+            disabled: set.disabled(),
+        }
+    }
+
+    // The rule, which stands at this place, if it is in force.
+    pub(crate) fn live(&self, place: usize, rule: &'a Rule) -> Option<Live<'a>>
+        ensures { result ≡ live_at self.now.rank self.now.set.now self.now.disabled.now (rule.now, lines_at self.now.origins.now place) }
+    {
+        if is_off(self.disabled, rule.id()) {
+            return None;
+        }
+        Some(Live {
+            rank: self.rank,
+            set: self.set,
+            rule,
+            lines: lines_at(self.origins, place),
+        })
+    }
+}

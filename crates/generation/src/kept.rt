@@ -1,0 +1,95 @@
+ghost use Rattle.std.specs.Prelude.{◌≡◌, IfOk, max};
+ghost use Rattle.generation.specs.Kept as spec;
+
+use crate::live::Live;
+use dnr_base::{Candidate, NoMemory, Verb};
+use precedence::beats;
+use ruleset_store::Extension;
+use std::alloc::Global;
+use std::marker::Model;
+
+// What is kept of an extension while its rules are walked: of its candidates the one that decides so far, those
+// that change headers, and the greatest priority of those that allow.
+#[derive(Drop)]
+pub(crate) struct Kept<'a> {
+    pub name: &'a str,
+    pub age: u32,
+    pub best: Option<(Live<'a>, Candidate)>,
+    pub changing: Vec<Live<'a>>,
+    pub allowed: u32,
+}
+
+impl<'a> Model for Kept<'a> {
+    ghost use Rattle.generation.specs.Kept as spec;
+
+    ghost Value = { spec.Kept };
+
+    ghost view = { λ k. record { name = k.name.now; age = k.age; best = k.best; changing = k.changing.items; allowed = k.allowed } };
+}
+
+// The better of two candidates, where the first is the earlier.
+fn better<'a>(
+    best: Option<(Live<'a>, Candidate)>,
+    next: (Live<'a>, Candidate),
+) -> Option<(Live<'a>, Candidate)>
+    ensures { result ≡ spec.better_of spec.is_stronger best.entry next.entry }
+{
+    match best {
+        Some(best) if !beats(&next.1, &best.1) => Some(best),
+        _ => Some(next),
+    }
+}
+
+fn greater(a: u32, b: u32) -> u32
+    ensures { result ≡ max a b }
+{
+    if a < b { b } else { a }
+}
+
+impl<'a> Kept<'a> {
+    // What is kept of the extension, which has this age, before its first rule.
+    pub(crate) fn new(alloc: Global, extension: &'a Extension, age: u32) -> Kept<'a>
+        ensures { result ≡ spec.nothing_of extension.now.name age }
+    {
+        Kept {
+            name: extension.name(),
+            age,
+            best: None,
+            changing: Vec::new(alloc),
+            allowed: 0,
+        }
+    }
+
+    // Takes in a candidate that gives this verdict.
+    fn add_deciding(self, live: Live<'a>, verb: Verb) -> Kept<'a>
+        ensures { result ≡ spec.with_deciding self.entry live.entry verb }
+    {
+        let allowed = greater(live.allowed_priority(), self.allowed);
+        let candidate = live.candidate(verb);
+        Kept {
+            name: self.name,
+            age: self.age,
+            best: better(self.best, (live, candidate)),
+            changing: self.changing,
+            allowed,
+        }
+    }
+
+    // Takes in a candidate that changes headers.
+    fn add_changing(mut self, live: Live<'a>) -> Result<Kept<'a>, NoMemory>
+        ensures { IfOk result (λ kept. kept ≡ spec.with_changing self.entry live.entry) }
+    {
+        self.changing.push(live)?;
+        Ok(self)
+    }
+
+    // Takes in a candidate.
+    pub(crate) fn add(self, live: Live<'a>) -> Result<Kept<'a>, NoMemory>
+        ensures { IfOk result (λ kept. kept ≡ spec.with_candidate self.entry live.entry) }
+    {
+        match live.verb() {
+            Some(verb) => Ok(self.add_deciding(live, verb)),
+            None => self.add_changing(live),
+        }
+    }
+}

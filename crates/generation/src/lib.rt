@@ -1,0 +1,24 @@
+//! What decides a request: the extensions that are installed, and the scan of all their rules in force.
+//!
+//! What the scan answers stands in `rule_spec`, `specs/Scan.antt`, over the state of `specs/State.antt` there.
+#![tactic(auto)]
+
+mod block;
+mod conclusion;
+mod decision;
+mod generation;
+mod kept;
+mod live;
+mod offer;
+mod offers;
+mod operations;
+mod refusal;
+mod scan;
+mod sorted;
+mod targets;
+
+pub use dnr_verdict::{NamedOp, Verdict};
+pub use generation::Generation;
+pub use refusal::DecideRefusal;
+pub use rule_spec::Outcome;
+pub use ruleset_store::{Extension, RuleSet};

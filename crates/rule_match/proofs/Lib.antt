@@ -1,0 +1,4 @@
+pub mod PatternLast
+pub mod FrameSteps
+pub mod ThirdFrames
+pub mod Tested

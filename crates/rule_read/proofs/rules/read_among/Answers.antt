@@ -1,0 +1,200 @@
+use Rattle.std.proofs.Common.{ℕ, Bool, Ok, ap, sym, ◌∙◌, arith}
+use Rattle.std.specs.Prelude.{option_map}
+use Rattle.std.specs.Ordering.{nat_cmp}
+use Rattle.std.specs.BTreeSet.{contains}
+use Rattle.serde_json.specs.View.{view}
+use Rattle.dnr_base.specs.Faults.{Rose}
+use Rattle.dnr_rules.specs.Seen.{action_seen, condition_seen, rule_of}
+use Rattle.json_spec.specs.ReadRule.{rule_in, IsRuleAtPattern}
+use Rattle.json_spec.specs.MayRefuse.{MayRefuse}
+use Rattle.rule_fields.specs.Seen.{fields_seen}
+use Rattle.rule_read.specs.Seen.{numbers_seen, lists_seen}
+use Rattle.rule_read.proofs.Chains.{handed_on}
+use Rattle.rule_read.proofs.Stages.{begins, filters_pass, domains_pass, lists_pass, frames_pass, tabs_pass, numbers_refuse, fields_refuse, filters_refuse, domains_refuse, lists_refuse, frames_refuse, tabs_refuse, action_refuse, rule_is}
+use Rattle.rule_read.proofs.rules.read_among.Goals as goal
+
+pub returns-in_err-numbers-clause-refused : goal.returns-in_err-numbers-clause-refused
+returns-in_err-numbers-clause-refused g c =
+    let is_taken : ℕ → Bool = λ id. contains nat_cmp c.args.taken.now id in
+    let d = view c.args.value.now in
+    let rose : Type 0 = Rose (g.H.RegexHost.faults c.args.host.now) (g.H.RegexHost.faults c.args.host.now) in
+    let refusal = c.in_err-numbers.field-0.0 in
+    handed_on _ refusal (MayRefuse (rule_in c.args.kind is_taken d) (rose × IsRuleAtPattern is_taken d)) c.from_residual.ensures.1
+    (numbers_refuse c.args.kind is_taken d (rose × IsRuleAtPattern is_taken d) refusal c.in_err-numbers.ensures.refused)
+
+pub returns-in_err-fields-clause-refused : goal.returns-in_err-fields-clause-refused
+returns-in_err-fields-clause-refused g c =
+    let is_taken : ℕ → Bool = λ id. contains nat_cmp c.args.taken.now id in
+    let d = view c.args.value.now in
+    let rose : Type 0 = Rose (g.H.RegexHost.faults c.args.host.now) (g.H.RegexHost.faults c.args.host.now) in
+    let refusal = c.in_err-fields.field-0.0 in
+    let numbers = c.in_ok-numbers.ensures in
+    handed_on _ refusal (MayRefuse (rule_in c.args.kind is_taken d) (rose × IsRuleAtPattern is_taken d)) c.from_residual-in_err-fields.ensures.1
+    (fields_refuse c.args.kind is_taken d (view c.in_ok-numbers.numbers.condition.now) (numbers_seen c.in_ok-numbers.numbers) (rose × IsRuleAtPattern is_taken d) refusal numbers.ok numbers.condition
+    c.in_err-fields.ensures.refused)
+
+pub returns-in_err-filters-clause-refused : goal.returns-in_err-filters-clause-refused
+returns-in_err-filters-clause-refused g c =
+    let is_taken : ℕ → Bool = λ id. contains nat_cmp c.args.taken.now id in
+    let d = view c.args.value.now in
+    let rose : Type 0 = Rose (g.H.RegexHost.faults c.args.host.now) (g.H.RegexHost.faults c.read_filters.new.host) in
+    let refusal = c.in_err-filters.field-0.0 in
+    let numbers = c.in_ok-numbers.ensures in
+    let n = numbers_seen c.in_ok-numbers.numbers in
+    let f = fields_seen c.in_ok-fields.fields in
+    let begun = begins is_taken d (view c.in_ok-numbers.numbers.condition.now) n f numbers.ok numbers.condition c.in_ok-fields.ensures.ok in
+    handed_on _ refusal (MayRefuse (rule_in c.args.kind is_taken d) (rose × IsRuleAtPattern is_taken d)) c.from_residual-in_err-filters.ensures.1
+    (filters_refuse c.args.kind is_taken d n f rose refusal begun c.in_err-filters.ensures.refused)
+
+pub returns-in_err-lists-clause-refused : goal.returns-in_err-lists-clause-refused
+returns-in_err-lists-clause-refused g c =
+    let is_taken : ℕ → Bool = λ id. contains nat_cmp c.args.taken.now id in
+    let d = view c.args.value.now in
+    let fault : Type 0 = Rose (g.H.RegexHost.faults c.args.host.now) (g.H.RegexHost.faults c.read_filters.new.host) × IsRuleAtPattern is_taken d in
+    let refusal = c.in_err-lists.field-0.0 in
+    let numbers = c.in_ok-numbers.ensures in
+    let n = numbers_seen c.in_ok-numbers.numbers in
+    let f = fields_seen c.in_ok-fields.fields in
+    let begun = begins is_taken d (view c.in_ok-numbers.numbers.condition.now) n f numbers.ok numbers.condition c.in_ok-fields.ensures.ok in
+    let filtered = filters_pass is_taken d n f begun c.in_ok-filters.ensures.ok in
+    handed_on _ refusal (MayRefuse (rule_in c.args.kind is_taken d) fault) c.from_residual-in_err-lists.ensures.1
+    (domains_refuse c.args.kind is_taken d n f fault refusal begun filtered c.in_err-lists.ensures.refused)
+
+pub returns-in_err-test_lists-clause-refused : goal.returns-in_err-test_lists-clause-refused
+returns-in_err-test_lists-clause-refused g c =
+    let is_taken : ℕ → Bool = λ id. contains nat_cmp c.args.taken.now id in
+    let d = view c.args.value.now in
+    let fault : Type 0 = Rose (g.H.RegexHost.faults c.args.host.now) (g.H.RegexHost.faults c.read_filters.new.host) × IsRuleAtPattern is_taken d in
+    let refusal = c.in_err-test_lists.field-0.0 in
+    let numbers = c.in_ok-numbers.ensures in
+    let n = numbers_seen c.in_ok-numbers.numbers in
+    let f = fields_seen c.in_ok-fields.fields in
+    let begun = begins is_taken d (view c.in_ok-numbers.numbers.condition.now) n f numbers.ok numbers.condition c.in_ok-fields.ensures.ok in
+    let filtered = filters_pass is_taken d n f begun c.in_ok-filters.ensures.ok in
+    let domained = domains_pass is_taken d n f (lists_seen c.in_ok-lists.lists) begun filtered c.in_ok-lists.ensures.ok in
+    handed_on _ refusal (MayRefuse (rule_in c.args.kind is_taken d) fault) c.from_residual-in_err-test_lists.ensures.1
+    (lists_refuse c.args.kind is_taken d n f fault refusal begun domained c.in_err-test_lists.ensures.refused)
+
+pub returns-in_err-test_frames-clause-refused : goal.returns-in_err-test_frames-clause-refused
+returns-in_err-test_frames-clause-refused g c =
+    let is_taken : ℕ → Bool = λ id. contains nat_cmp c.args.taken.now id in
+    let d = view c.args.value.now in
+    let fault : Type 0 = Rose (g.H.RegexHost.faults c.args.host.now) (g.H.RegexHost.faults c.read_filters.new.host) × IsRuleAtPattern is_taken d in
+    let refusal = c.in_err-test_frames.field-0.0 in
+    let numbers = c.in_ok-numbers.ensures in
+    let n = numbers_seen c.in_ok-numbers.numbers in
+    let f = fields_seen c.in_ok-fields.fields in
+    let begun = begins is_taken d (view c.in_ok-numbers.numbers.condition.now) n f numbers.ok numbers.condition c.in_ok-fields.ensures.ok in
+    let filtered = filters_pass is_taken d n f begun c.in_ok-filters.ensures.ok in
+    let lists = lists_seen c.in_ok-lists.lists in
+    let domained = domains_pass is_taken d n f lists begun filtered c.in_ok-lists.ensures.ok in
+    let listed = lists_pass is_taken d n f begun domained c.in_ok-test_lists.ensures.ok in
+    let a = option_map (λ action. view action.now) c.get-action.result in
+    handed_on _ refusal (MayRefuse (rule_in c.args.kind is_taken d) fault) c.from_residual-in_err-test_frames.ensures.1
+    (frames_refuse c.args.kind is_taken d n f a fault refusal begun c.get-action.ensures listed c.in_err-test_frames.ensures.refused)
+
+pub returns-in_err-test_tabs-clause-refused : goal.returns-in_err-test_tabs-clause-refused
+returns-in_err-test_tabs-clause-refused g c =
+    let is_taken : ℕ → Bool = λ id. contains nat_cmp c.args.taken.now id in
+    let d = view c.args.value.now in
+    let fault : Type 0 = Rose (g.H.RegexHost.faults c.args.host.now) (g.H.RegexHost.faults c.read_filters.new.host) × IsRuleAtPattern is_taken d in
+    let refusal = c.in_err-test_tabs.field-0.0 in
+    let numbers = c.in_ok-numbers.ensures in
+    let n = numbers_seen c.in_ok-numbers.numbers in
+    let f = fields_seen c.in_ok-fields.fields in
+    let begun = begins is_taken d (view c.in_ok-numbers.numbers.condition.now) n f numbers.ok numbers.condition c.in_ok-fields.ensures.ok in
+    let filtered = filters_pass is_taken d n f begun c.in_ok-filters.ensures.ok in
+    let lists = lists_seen c.in_ok-lists.lists in
+    let domained = domains_pass is_taken d n f lists begun filtered c.in_ok-lists.ensures.ok in
+    let listed = lists_pass is_taken d n f begun domained c.in_ok-test_lists.ensures.ok in
+    let a = option_map (λ action. view action.now) c.get-action.result in
+    let framed = frames_pass is_taken d n f a begun c.get-action.ensures listed c.in_ok-test_frames.ensures.ok in
+    handed_on _ refusal (MayRefuse (rule_in c.args.kind is_taken d) fault) c.from_residual-in_err-test_tabs.ensures.1
+    (tabs_refuse c.args.kind is_taken d n f fault refusal begun framed c.in_err-test_tabs.ensures.refused)
+
+pub returns-in_err-action-clause-refused : goal.returns-in_err-action-clause-refused
+returns-in_err-action-clause-refused g c =
+    let is_taken : ℕ → Bool = λ id. contains nat_cmp c.args.taken.now id in
+    let d = view c.args.value.now in
+    let fault : Type 0 = Rose (g.H.RegexHost.faults c.args.host.now) (g.H.RegexHost.faults c.read_filters.new.host) × IsRuleAtPattern is_taken d in
+    let refusal = c.in_err-action.field-0.0 in
+    let numbers = c.in_ok-numbers.ensures in
+    let n = numbers_seen c.in_ok-numbers.numbers in
+    let f = fields_seen c.in_ok-fields.fields in
+    let begun = begins is_taken d (view c.in_ok-numbers.numbers.condition.now) n f numbers.ok numbers.condition c.in_ok-fields.ensures.ok in
+    let filtered = filters_pass is_taken d n f begun c.in_ok-filters.ensures.ok in
+    let lists = lists_seen c.in_ok-lists.lists in
+    let domained = domains_pass is_taken d n f lists begun filtered c.in_ok-lists.ensures.ok in
+    let listed = lists_pass is_taken d n f begun domained c.in_ok-test_lists.ensures.ok in
+    let a = option_map (λ action. view action.now) c.get-action.result in
+    let framed = frames_pass is_taken d n f a begun c.get-action.ensures listed c.in_ok-test_frames.ensures.ok in
+    let tabbed = tabs_pass c.args.kind is_taken d n f begun framed c.in_ok-test_tabs.ensures.ok in
+    let groups = c.in_ok-filters.filters.groups in
+    handed_on _ refusal (MayRefuse (rule_in c.args.kind is_taken d) fault) c.from_residual-in_err-action.ensures.1
+    (action_refuse c.args.kind is_taken d n f groups a fault refusal begun c.in_ok-filters.ensures.groups c.get-action.ensures tabbed c.in_err-action.ensures.refused)
+
+pub build-requires : goal.build-requires
+build-requires g c =
+    let is_taken : ℕ → Bool = λ id. contains nat_cmp c.args.taken.now id in
+    let d = view c.args.value.now in
+    let numbers = c.in_ok-numbers.ensures in
+    let n = numbers_seen c.in_ok-numbers.numbers in
+    let f = fields_seen c.in_ok-fields.fields in
+    let begun = begins is_taken d (view c.in_ok-numbers.numbers.condition.now) n f numbers.ok numbers.condition c.in_ok-fields.ensures.ok in
+    let filtered = filters_pass is_taken d n f begun c.in_ok-filters.ensures.ok in
+    let lists = lists_seen c.in_ok-lists.lists in
+    let domained = domains_pass is_taken d n f lists begun filtered c.in_ok-lists.ensures.ok in
+    let listed = lists_pass is_taken d n f begun domained c.in_ok-test_lists.ensures.ok in
+    let a = option_map (λ action. view action.now) c.get-action.result in
+    let framed = frames_pass is_taken d n f a begun c.get-action.ensures listed c.in_ok-test_frames.ensures.ok in
+    let tabbed = tabs_pass c.args.kind is_taken d n f begun framed c.in_ok-test_tabs.ensures.ok in
+    let groups = c.in_ok-filters.filters.groups in
+    c.rules_keep_their_form.ensures c.args.kind is_taken d (rule_of n.id n.priority (condition_seen c.condition_of.result) c.in_ok-action.action)
+    (rule_is c.args.kind is_taken d n f lists groups a (condition_seen c.condition_of.result) (action_seen c.in_ok-action.action) begun c.in_ok-lists.ensures.ok c.in_ok-filters.ensures.groups
+    c.get-action.ensures tabbed c.in_ok-action.ensures.ok c.condition_of.ensures)
+
+pub returns-clause-ok : goal.returns-clause-ok
+returns-clause-ok g c =
+    let is_taken : ℕ → Bool = λ id. contains nat_cmp c.args.taken.now id in
+    let d = view c.args.value.now in
+    let numbers = c.in_ok-numbers.ensures in
+    let n = numbers_seen c.in_ok-numbers.numbers in
+    let f = fields_seen c.in_ok-fields.fields in
+    let begun = begins is_taken d (view c.in_ok-numbers.numbers.condition.now) n f numbers.ok numbers.condition c.in_ok-fields.ensures.ok in
+    let filtered = filters_pass is_taken d n f begun c.in_ok-filters.ensures.ok in
+    let lists = lists_seen c.in_ok-lists.lists in
+    let domained = domains_pass is_taken d n f lists begun filtered c.in_ok-lists.ensures.ok in
+    let listed = lists_pass is_taken d n f begun domained c.in_ok-test_lists.ensures.ok in
+    let a = option_map (λ action. view action.now) c.get-action.result in
+    let framed = frames_pass is_taken d n f a begun c.get-action.ensures listed c.in_ok-test_frames.ensures.ok in
+    let tabbed = tabs_pass c.args.kind is_taken d n f begun framed c.in_ok-test_tabs.ensures.ok in
+    let groups = c.in_ok-filters.filters.groups in
+    rule_is c.args.kind is_taken d n f lists groups a (condition_seen c.condition_of.result) (action_seen c.in_ok-action.action) begun c.in_ok-lists.ensures.ok c.in_ok-filters.ensures.groups
+    c.get-action.ensures tabbed c.in_ok-action.ensures.ok c.condition_of.ensures ∙ ap Ok (sym c.build.ensures)
+
+pub returns-in_err-numbers-clause-later : goal.returns-in_err-numbers-clause-later
+returns-in_err-numbers-clause-later g c = omega arith
+
+pub returns-in_err-fields-clause-later : goal.returns-in_err-fields-clause-later
+returns-in_err-fields-clause-later g c = omega arith
+
+pub returns-in_err-filters-clause-later : goal.returns-in_err-filters-clause-later
+returns-in_err-filters-clause-later g c = c.read_filters.ensures.later
+
+pub returns-in_err-lists-clause-later : goal.returns-in_err-lists-clause-later
+returns-in_err-lists-clause-later g c = c.read_filters.ensures.later
+
+pub returns-in_err-test_lists-clause-later : goal.returns-in_err-test_lists-clause-later
+returns-in_err-test_lists-clause-later g c = c.read_filters.ensures.later
+
+pub returns-in_err-test_frames-clause-later : goal.returns-in_err-test_frames-clause-later
+returns-in_err-test_frames-clause-later g c = c.read_filters.ensures.later
+
+pub returns-in_err-test_tabs-clause-later : goal.returns-in_err-test_tabs-clause-later
+returns-in_err-test_tabs-clause-later g c = c.read_filters.ensures.later
+
+pub returns-in_err-action-clause-later : goal.returns-in_err-action-clause-later
+returns-in_err-action-clause-later g c = c.read_filters.ensures.later
+
+pub returns-clause-later : goal.returns-clause-later
+returns-clause-later g c = c.read_filters.ensures.later

@@ -1,0 +1,24 @@
+use Rattle.std.proofs.Common.{◌≡◌, None, arith}
+use Rattle.json.specs.Json.{after_end_array}
+use Rattle.serde_json.specs.Data.{no_items}
+use Rattle.rules_file.proofs.Steps.{IsPassed, none_passed, one_passed, all_passed, not_passed}
+use Rattle.rules_file.proofs.list.pass_rest.Goals as goal
+
+pub items-init : goal.items-init
+items-init c = none_passed c.args.reader.now
+
+pub items-preserved : goal.items-preserved
+items-preserved c =
+    let l = c.items in
+    let going : (after_end_array l.reader ≡ None) × (c.take_end_array.new.self ≡ l.reader) = c.items-test.ensures in
+    let one = rw going.1 at c.in-Ok.ensures.passed in
+    one_passed c.args.reader.now l.reader c.pass_value.new.reader one.0 l.invariant going.0 one.1 (rw going.1 at c.in-Ok.ensures.shorter)
+
+pub returns-clause-passed : goal.returns-clause-passed
+returns-clause-passed c = let l = c.items in (l.invariant.front no_items, all_passed c.args.reader.now l.reader c.take_end_array.new.self l.invariant c.items-test.ensures)
+
+pub returns-in-Err-clause-bad : goal.returns-in-Err-clause-bad
+returns-in-Err-clause-bad c = λ e.
+    let l = c.items in
+    let going : (after_end_array l.reader ≡ None) × (c.take_end_array.new.self ≡ l.reader) = c.items-test.ensures in
+    not_passed c.args.reader.now l.reader l.invariant going.0 (rw going.1 at (c.in-Err.ensures.bad e))
