@@ -23,15 +23,6 @@ pub record IsPatternOf (extensions : List Extension) (name : RuleName) : Type 0 
   pub installed : Contains extensions extension
   pub rule : IsPattern extension.name (live_rules extension) name
 
--- a rule in force of this name has a regexFilter
-pub record NamesPattern (state : State) (name : RuleName) : Type 0 where
-  pub extension : Extension
-  pub live : Live
-  pub installed : Contains state.extensions extension
-  pub in_force : Contains (live_rules extension) live
-  pub pattern : IsSome live.rule.condition.regex_filter
-  pub named : name ≡ name_of extension.name live
-
 -- A host's count of faults rises only where its fault is answered, or memory ran out for the name of the rule that
 -- is blamed.
 abbrev pub Refuses : (RuleName → Type 0) → ℕ → ℕ → DecideRefusal → Type 0

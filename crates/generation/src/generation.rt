@@ -1,7 +1,8 @@
 ghost use Rattle.std.specs.Prelude.{◌≡◌, ◌≤◌, length, IfOk};
 ghost use Rattle.dnr_base.specs.Request.{max_frames};
 ghost use Rattle.generation.specs.Kept.{kept_from};
-ghost use Rattle.generation.specs.Refused.{Ends, NamesPattern};
+ghost use Rattle.generation.specs.Refused.{Ends};
+ghost use Rattle.rule_spec.specs.PatternRule.{NamesPattern};
 ghost use Rattle.rule_spec.specs.Scan.{scan};
 
 use crate::DecideRefusal;

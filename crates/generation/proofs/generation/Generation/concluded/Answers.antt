@@ -2,7 +2,7 @@ use Rattle.std.proofs.Common.{◌≡◌, ◌∙◌, List, IfOk, ap, refl, subst}
 use Rattle.rule_spec.specs.Scan.{Verdict}
 use Rattle.generation.specs.Choice.{IsDecidingPattern, deciding_in, ops_in, verdict_of}
 use Rattle.generation.specs.Kept.{Kept}
-use Rattle.generation.specs.Refused.{NamesPattern}
+use Rattle.rule_spec.specs.PatternRule.{NamesPattern}
 use Rattle.generation.proofs.Blamed.{decided_names}
 use Rattle.generation.proofs.Scanned.{scan_is}
 use Rattle.generation.proofs.Walked.{ends_in}
