@@ -13,7 +13,8 @@ use Rattle.rule_spec.specs.State.{Extension, Live, State, live_rules}
 use Rattle.rule_spec.specs.Scan.{Decision, candidate_of, decision_of, is_candidate, name_of}
 use Rattle.generation.specs.Choice.{IsDecidingPattern, decision_in, deciding_in, goes_before}
 use Rattle.generation.specs.Kept.{Kept, better_of, is_stronger, kept_from, kept_of, nothing_of, with_candidate, with_live, with_lives, with_verb}
-use Rattle.generation.specs.Refused.{IsPattern, IsPatternOf, NamesPattern}
+use Rattle.generation.specs.Refused.{IsPattern, IsPatternOf}
+use Rattle.rule_spec.specs.PatternRule.{NamesPattern}
 use Rattle.generation.proofs.Walked.{lives_name}
 
 -- ---- the better of two

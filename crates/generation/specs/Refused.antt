@@ -3,7 +3,7 @@ use Rattle.std.specs.Prelude.{◌≡◌, ℕ, ◌≤◌, List, IsSome, Result, O
 use Rattle.std.specs.List.{Contains}
 use Rattle.dnr_base.specs.declared.rule_name.RuleName.{RuleName}
 use Rattle.dnr_base.specs.Faults.{Rose}
-use Rattle.rule_spec.specs.State.{Extension, State, Live, live_rules}
+use Rattle.rule_spec.specs.State.{Extension, Live, live_rules}
 use Rattle.rule_spec.specs.Scan.{name_of}
 use Rattle.rule_match.specs.declared.refusal.MatchRefusal.{MatchRefusal}
 use Rattle.rule_match.specs.declared.refusal.MatchRefusal.TheVariants as tested
