@@ -4,12 +4,12 @@ use Rattle.std.specs.Prelude.{if◌then◌else◌}
 use Rattle.std.specs.List.{list_any, find, AllByRecursion}
 use Rattle.std.proofs.lemmas.Bool.{cases_Bool, cond-true, cond-false, true≢false}
 use Rattle.dnr_base.specs.declared.winner.Winner.{Winner}
-use Rattle.dnr_spec.specs.Order.{across, prevails, unbeaten}
+use Rattle.dnr_spec.specs.Order.{across, prevails}
 use Rattle.precedence.specs.Best.{IsBest}
 use Rattle.precedence.specs.Laws.{IsOrder, with_one_more}
 use Rattle.precedence.proofs.Orders.{beats_is_order, prevails_is_order}
 use Rattle.precedence.proofs.Unbeaten.{best_first, best_stays, best_changes, best_is, is_kept}
-use Rattle.rule_spec.specs.Scan.{Decision, unbeaten_of, winner_seen}
+use Rattle.rule_spec.specs.Scan.{unbeaten_of, winner_seen}
 use Rattle.generation.specs.Choice.{goes_before}
 use Rattle.generation.specs.Kept.{better_of, is_stronger}
 

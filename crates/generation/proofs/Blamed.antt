@@ -1,5 +1,5 @@
 -- The rule that decides is in force in an extension that is installed.
-use Rattle.std.proofs.Common.{◌≡◌, ℕ, zero, suc, ◌+◌, ◌<◌, List, [], ◌∷◌, ◌++◌, Bool, true, false, cond, fold, arith, Option, Some, None, refl, sym, ap, ◌∙◌, subst}
+use Rattle.std.proofs.Common.{◌≡◌, ℕ, zero, suc, ◌+◌, ◌<◌, List, [], ◌∷◌, Bool, true, false, cond, fold, arith, Option, Some, None, ap, ◌∙◌, subst}
 use Rattle.std.specs.Prelude.{IfSome, option_map, slice_index_or}
 use Rattle.std.specs.List.{AllByRecursion, Contains, filter_map, cons_option}
 use Rattle.std.proofs.lemmas.List.Elements.{recursion_from_All, All-contains_itself}
@@ -13,7 +13,7 @@ use Rattle.rule_spec.specs.State.{Extension, Live, State, live_rules}
 use Rattle.rule_spec.specs.Scan.{Decision, candidate_of, decision_of, is_candidate, name_of}
 use Rattle.generation.specs.Choice.{IsDecidingPattern, decision_in, deciding_in, goes_before}
 use Rattle.generation.specs.Kept.{Kept, better_of, is_stronger, kept_from, kept_of, nothing_of, with_candidate, with_live, with_lives, with_verb}
-use Rattle.generation.specs.Refused.{IsPattern, IsPatternOf}
+use Rattle.generation.specs.Refused.{IsPatternOf}
 use Rattle.rule_spec.specs.PatternRule.{NamesPattern}
 use Rattle.generation.proofs.Walked.{lives_name}
 

@@ -1,5 +1,5 @@
 -- Rules that stand together, as a list of rules in force.
-use Rattle.std.proofs.Common.{◌≡◌, ℕ, zero, suc, ◌+◌, ◌<◌, ◌≤◌, List, [], ◌∷◌, ◌++◌, length, drop, get_or, Option, Some, None, true, refl, sym, ap, ◌∙◌, arith, add-one}
+use Rattle.std.proofs.Common.{◌≡◌, ℕ, zero, suc, ◌+◌, ◌<◌, ◌≤◌, List, [], ◌∷◌, ◌++◌, length, drop, get_or, Option, true, refl, sym, ap, ◌∙◌, arith, add-one}
 use Rattle.std.specs.List.{filter_map, cons_option}
 use Rattle.std.proofs.lemmas.List.{drop_more, drop_all}
 use Rattle.std.proofs.lemmas.Bool.{cond-true}
@@ -7,7 +7,7 @@ use Rattle.dnr_base.specs.declared.rank.Rank.{Rank}
 use Rattle.dnr_base.specs.declared.rank.Rank.TheVariants.{Static}
 use Rattle.rule_spec.specs.Rule.{Rule}
 use Rattle.rule_spec.specs.State.{Live, RuleSet, live_with, with_lines, live_of, live_from}
-use Rattle.generation.specs.Block.{live_at, lives_at, lines_at}
+use Rattle.generation.specs.Block.{lives_at, lines_at}
 
 -- none is switched off, and none comes from a line
 pub lives_with : (rank : Rank) (set : List ℕ) (rules : List Rule) → lives_at rank set [] rules [] ≡ live_with rank set rules

@@ -1,10 +1,10 @@
 -- What all extensions offer is what the definition says.
-use Rattle.std.proofs.Common.{◌≡◌, ℕ, ◌+◌, List, [], ◌∷◌, ◌++◌, Bool, true, false, ◌&&◌, cond, filter, refl, sym, ap, ◌∙◌}
+use Rattle.std.proofs.Common.{◌≡◌, ℕ, ◌+◌, List, [], ◌∷◌, ◌++◌, Bool, true, false, ◌&&◌, cond, filter, refl, ap, ◌∙◌}
 use Rattle.std.specs.Prelude.{nat_le}
 use Rattle.std.specs.List.{flat_map}
 use Rattle.dnr_base.specs.declared.request.Request.{Request}
 use Rattle.dnr_spec.specs.Suffixes.{SuffixRule}
-use Rattle.rule_spec.specs.State.{Extension, Live}
+use Rattle.rule_spec.specs.State.{Extension}
 use Rattle.rule_spec.specs.Scan.{candidates, greatest_allowed, in_order, name_of, offers_from, offers_in, offers_of}
 use Rattle.generation.specs.Choice.{offers_by_all, offers_by_kept}
 use Rattle.generation.specs.Kept.{kept_from, kept_of}

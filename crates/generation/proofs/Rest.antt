@@ -8,7 +8,7 @@ use Rattle.std.proofs.lemmas.List.Elements.{filter-append, filter_map-append}
 use Rattle.dnr_base.specs.declared.direction.Direction.{Direction}
 use Rattle.rule_spec.specs.State.{Live}
 use Rattle.rule_spec.specs.Scan.{Decision, Offer, comes_before, in_order, into_order, is_on, named_op}
-use Rattle.generation.specs.Choice.{decision_in, deciding_in, goes_before, in_order_with, offers_by_all, offers_by_kept, ops_at, with_decision}
+use Rattle.generation.specs.Choice.{decision_in, goes_before, in_order_with, offers_by_all, offers_by_kept, ops_at, with_decision}
 use Rattle.generation.specs.Kept.{Kept, better_of}
 
 pub next_of : {X : Type 0} (xs : List X) (i : ℕ) (x : X) → i < length xs → x ≡ get_or xs i x → drop i xs ≡ x ∷ drop (i + 1) xs

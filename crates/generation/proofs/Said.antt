@@ -1,5 +1,5 @@
 -- What is kept of an extension at the end is what the definition says of it.
-use Rattle.std.proofs.Common.{◌≡◌, ℕ, ◌+◌, List, [], ◌∷◌, ◌++◌, Bool, true, false, not, ◌&&◌, cond, fold, filter, Option, Some, None, option_map, is_some, refl, sym, ap, ◌∙◌, ⊎_elim, append_assoc, append-nil, arith}
+use Rattle.std.proofs.Common.{◌≡◌, ℕ, ◌+◌, List, [], ◌∷◌, ◌++◌, Bool, true, false, not, cond, fold, filter, Option, Some, None, option_map, is_some, refl, sym, ap, ◌∙◌, ⊎_elim, append_assoc, append-nil, arith}
 use Rattle.std.specs.Prelude.{max}
 use Rattle.std.specs.List.{filter_map, cons_option}
 use Rattle.std.proofs.lemmas.Bool.{cases_Bool, cond-true, cond-false}
@@ -9,9 +9,9 @@ use Rattle.dnr_base.specs.declared.verb.Verb.{Verb}
 use Rattle.dnr_spec.specs.Suffixes.{SuffixRule}
 use Rattle.rule_spec.specs.Rule.{Action, block, redirect, allow, upgrade_scheme, modify_headers, allow_all_requests, verb_of}
 use Rattle.rule_spec.specs.State.{Extension, Live, live_rules}
-use Rattle.rule_spec.specs.Scan.{Decision, allowed_priority, candidate_of, candidates, deciding_of, decision_of, decisions_from, greatest_allowed, is_candidate, list_of, winner_of}
+use Rattle.rule_spec.specs.Scan.{allowed_priority, candidate_of, candidates, deciding_of, decision_of, decisions_from, greatest_allowed, is_candidate, list_of, winner_of}
 use Rattle.generation.specs.Choice.{decision_in}
-use Rattle.generation.specs.Kept.{Kept, better_of, is_stronger, kept_from, kept_of, nothing_of, with_candidate, with_live, with_lives, with_verb}
+use Rattle.generation.specs.Kept.{Kept, better_of, is_stronger, kept_from, kept_of, nothing_of, with_candidate, with_lives, with_verb}
 use Rattle.generation.proofs.Best.{stronger_is_order, unbeaten_is}
 use Rattle.generation.proofs.Walked.{candidate_name}
 

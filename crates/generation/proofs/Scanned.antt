@@ -1,5 +1,5 @@
 -- What becomes of a request by what is kept of each extension is what the scan answers.
-use Rattle.std.proofs.Common.{◌≡◌, ℕ, List, fold, Option, Some, None, refl, sym, ap, ◌∙◌}
+use Rattle.std.proofs.Common.{◌≡◌, List, fold, Option, Some, None, refl, sym, ap, ◌∙◌}
 use Rattle.dnr_base.specs.declared.request.Request.{Request}
 use Rattle.dnr_base.specs.declared.verb.Verb.{Verb}
 use Rattle.dnr_base.specs.declared.verb.Verb.TheVariants as verb

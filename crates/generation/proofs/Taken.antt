@@ -4,7 +4,7 @@ use Rattle.std.specs.Prelude.{slice_get}
 use Rattle.std.specs.List.{cons_option}
 use Rattle.dnr_base.specs.declared.direction.Direction.{Direction}
 use Rattle.dnr_base.specs.declared.direction.Direction.TheVariants as direction
-use Rattle.dnr_spec.specs.Headers.{HeaderOp, is_same_direction}
+use Rattle.dnr_spec.specs.Headers.{is_same_direction}
 use Rattle.rule_spec.specs.Scan.{NamedOp, Offer, is_on, is_on_request, named_op}
 use Rattle.generation.specs.Choice.{op_on, ops_at, ops_of}
 

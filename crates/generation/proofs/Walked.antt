@@ -1,5 +1,5 @@
 -- A walk over rules in force: what is kept, and which rule a fault names.
-use Rattle.std.proofs.Common.{◌≡◌, ℕ, ◌≤◌, List, [], ◌∷◌, ◌++◌, fold, option_to_list, Bool, true, false, Option, Some, None, Result, Ok, Err, refl, sym, ap, ◌∙◌, subst, ⊎_elim, append_assoc, append-nil, arith}
+use Rattle.std.proofs.Common.{◌≡◌, ℕ, ◌≤◌, List, [], ◌∷◌, ◌++◌, fold, option_to_list, Option, Some, None, Result, Ok, Err, refl, sym, ap, ◌∙◌, subst, ⊎_elim, append_assoc, append-nil}
 use Rattle.std.specs.List.{cons_option, Contains}
 use Rattle.std.proofs.lemmas.Bool.{cases_Bool, cond-true, cond-false}
 use Rattle.std.proofs.lemmas.List.Elements.{Contains-append_left, Contains-append_right}
@@ -9,7 +9,7 @@ use Rattle.dnr_base.specs.declared.verb.Verb.{Verb}
 use Rattle.dnr_base.specs.Faults.{Rose}
 use Rattle.dnr_spec.specs.Suffixes.{SuffixRule}
 use Rattle.rule_spec.specs.Rule.{verb_of}
-use Rattle.rule_spec.specs.State.{Extension, Live, live_rules}
+use Rattle.rule_spec.specs.State.{Live}
 use Rattle.rule_spec.specs.Scan.{is_candidate, name_of}
 use Rattle.generation.specs.declared.refusal.DecideRefusal.{DecideRefusal}
 use Rattle.generation.specs.declared.refusal.DecideRefusal.TheVariants.{HostFault, NoMemory}

@@ -1,5 +1,5 @@
 -- Rules that stand together: those of a static ruleset, the dynamic ones or the session's.
-use Rattle.std.specs.Prelude.{ℕ, List, [], ◌∷◌, ◌++◌, codes, Option, Some, None, unwrap_or, slice_get, if◌then◌else◌}
+use Rattle.std.specs.Prelude.{ℕ, List, [], ◌++◌, codes, Option, Some, None, unwrap_or, slice_get, if◌then◌else◌}
 use Rattle.std.specs.List.{filter_map}
 use Rattle.dnr_base.specs.declared.rank.Rank.{Rank}
 use Rattle.dnr_base.specs.declared.rank.Rank.TheVariants.{Session, Dynamic}

@@ -1,5 +1,5 @@
 -- Redirects, by whether they need the places of a match.
-use Rattle.std.specs.Prelude.{⊤, List, ℕ}
+use Rattle.std.specs.Prelude.{⊤}
 use Rattle.dnr_base.specs.declared.redirect.Redirect.{Redirect}
 use Rattle.dnr_base.specs.declared.redirect.Redirect.TheVariants as redirect
 

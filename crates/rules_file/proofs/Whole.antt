@@ -1,8 +1,6 @@
 -- What a file is refused for, by the tree of its text.
-use Rattle.std.proofs.Common.{◌≡◌, ℕ, List, Option, Some, None, Result, Ok, Err, refl, sym, ap, ◌∙◌, subst, ⊎_elim}
-use Rattle.std.specs.Str.{IsUtf8, is_utf8}
-use Rattle.std.proofs.lemmas.Str.{IsUtf8-from_is_utf8, is_utf8-from_IsUtf8}
-use Rattle.std.proofs.lemmas.Bool.{cases_Bool, cond-true, cond-false}
+use Rattle.std.proofs.Common.{◌≡◌, ℕ, List, Option, Some, None, Result, Ok, Err, sym, ap, ◌∙◌, subst}
+use Rattle.std.specs.Str.{IsUtf8}
 use Rattle.serde_json.specs.Data.{Data, Items}
 use Rattle.serde_json.specs.Find.{as_array}
 use Rattle.serde_json.specs.Read.{read}
@@ -11,28 +9,18 @@ use Rattle.rule_spec.specs.declared.rule_refusal.RuleRefusal.{RuleRefusal}
 use Rattle.rule_spec.specs.declared.rule_refusal.RuleRefusal.TheVariants.{HostFault, NoMemory}
 use Rattle.rule_spec.specs.declared.placed_refusal.PlacedRefusal.{PlacedRefusal}
 use Rattle.rule_spec.specs.Rule.{Rule}
-use Rattle.json_spec.specs.Json.{tree_of}
 use Rattle.json_spec.specs.ReadRule.{read_items, read_rules}
 use Rattle.json_spec.specs.RulesFile.{bad_json, rules_or_refusal, rules_in_tree, rules_of, StopsInList, StopsInTree}
+use Rattle.json_spec.proofs.Trees.{tree_of_read, tree_of_none}
 use Rattle.rule_read.specs.Reading.{MayStop, MayStopBy, StopsAtHost}
 use Rattle.rules_file.specs.Answers as file
 
-tree_is : (bytes : List ℕ) (tree : Option Data) → IsUtf8 bytes → read bytes ≡ tree → tree_of bytes ≡ tree
-tree_is bytes tree utf8 reads = cond-true (is_utf8 bytes) (read bytes) None (is_utf8-from_IsUtf8 bytes utf8) ∙ reads
-
-no_tree : (bytes : List ℕ) → (IsUtf8 bytes → read bytes ≡ None) → tree_of bytes ≡ None
-no_tree bytes fails =
-    ⊎_elim
-    (λ utf8. cond-true (is_utf8 bytes) (read bytes) None utf8 ∙ fails (IsUtf8-from_is_utf8 bytes utf8))
-    (λ other. cond-false (is_utf8 bytes) (read bytes) None other)
-    (cases_Bool (is_utf8 bytes))
-
 pub file_is_bad : (kind : RuleKind) (bytes : List ℕ) → (IsUtf8 bytes → read bytes ≡ None) → rules_of kind bytes ≡ Err bad_json
-file_is_bad kind bytes fails = ap (rules_in_tree kind) (no_tree bytes fails)
+file_is_bad kind bytes fails = ap (rules_in_tree kind) (sym (tree_of_none bytes fails))
 
 pub file_is_read : (kind : RuleKind) (bytes : List ℕ) (d : Data) (answer : Result (List Rule) PlacedRefusal) → IsUtf8 bytes → read bytes ≡ Some d → read_items kind (as_array d) ≡ answer → rules_of kind bytes ≡ rules_or_refusal answer
 unfolding read_rules
-file_is_read kind bytes d answer utf8 reads is = ap (rules_in_tree kind) (tree_is bytes (Some d) utf8 reads) ∙ ap rules_or_refusal is
+file_is_read kind bytes d answer utf8 reads is = ap (rules_in_tree kind) (sym (tree_of_read bytes d utf8 reads)) ∙ ap rules_or_refusal is
 
 in_list : (kind : RuleKind) (items : Option Items) (refusal : PlacedRefusal) → StopsAtHost kind items refusal → StopsInList kind items refusal
 in_list kind None refusal h = h
@@ -41,7 +29,7 @@ in_list kind (Some items) refusal h = h
 refused_by : (kind : RuleKind) (bytes : List ℕ) (d : Data) (rose : Type 0) (refusal : PlacedRefusal) (cause : RuleRefusal) → IsUtf8 bytes → read bytes ≡ Some d
     → MayStopBy (read_items kind (as_array d)) (rose × StopsAtHost kind (as_array d) refusal) refusal cause → file.MayStop kind bytes rose refusal cause
 refused_by kind bytes d rose refusal HostFault utf8 reads h =
-    (h.0, subst (λ t. StopsInTree kind t refusal) (sym (tree_is bytes (Some d) utf8 reads)) (in_list kind (as_array d) refusal h.1))
+    (h.0, subst (λ t. StopsInTree kind t refusal) (tree_of_read bytes d utf8 reads) (in_list kind (as_array d) refusal h.1))
 refused_by kind bytes d rose refusal NoMemory utf8 reads h = tt
 refused_by kind bytes d rose refusal cause utf8 reads h = file_is_read kind bytes d (Err refusal) utf8 reads h
 

@@ -6,6 +6,8 @@
 #![tactic(auto)]
 
 mod list;
+#[cfg(test)]
+mod tests;
 mod text;
 mod value;
 

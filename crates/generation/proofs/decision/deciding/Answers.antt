@@ -1,4 +1,4 @@
-use Rattle.std.proofs.Common.{◌≡◌, ◌∙◌, sym, ap, arith}
+use Rattle.std.proofs.Common.{◌∙◌, ap, arith}
 use Rattle.generation.specs.Choice.{deciding_in, with_decision}
 use Rattle.generation.proofs.Rest.{deciding_end, deciding_step}
 use Rattle.generation.proofs.decision.deciding.Goals as goal

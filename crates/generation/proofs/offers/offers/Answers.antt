@@ -1,5 +1,5 @@
 use Rattle.std.proofs.Common.{◌-◌, length, refl}
-use Rattle.generation.proofs.Rest.{offers_end, offers_start, offers_step}
+use Rattle.generation.proofs.Rest.{offers_end, offers_step}
 use Rattle.generation.proofs.offers.offers.Goals as goal
 
 pub loop-back-preserved : goal.loop-back-preserved

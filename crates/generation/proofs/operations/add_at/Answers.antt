@@ -1,4 +1,4 @@
-use Rattle.std.proofs.Common.{◌≡◌, ◌++◌, [], ◌∷◌, List, IfOk, subst}
+use Rattle.std.proofs.Common.{◌≡◌, ◌++◌, List, IfOk, subst}
 use Rattle.std.specs.Option.{option_copied}
 use Rattle.rule_spec.specs.Scan.{NamedOp}
 use Rattle.generation.proofs.Taken.{at_is}

@@ -1,4 +1,4 @@
-use Rattle.std.proofs.Common.{◌++◌, [], ◌∷◌, get_or, arith, refl, ◌≡◌, ◌<◌, length}
+use Rattle.std.proofs.Common.{◌++◌, [], ◌∷◌, get_or, arith, refl, ◌<◌, length}
 use Rattle.std.proofs.lemmas.List.{get_or_default}
 use Rattle.generation.specs.Choice.{ops_at}
 use Rattle.generation.proofs.Rest.{ops_each, rest_end, rest_step}

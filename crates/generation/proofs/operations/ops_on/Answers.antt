@@ -1,4 +1,4 @@
-use Rattle.std.proofs.Common.{◌++◌, [], ◌∷◌, filter, map, List, arith, refl}
+use Rattle.std.proofs.Common.{filter, map, List, arith, refl}
 use Rattle.dnr_spec.specs.Headers.{HeaderOp}
 use Rattle.rule_spec.specs.Scan.{NamedOp, is_on}
 use Rattle.generation.specs.Choice.{op_on}

@@ -1,4 +1,4 @@
-use Rattle.std.proofs.Common.{◌≡◌, ◌∙◌, length, sym, refl, arith}
+use Rattle.std.proofs.Common.{◌∙◌, length, sym, refl, arith}
 use Rattle.rule_spec.specs.Scan.{into_order}
 use Rattle.generation.proofs.Rest.{place_ends, place_goes_on, place_stops}
 use Rattle.generation.proofs.sorted.place_of.Goals as goal

@@ -1,5 +1,5 @@
 use Rattle.std.proofs.Common.{◌-◌, length, refl}
-use Rattle.generation.proofs.Rest.{sorted_end, sorted_start, sorted_step}
+use Rattle.generation.proofs.Rest.{sorted_end, sorted_step}
 use Rattle.generation.proofs.sorted.sorted.Goals as goal
 
 pub loop-back-preserved : goal.loop-back-preserved

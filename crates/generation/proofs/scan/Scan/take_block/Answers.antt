@@ -1,10 +1,10 @@
-use Rattle.std.proofs.Common.{◌≡◌, ◌+◌, ◌∙◌, sym, ap, arith, drop, List, option_to_list}
+use Rattle.std.proofs.Common.{◌+◌, ◌∙◌, sym, ap, arith, drop, List, option_to_list}
 use Rattle.std.specs.List.{filter_map, cons_option}
 use Rattle.rule_spec.specs.State.{Live, with_lines}
-use Rattle.generation.specs.Block.{lines_at, live_at, lives_in}
+use Rattle.generation.specs.Block.{live_at, lives_in}
 use Rattle.generation.specs.Refused.{IsPattern}
 use Rattle.generation.proofs.Blocks.{block_step}
-use Rattle.generation.proofs.Walked.{cons_is, ends_on, some_is, walked_more, walked_pattern, walked_start}
+use Rattle.generation.proofs.Walked.{cons_is, ends_on, some_is, walked_more, walked_pattern}
 use Rattle.generation.proofs.scan.Scan.take_block.Goals as goal
 
 pub loop-place-preserved : goal.loop-place-preserved

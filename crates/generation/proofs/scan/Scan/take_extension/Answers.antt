@@ -1,4 +1,4 @@
-use Rattle.std.proofs.Common.{ℕ, List, ap, ◌∙◌, refl, subst}
+use Rattle.std.proofs.Common.{ℕ, List, ap, refl, subst}
 use Rattle.rule_spec.specs.State.{live_from, live_rules}
 use Rattle.generation.specs.Block.{added_to}
 use Rattle.generation.specs.Refused.{IsPattern}

@@ -1,8 +1,8 @@
-use Rattle.std.proofs.Common.{◌≡◌, ◌+◌, ◌∙◌, sym, ap, arith, drop, List}
-use Rattle.rule_spec.specs.State.{Live, live_from, live_of}
+use Rattle.std.proofs.Common.{◌+◌, ◌∙◌, arith, drop}
+use Rattle.rule_spec.specs.State.{live_from, live_of}
 use Rattle.generation.specs.Refused.{IsPattern}
-use Rattle.generation.proofs.Blocks.{sets_end, sets_step}
-use Rattle.generation.proofs.Walked.{ends_on, walked_end, walked_more, walked_pattern, walked_start}
+use Rattle.generation.proofs.Blocks.{sets_step}
+use Rattle.generation.proofs.Walked.{ends_on, walked_more, walked_pattern}
 use Rattle.generation.proofs.scan.Scan.take_sets.Goals as goal
 
 pub loop-place-preserved : goal.loop-place-preserved
