@@ -1,5 +1,5 @@
 -- The search over frames, one frame further.
-use Rattle.std.proofs.Common.{arith, add-one, ◌≡◌, ◌<◌, ◌≤◌, ◌+◌, ℕ, zero, suc, List, [], ◌∷◌, length, drop, slice_get, Bool, true, false, Option, Some, if◌then◌else◌, refl}
+use Rattle.std.proofs.Common.{arith, add-one, ◌≡◌, ◌<◌, ◌≤◌, ◌+◌, ℕ, zero, suc, List, [], ◌∷◌, length, drop, slice_get, true, false, Some, if◌then◌else◌, refl}
 use Rattle.dnr_base.specs.declared.request.Request.{Request}
 use Rattle.dnr_base.specs.Request.{frame_part}
 use Rattle.dnr_spec.specs.Suffixes.{SuffixRule}

@@ -1,5 +1,5 @@
 -- A condition holds where each group of its fields does, and its pattern has a match.
-use Rattle.std.specs.Prelude.{◌≡◌, List, Bool, not, ◌&&◌, refl}
+use Rattle.std.specs.Prelude.{◌≡◌, List, not, ◌&&◌}
 use Rattle.std.proofs.Math.Bool.{and_assoc, and-true}
 use Rattle.dnr_base.specs.Request.{Part}
 use Rattle.dnr_spec.specs.Suffixes.{SuffixRule}

@@ -36,4 +36,3 @@ refused_by kind bytes d rose refusal cause utf8 reads h = file_is_read kind byte
 pub file_is_refused : (kind : RuleKind) (bytes : List ℕ) (d : Data) (rose : Type 0) (refusal : PlacedRefusal) → IsUtf8 bytes → read bytes ≡ Some d
     → MayStop kind (as_array d) rose refusal → file.MayStop kind bytes rose refusal refusal.cause
 file_is_refused kind bytes d rose refusal utf8 reads h = refused_by kind bytes d rose refusal refusal.cause utf8 reads h
-

@@ -37,7 +37,6 @@ returns-in-Ok-Some-clause-refused g c =
     c.in-Ok-Some.refusal l.invariant.so_far going.0 one.1 less
     (rose_since (g.H.RegexHost.faults c.args.host.now) (g.H.RegexHost.faults l.host) (g.H.RegexHost.faults c.next_rule.new.host) l.invariant.later) one.2
 
-
 pub returns-in-Err-clause-bad : goal.returns-in-Err-clause-bad
 returns-in-Err-clause-bad g c = λ e.
     let l = c.items in

@@ -1,0 +1,4 @@
+pub mod Inserted
+pub mod Plain
+pub mod Tested
+pub mod Texts

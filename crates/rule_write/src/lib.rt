@@ -1,0 +1,16 @@
+//! Rules as JSON text, in the form in which they are read.
+//!
+//! What is written stands in `json_spec`, `specs/Written.antt`.
+#![tactic(auto)]
+
+mod action;
+mod condition;
+mod fields;
+mod rules;
+mod sets;
+#[cfg(test)]
+mod tests;
+
+pub use dnr_base::NoMemory;
+pub use dnr_rules::Rule;
+pub use rules::write_rules;
