@@ -1,20 +1,29 @@
 //! The program `dnr`: the engine over the files of the current folder and standard output.
 #![tactic(auto)]
 
+ghost use Rattle.std.specs.Prelude.{◌≡◌, length, IfOk};
+
+use dnr_base::NoMemory;
 use dnr_io::{DirShelf, Output, Status};
 use dnr_top::run;
+use regex_host::PackHost;
+use std::alloc::Global;
 use std::env::Env;
 use std::io;
 use std::process::ExitCode;
 
+// How many built patterns the host keeps that decides requests.
+const ROOM: usize = 1_024;
+
 fn main(rt: HostRuntime) -> ExitCode {
-    let status = match words_of(&rt) {
-        Ok(words) => {
+    let status = match (words_of(&rt), hosts_of(rt.alloc())) {
+        (Ok(words), Ok(mut hosts)) => {
             let mut shelf = DirShelf::new(&rt);
             let mut out = Output::new(rt.stdout());
-            run(rt.alloc(), &words, &mut shelf, &mut out)
+            run(rt.alloc(), &words, &mut shelf, &mut out, &mut hosts)
         }
-        Err(status) => status,
+        (Err(status), _) => status,
+        (_, Err(NoMemory)) => Status::NoMemory,
     };
     ExitCode::from(status.value())
 }
@@ -36,4 +45,14 @@ fn status_of(error: io::Error) -> Status {
     } else {
         Status::Usage
     }
+}
+
+// A host that checks the patterns of files, and one that finds their matches.
+fn hosts_of(alloc: Global) -> Result<Vec<PackHost>, NoMemory>
+    ensures { IfOk result (λ hosts. length hosts.items ≡ 2) }
+{
+    let mut hosts = Vec::new(alloc);
+    hosts.push(PackHost::new(alloc)?)?;
+    hosts.push(PackHost::with_room(alloc, ROOM)?)?;
+    Ok(hosts)
 }

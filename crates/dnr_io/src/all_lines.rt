@@ -1,4 +1,4 @@
-ghost use Rattle.std.specs.Prelude.{◌≡◌, ◌+◌, ◌<◌, true, false, None, map, is_some, IfOk, OnOk, IfSome, IsErrOf, IsTrue};
+ghost use Rattle.std.specs.Prelude.{◌≡◌, ◌+◌, ◌<◌, ◌≤◌, true, false, None, length, map, is_some, IfOk, OnOk, IfSome, IsErrOf, IsTrue};
 ghost use Rattle.std.specs.Io.KnownBytes.{IsAtEnd};
 ghost use Rattle.dnr_spec.specs.Lines.{lines_of, is_within_limits, max_lines};
 ghost use Rattle.dnr_base.specs.Faults.{HasCauseOf};
@@ -12,6 +12,7 @@ pub fn read_lines<S: Source>(alloc: Global, source: &mut S) -> Result<Vec<Vec<u8
     ensures lines { IfOk result (λ lines. IfSome (S.left source.old) (λ script.
         map (λ line. line.items) lines.items ≡ lines_of script)) }
     ensures within { OnOk result (IfSome (S.left source.old) (λ script. is_within_limits script ≡ true)) }
+    ensures count { IfOk result (λ lines. length lines.items ≤ max_lines) }
     ensures end { OnOk result (IsAtEnd (S.left source.new)) }
     ensures too_long { IsErrOf result LineRefusal.LineTooLong →
         IfSome (S.left source.old) (λ script. is_within_limits script ≡ false) }

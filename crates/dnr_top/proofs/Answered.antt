@@ -1,12 +1,20 @@
 -- What was written along the lines of a script.
-use Rattle.std.proofs.Common.{◌≡◌, ℕ, ◌+◌, ◌<◌, List, [], ◌∷◌, ◌++◌, Option, Some, None, Result, Ok, Err, OnErr, Vec, take, drop, length, map, ◌≤◌, arith, subst, get_or, refl, sym, ap, ◌∙◌, append_assoc, append-nil}
+use Rattle.std.proofs.Common.{◌≡◌, ◌⊎◌, ℕ, ◌+◌, ◌<◌, List, [], ◌∷◌, ◌++◌, Option, Some, None, Result, Ok, Err, OnOk, OnErr, Vec, take, drop, length, map, ◌≤◌, arith, subst, get_or, refl, sym, ap, ◌∙◌, inl, inr, append_assoc, append-nil}
 use Rattle.std.specs.Io.KnownBytes.{Appends}
 use Rattle.std.specs.declared.alloc.Global.{Global}
 use Rattle.std.proofs.lemmas.List.{take_more, take_all, take-append-drop, length-take-le, map-append, length-map}
+use Rattle.dnr_base.specs.declared.request.Request.{Request}
+use Rattle.dnr_base.specs.Faults.{Rose}
 use Rattle.dnr_io.specs.Sink.{AppendsPart}
-use Rattle.session_spec.specs.State.{State}
-use Rattle.session_spec.specs.Answers.{Answer, Answers, reply_of}
-use Rattle.dnr_top.specs.Answers.{lines_seen, WritesFront, WritesAnswers, WritesAnswersInPart}
+use Rattle.dnr_spec.specs.Suffixes.{SuffixRule}
+use Rattle.generation.specs.Basis.{Basis}
+use Rattle.json_spec.specs.declared.line_fault.LineFault.{LineFault}
+use Rattle.json_spec.specs.RequestLine.{Command, blank, request, explain, command_of}
+use Rattle.session_spec.specs.Output.{verdict_line, bad_line, not_yet_line}
+use Rattle.rule_spec.specs.Scan.{Verdict, scan}
+use Rattle.rule_spec.specs.State.{State}
+use Rattle.session_spec.specs.Answers.{Setting, Says, Answer, Answers}
+use Rattle.dnr_top.specs.Answers.{lines_seen, setting_of, HasNotFallen, AppendsSuch, SaysOfRequest, WritesFront, WritesAnswers, WritesAnswersInPart}
 
 appends_append : (a b c : Option (List ℕ)) (xs ys : List ℕ) → Appends a b xs → Appends b c ys → Appends a c (xs ++ ys)
 appends_append None b c xs ys p q = tt
@@ -18,18 +26,78 @@ appends_nothing : (a : Option (List ℕ)) → Appends a a []
 appends_nothing None = tt
 appends_nothing (Some a) = sym (append-nil a)
 
+-- ---- faults of the host that are told of a part of a run are told of more of it
+
+abbrev with_host : List SuffixRule → Type 0 → Setting
+with_host suffixes rose = record { suffixes = suffixes; rose = rose }
+
+pub says_wider : (suffixes : List SuffixRule) (A B : Type 0) → (A → B) → (state : State) (number : ℕ) (read : Result Command LineFault) (said : List ℕ)
+    → Says (with_host suffixes A) state number read said → Says (with_host suffixes B) state number read said
+says_wider suffixes A B wider state number (Ok blank) said says = says
+says_wider suffixes A B wider state number (Ok (request r)) said (inl verdict) = inl verdict
+says_wider suffixes A B wider state number (Ok (request r)) said (inr fault) =
+    inr (record { rule = fault.rule; host = wider fault.host; pattern = fault.pattern; line = fault.line })
+says_wider suffixes A B wider state number (Ok (explain r)) said says = says
+says_wider suffixes A B wider state number (Err fault) said says = says
+
+pub answers_wider : (suffixes : List SuffixRule) (A B : Type 0) → (A → B) → (state : State) (number : ℕ) (lines : List (List ℕ)) (said : List ℕ) (last : State)
+    → Answers (with_host suffixes A) state number lines said last → Answers (with_host suffixes B) state number lines said last
+answers_wider suffixes A B wider state number [] said last answers = answers
+answers_wider suffixes A B wider state number (line ∷ lines) said last answers = record {
+  said = answers.said;
+  state = answers.state;
+  rest = answers.rest;
+  split = answers.split;
+  first = record {
+    reply = says_wider suffixes A B wider state number (command_of number line) answers.said answers.first.reply;
+    state = answers.first.state;
+  };
+  later = answers_wider suffixes A B wider answers.state (number + 1) lines answers.rest last answers.later;
+}
+
+pub rose_is_no_fall : (before now : ℕ) → Rose before now → HasNotFallen before now
+rose_is_no_fall before now rose = omega (arith, rose)
+
+pub later_is_no_fall : (before now : ℕ) → before ≤ now → HasNotFallen before now
+later_is_no_fall before now later = omega (arith, later)
+
+pub same_is_no_fall : (before now : ℕ) → now ≡ before → HasNotFallen before now
+same_is_no_fall before now same = omega (arith, same)
+
+pub no_fall_on : (a b c : ℕ) → HasNotFallen a b → HasNotFallen b c → HasNotFallen a c
+no_fall_on a b c first second = omega (arith, first, second)
+
+pub rose_until : (a b c : ℕ) → HasNotFallen b c → Rose a b → Rose a c
+rose_until a b c later rose = omega (arith, later, rose)
+
+pub rose_since : (a b c : ℕ) → HasNotFallen a b → Rose b c → Rose a c
+rose_since a b c earlier rose = omega (arith, earlier, rose)
+
+-- ---- the answer to a request
+
+-- the verdict of a request was appended
+pub verdict_said : {T E : Type 0} (result : Result T E) (basis : Basis) (was is line number : ℕ) (asked : Request) (verdict : Verdict) (before now : List ℕ)
+    → verdict ≡ scan basis.suffixes basis.state asked → number ≡ basis.state.count → OnOk result (now ≡ before ++ verdict_line line number verdict)
+    → OnOk result (AppendsSuch (SaysOfRequest (setting_of basis was is) basis.state line asked) before now)
+verdict_said (Ok x) basis was is line number asked verdict before now decided counted grown = record {
+  said = verdict_line line number verdict;
+  grown = grown;
+  such = inl (ap (λ n. verdict_line line n verdict) counted ∙ ap (λ v. verdict_line line basis.state.count v) decided);
+}
+verdict_said (Err e) basis was is line number asked verdict before now decided counted grown = tt
+
 -- ---- answers, one part after another
 
-along : (first : State) (number other : ℕ) (lines : List (List ℕ)) (said : List ℕ) (last : State) → number ≡ other → Answers first number lines said last → Answers first other lines said last
-along first number other lines said last same p = subst (λ (n : ℕ). Answers first n lines said last) same p
+along : (setting : Setting) (first : State) (number other : ℕ) (lines : List (List ℕ)) (said : List ℕ) (last : State) → number ≡ other → Answers setting first number lines said last → Answers setting first other lines said last
+along setting first number other lines said last same p = subst (λ (n : ℕ). Answers setting first n lines said last) same p
 
-answers_append : (first middle last : State) (number : ℕ) (xs ys : List (List ℕ)) (a b : List ℕ)
-    → Answers first number xs a middle → Answers middle (number + length xs) ys b last → Answers first number (xs ++ ys) (a ++ b) last
-answers_append first middle last number [] ys a b p q =
+answers_append : (setting : Setting) (first middle last : State) (number : ℕ) (xs ys : List (List ℕ)) (a b : List ℕ)
+    → Answers setting first number xs a middle → Answers setting middle (number + length xs) ys b last → Answers setting first number (xs ++ ys) (a ++ b) last
+answers_append setting first middle last number [] ys a b p q =
     let same : number + length (let none : List (List ℕ) = [] in none) ≡ number = omega arith in
-    subst (λ (l : List ℕ). Answers first number ys (l ++ b) last) (sym p.0)
-    (subst (λ (s : State). Answers s number ys b last) p.1 (along middle _ number ys b last same q))
-answers_append first middle last number (x ∷ xs) ys a b p q =
+    subst (λ (l : List ℕ). Answers setting first number ys (l ++ b) last) (sym p.0)
+    (subst (λ (s : State). Answers setting s number ys b last) p.1 (along setting middle _ number ys b last same q))
+answers_append setting first middle last number (x ∷ xs) ys a b p q =
     let same : number + length (x ∷ xs) ≡ number + 1 + length xs = omega arith in
     record {
       said = p.said;
@@ -37,38 +105,50 @@ answers_append first middle last number (x ∷ xs) ys a b p q =
       rest = p.rest ++ b;
       split = ap (λ l. l ++ b) p.split ∙ append_assoc p.said p.rest b;
       first = p.first;
-      later = answers_append p.state middle last (number + 1) xs ys p.rest b p.later (along middle _ (number + 1 + length xs) ys b last same q);
+      later = answers_append setting p.state middle last (number + 1) xs ys p.rest b p.later (along setting middle _ (number + 1 + length xs) ys b last same q);
     }
 
-one_answer : (state : State) (number : ℕ) (line : List ℕ) → Answers state number (line ∷ []) (reply_of state number line) state
-one_answer state number line = record {
-  said = reply_of state number line;
+one_answer : (setting : Setting) (state : State) (number : ℕ) (line said : List ℕ) → Says setting state number (command_of number line) said → Answers setting state number (line ∷ []) said state
+one_answer setting state number line said says = record {
+  said = said;
   state = state;
   rest = [];
-  split = sym (append-nil (reply_of state number line));
-  first = record { reply = refl; state = refl };
+  split = sym (append-nil said);
+  first = record { reply = says; state = refl };
   later = (refl, refl);
 }
 
+-- something that a line may print
+pub record SomeReply (setting : Setting) (state : State) (number : ℕ) (read : Result Command LineFault) : Type 0 where
+  pub said : List ℕ
+  pub says : Says setting state number read said
+
+some_reply : (setting : Setting) (state : State) (number : ℕ) (read : Result Command LineFault) → SomeReply setting state number read
+some_reply setting state number (Ok blank) = record { said = []; says = refl }
+some_reply setting state number (Ok (request r)) = record { said = verdict_line number state.count (scan setting.suffixes state r); says = inl refl }
+some_reply setting state number (Ok (explain r)) = record { said = not_yet_line number; says = refl }
+some_reply setting state number (Err fault) = record { said = bad_line number fault; says = refl }
+
 -- some answers to these lines, numbered from this one on
-pub record AnswersTo (first : State) (number : ℕ) (lines : List (List ℕ)) : Type 0 where
+pub record AnswersTo (setting : Setting) (first : State) (number : ℕ) (lines : List (List ℕ)) : Type 0 where
   pub said : List ℕ
   pub last : State
-  pub answers : Answers first number lines said last
+  pub answers : Answers setting first number lines said last
 
-answers_to : (first : State) (number : ℕ) (lines : List (List ℕ)) → AnswersTo first number lines
-answers_to first number [] = record { said = []; last = first; answers = (refl, refl) }
-answers_to first number (line ∷ lines) =
-    let later = answers_to first (number + 1) lines in
+answers_to : (setting : Setting) (first : State) (number : ℕ) (lines : List (List ℕ)) → AnswersTo setting first number lines
+answers_to setting first number [] = record { said = []; last = first; answers = (refl, refl) }
+answers_to setting first number (line ∷ lines) =
+    let reply = some_reply setting first number (command_of number line) in
+    let later = answers_to setting first (number + 1) lines in
     record {
-      said = reply_of first number line ++ later.said;
+      said = reply.said ++ later.said;
       last = later.last;
       answers = record {
-        said = reply_of first number line;
+        said = reply.said;
         state = first;
         rest = later.said;
         split = refl;
-        first = record { reply = refl; state = refl };
+        first = record { reply = reply.says; state = refl };
         later = later.answers;
       };
     }
@@ -76,14 +156,14 @@ answers_to first number (line ∷ lines) =
 -- ---- the lines so far
 
 -- what was sent and what is still kept answers the lines so far, and the state is the first one
-pub record IsAnsweredSoFar (before now : Option (List ℕ)) (state : State) (lines : List (Vec ℕ Global)) (next : ℕ) (text : List ℕ) : Type 0 where
+pub record IsAnsweredSoFar (before now : Option (List ℕ)) (setting : Setting) (state : State) (lines : List (Vec ℕ Global)) (next : ℕ) (text : List ℕ) : Type 0 where
   pub sent : List ℕ
   pub taken : Appends before now sent
   pub inside : next ≤ length lines
-  pub answers : Answers state 1 (lines_seen (take next lines)) (sent ++ text) state
+  pub answers : Answers setting state 1 (lines_seen (take next lines)) (sent ++ text) state
 
-pub nothing_yet : (before : Option (List ℕ)) (state : State) (lines : List (Vec ℕ Global)) → IsAnsweredSoFar before before state lines 0 []
-nothing_yet before state lines = record { sent = []; taken = appends_nothing before; inside = omega arith; answers = (refl, refl) }
+pub nothing_yet : (before : Option (List ℕ)) (setting : Setting) (state : State) (lines : List (Vec ℕ Global)) → IsAnsweredSoFar before before setting state lines 0 []
+nothing_yet before setting state lines = record { sent = []; taken = appends_nothing before; inside = omega arith; answers = (refl, refl) }
 
 count_of : (lines : List (Vec ℕ Global)) (next : ℕ) → next ≤ length lines → 1 + length (lines_seen (take next lines)) ≡ next + 1
 count_of lines next inside =
@@ -92,43 +172,45 @@ count_of lines next inside =
     omega (arith, seen, taken)
 
 -- the answers so far and one more
-pub one_more : (state : State) (lines : List (Vec ℕ Global)) (next : ℕ) (line : Vec ℕ Global) (said : List ℕ)
-    → next < length lines → line ≡ get_or lines next line → Answers state 1 (lines_seen (take next lines)) said state
-    → Answers state 1 (lines_seen (take (next + 1) lines)) (said ++ reply_of state (next + 1) line.items) state
-one_more state lines next line said inside is so_far =
+one_more : (setting : Setting) (state : State) (lines : List (Vec ℕ Global)) (next : ℕ) (line : Vec ℕ Global) (said more : List ℕ)
+    → next < length lines → line ≡ get_or lines next line → Answers setting state 1 (lines_seen (take next lines)) said state
+    → Says setting state (next + 1) (command_of (next + 1) line.items) more
+    → Answers setting state 1 (lines_seen (take (next + 1) lines)) (said ++ more) state
+one_more setting state lines next line said more inside is so_far says =
     let number : 1 + length (lines_seen (take next lines)) ≡ next + 1 = count_of lines next (omega (arith, inside)) in
     let grown : lines_seen (take (next + 1) lines) ≡ lines_seen (take next lines) ++ line.items ∷ [] =
     ap lines_seen (take_more lines next line inside ∙ ap (λ l. take next lines ++ l ∷ []) (sym is)) ∙ map-append (λ (l : Vec ℕ Global). l.items) (take next lines) (line ∷ []) in
-    subst (λ (ls : List (List ℕ)). Answers state 1 ls (said ++ reply_of state (next + 1) line.items) state) (sym grown)
-    (answers_append state state state 1 (lines_seen (take next lines)) (line.items ∷ []) said (reply_of state (next + 1) line.items) so_far
-    (along state (next + 1) _ (line.items ∷ []) (reply_of state (next + 1) line.items) state (sym number) (one_answer state (next + 1) line.items)))
+    subst (λ (ls : List (List ℕ)). Answers setting state 1 ls (said ++ more) state) (sym grown)
+    (answers_append setting state state state 1 (lines_seen (take next lines)) (line.items ∷ []) said more so_far
+    (along setting state (next + 1) _ (line.items ∷ []) more state (sym number) (one_answer setting state (next + 1) line.items more says)))
 
--- one line more was answered, and perhaps a piece was written
-pub one_line_more : (before middle now : Option (List ℕ)) (state : State) (lines : List (Vec ℕ Global)) (next : ℕ) (line : Vec ℕ Global) (text grown left : List ℕ)
-    → next < length lines → line ≡ get_or lines next line → IsAnsweredSoFar before middle state lines next text
-    → grown ≡ text ++ reply_of state (next + 1) line.items → WritesFront middle now grown left
-    → IsAnsweredSoFar before now state lines (next + 1) left
-one_line_more before middle now state lines next line text grown left inside is so_far answered front =
-    let said = reply_of state (next + 1) line.items in
-    let same : (so_far.sent ++ text) ++ said ≡ (so_far.sent ++ front.sent) ++ left =
-    append_assoc so_far.sent text said ∙ ap (λ l. so_far.sent ++ l) (sym answered ∙ front.split) ∙ sym (append_assoc so_far.sent front.sent left) in
+-- one line more was answered, and perhaps a piece was written; the host's count was first `was`, then `at`, and now `is`
+pub one_line_more : (before middle now : Option (List ℕ)) (basis : Basis) (was at is : ℕ) (lines : List (Vec ℕ Global)) (next : ℕ) (line : Vec ℕ Global) (text grown left : List ℕ)
+    → next < length lines → line ≡ get_or lines next line → HasNotFallen was at → HasNotFallen at is → IsAnsweredSoFar before middle (setting_of basis was at) basis.state lines next text
+    → AppendsSuch (Says (setting_of basis at is) basis.state (next + 1) (command_of (next + 1) line.items)) text grown → WritesFront middle now grown left
+    → IsAnsweredSoFar before now (setting_of basis was is) basis.state lines (next + 1) left
+one_line_more before middle now basis was at is lines next line text grown left inside read since until so_far answered front =
+    let same : (so_far.sent ++ text) ++ answered.said ≡ (so_far.sent ++ front.sent) ++ left =
+    append_assoc so_far.sent text answered.said ∙ ap (λ l. so_far.sent ++ l) (sym answered.grown ∙ front.split) ∙ sym (append_assoc so_far.sent front.sent left) in
+    let earlier = answers_wider basis.suffixes (Rose was at) (Rose was is) (rose_until was at is until) basis.state 1 (lines_seen (take next lines)) (so_far.sent ++ text) basis.state so_far.answers in
+    let says = says_wider basis.suffixes (Rose at is) (Rose was is) (rose_since was at is since) basis.state (next + 1) (command_of (next + 1) line.items) answered.said answered.such in
     record {
       sent = so_far.sent ++ front.sent;
       taken = appends_append before middle now so_far.sent front.sent so_far.taken front.taken;
       inside = omega (arith, inside);
-      answers = subst (λ (l : List ℕ). Answers state 1 (lines_seen (take (next + 1) lines)) l state) same
-          (one_more state lines next line (so_far.sent ++ text) inside is so_far.answers);
+      answers = subst (λ (l : List ℕ). Answers (setting_of basis was is) basis.state 1 (lines_seen (take (next + 1) lines)) l basis.state) same
+          (one_more (setting_of basis was is) basis.state lines next line (so_far.sent ++ text) answered.said inside read earlier says);
     }
 
 -- all lines were answered, and what was kept was written
-pub all_written : (before middle now : Option (List ℕ)) (state : State) (lines : List (Vec ℕ Global)) (next : ℕ) (text : List ℕ)
-    → length lines ≤ next → IsAnsweredSoFar before middle state lines next text → Appends middle now text
-    → WritesAnswers before now state (lines_seen lines)
-all_written before middle now state lines next text ends so_far last = record {
+pub all_written : (before middle now : Option (List ℕ)) (setting : Setting) (state : State) (lines : List (Vec ℕ Global)) (next : ℕ) (text : List ℕ)
+    → length lines ≤ next → IsAnsweredSoFar before middle setting state lines next text → Appends middle now text
+    → WritesAnswers before now setting state (lines_seen lines)
+all_written before middle now setting state lines next text ends so_far last = record {
   written = so_far.sent ++ text;
   last = state;
   taken = appends_append before middle now so_far.sent text so_far.taken last;
-  answers = subst (λ (ls : List (Vec ℕ Global)). Answers state 1 (lines_seen ls) (so_far.sent ++ text) state) (take_all next lines ends) so_far.answers;
+  answers = subst (λ (ls : List (Vec ℕ Global)). Answers setting state 1 (lines_seen ls) (so_far.sent ++ text) state) (take_all next lines ends) so_far.answers;
 }
 
 pub on_err : {T E P : Type 0} (result : Result T E) → P → OnErr result P
@@ -140,11 +222,11 @@ pub nothing_sent : (taken : Option (List ℕ)) (text : List ℕ) → AppendsPart
 nothing_sent taken text = record { sent = []; rest = text; split = refl; taken = appends_nothing taken }
 
 -- a call was refused that was to write what is kept, so the answers were written in part
-pub written_in_part : (before middle now : Option (List ℕ)) (state : State) (lines : List (Vec ℕ Global)) (next : ℕ) (text : List ℕ)
-    → IsAnsweredSoFar before middle state lines next text → AppendsPart middle now text
-    → WritesAnswersInPart before now state (lines_seen lines)
-written_in_part before middle now state lines next text so_far part =
-    let others = answers_to state (1 + length (lines_seen (take next lines))) (lines_seen (drop next lines)) in
+pub written_in_part : (before middle now : Option (List ℕ)) (setting : Setting) (state : State) (lines : List (Vec ℕ Global)) (next : ℕ) (text : List ℕ)
+    → IsAnsweredSoFar before middle setting state lines next text → AppendsPart middle now text
+    → WritesAnswersInPart before now setting state (lines_seen lines)
+written_in_part before middle now setting state lines next text so_far part =
+    let others = answers_to setting state (1 + length (lines_seen (take next lines))) (lines_seen (drop next lines)) in
     let all : lines_seen (take next lines) ++ lines_seen (drop next lines) ≡ lines_seen lines =
     sym (map-append (λ (l : Vec ℕ Global). l.items) (take next lines) (drop next lines)) ∙ ap lines_seen (take-append-drop next lines) in
     let same : (so_far.sent ++ text) ++ others.said ≡ (so_far.sent ++ part.sent) ++ (part.rest ++ others.said) =
@@ -155,17 +237,26 @@ written_in_part before middle now state lines next text so_far part =
       rest = part.rest ++ others.said;
       last = others.last;
       taken = appends_append before middle now so_far.sent part.sent so_far.taken part.taken;
-      answers = subst (λ (l : List ℕ). Answers state 1 (lines_seen lines) l others.last) same
-          (subst (λ (ls : List (List ℕ)). Answers state 1 ls ((so_far.sent ++ text) ++ others.said) others.last) all
-          (answers_append state state others.last 1 (lines_seen (take next lines)) (lines_seen (drop next lines)) (so_far.sent ++ text) others.said so_far.answers others.answers));
+      answers = subst (λ (l : List ℕ). Answers setting state 1 (lines_seen lines) l others.last) same
+          (subst (λ (ls : List (List ℕ)). Answers setting state 1 ls ((so_far.sent ++ text) ++ others.said) others.last) all
+          (answers_append setting state state others.last 1 (lines_seen (take next lines)) (lines_seen (drop next lines)) (so_far.sent ++ text) others.said so_far.answers others.answers));
     }
 
+-- the same where a line could not be answered; the host's count rose no less since
+pub unanswered_in_part : (before middle : Option (List ℕ)) (basis : Basis) (was at is : ℕ) (lines : List (Vec ℕ Global)) (next : ℕ) (text : List ℕ)
+    → HasNotFallen at is → IsAnsweredSoFar before middle (setting_of basis was at) basis.state lines next text
+    → WritesAnswersInPart before middle (setting_of basis was is) basis.state (lines_seen lines)
+unanswered_in_part before middle basis was at is lines next text until so_far =
+    let wider = answers_wider basis.suffixes (Rose was at) (Rose was is) (rose_until was at is until) basis.state 1 (lines_seen (take next lines)) (so_far.sent ++ text) basis.state so_far.answers in
+    written_in_part before middle middle (setting_of basis was is) basis.state lines next text
+    (record { sent = so_far.sent; taken = so_far.taken; inside = so_far.inside; answers = wider }) (nothing_sent middle text)
+
 -- the same where the call was to write after one line more was answered
-pub written_in_part_after : (before middle now : Option (List ℕ)) (state : State) (lines : List (Vec ℕ Global)) (next : ℕ) (line : Vec ℕ Global) (text grown : List ℕ)
-    → next < length lines → line ≡ get_or lines next line → IsAnsweredSoFar before middle state lines next text
-    → grown ≡ text ++ reply_of state (next + 1) line.items → AppendsPart middle now grown
-    → WritesAnswersInPart before now state (lines_seen lines)
-written_in_part_after before middle now state lines next line text grown inside is so_far answered part =
+pub written_in_part_after : (before middle now : Option (List ℕ)) (basis : Basis) (was at is : ℕ) (lines : List (Vec ℕ Global)) (next : ℕ) (line : Vec ℕ Global) (text grown : List ℕ)
+    → next < length lines → line ≡ get_or lines next line → HasNotFallen was at → HasNotFallen at is → IsAnsweredSoFar before middle (setting_of basis was at) basis.state lines next text
+    → AppendsSuch (Says (setting_of basis at is) basis.state (next + 1) (command_of (next + 1) line.items)) text grown → AppendsPart middle now grown
+    → WritesAnswersInPart before now (setting_of basis was is) basis.state (lines_seen lines)
+written_in_part_after before middle now basis was at is lines next line text grown inside read since until so_far answered part =
     let none : WritesFront middle middle grown grown = record { sent = []; split = refl; taken = appends_nothing middle } in
-    written_in_part before middle now state lines (next + 1) grown
-    (one_line_more before middle middle state lines next line text grown grown inside is so_far answered none) part
+    written_in_part before middle now (setting_of basis was is) basis.state lines (next + 1) grown
+    (one_line_more before middle middle basis was at is lines next line text grown grown inside read since until so_far answered none) part

@@ -1,6 +1,4 @@
-pub mod Trees
-pub mod Order
-pub mod Scans
-pub mod RuleLists
 pub mod Answered
+pub mod Hosts
 pub mod Ended
+pub mod NoSuffixes

@@ -1,9 +1,5 @@
-pub mod Rule
-pub mod RuleFile
-pub mod Scan
 pub mod Output
 pub mod Words
 pub mod Answers
 pub mod Load
 pub mod Run
-pub mod Part

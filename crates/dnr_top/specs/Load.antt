@@ -1,26 +1,50 @@
 -- What is read before a command answers.
-use Rattle.std.specs.Prelude.{ℕ, List}
+use Rattle.std.specs.Prelude.{◌≡◌, ◌⊎◌, ℕ, List, Bool, true, false, Err}
 use Rattle.dnr_io.specs.declared.shelf.ShelfRefusal.{ShelfRefusal}
 use Rattle.dnr_io.specs.declared.shelf.ShelfRefusal.TheVariants as shelf
-use Rattle.session_spec.specs.Out.{Files, BreaksForm, HoldsLongFile}
-use Rattle.dnr_top.specs.declared.rule_file.RulesRefusal.{RulesRefusal}
-use Rattle.dnr_top.specs.declared.rule_file.RulesRefusal.TheVariants as form
+use Rattle.rule_spec.specs.declared.placed_refusal.PlacedRefusal.{PlacedRefusal}
+use Rattle.rule_spec.specs.declared.rule_kind.RuleKind.{RuleKind}
+use Rattle.rule_spec.specs.declared.rule_refusal.RuleRefusal.{RuleRefusal}
+use Rattle.rule_spec.specs.declared.rule_refusal.RuleRefusal.TheVariants as rule
+use Rattle.json_spec.specs.RulesFile as spec
+use Rattle.json_spec.specs.RulesFile.{rules_of, bad_rules, StopsInFile}
+use Rattle.session_spec.specs.Out.{Files, BreaksForm, StopsAtHost, HoldsLongFile}
+use Rattle.rules_file.specs.declared.FileRefusal.{FileRefusal}
+use Rattle.rules_file.specs.declared.FileRefusal.TheVariants.{BadJson, BadRules}
+use Rattle.rules_file.specs.Answers.{refusal_seen}
 use Rattle.dnr_top.specs.declared.load.LoadRefusal.{LoadRefusal}
 use Rattle.dnr_top.specs.declared.load.LoadRefusal.TheVariants.{BadFile, ReadFault, FileTooLong, NoMemory}
-use Rattle.dnr_top.specs.RuleFile.{refusal_seen}
 
 abbrev pub load_refusal : ShelfRefusal → LoadRefusal
 load_refusal shelf.Failed = ReadFault
 load_refusal shelf.TooLong = FileTooLong
 load_refusal shelf.NoMemory = NoMemory
 
-abbrev pub form_refusal : RulesRefusal → LoadRefusal
-form_refusal (form.BadFile refusal) = BadFile refusal
-form_refusal form.NoMemory = NoMemory
+abbrev pub is_no_memory : RuleRefusal → Bool
+is_no_memory rule.NoMemory = true
+is_no_memory _ = false
+
+abbrev pub is_memory : FileRefusal → Bool
+is_memory BadJson = false
+is_memory (BadRules refusal) = is_no_memory refusal.cause
+
+-- the bytes are refused so, or a pattern host failed at the rule that is named
+abbrev pub IsRefusedSo : RuleKind → List ℕ → Type 0 → spec.FileRefusal → Type 0
+IsRefusedSo kind bytes rose refusal =
+    (rules_of kind bytes ≡ Err refusal)
+    ⊎ (rose × (placed : PlacedRefusal) × (refusal ≡ bad_rules placed) × StopsInFile kind bytes placed)
+
+-- why the bytes of a file give no rules
+abbrev pub IsStopped : RuleKind → List ℕ → Type 0 → LoadRefusal → Type 0
+IsStopped kind bytes rose (BadFile refusal) = IsRefusedSo kind bytes rose (refusal_seen refusal)
+IsStopped kind bytes rose ReadFault = ⊥
+IsStopped kind bytes rose FileTooLong = ⊥
+IsStopped kind bytes rose NoMemory = Unit {0}
 
 -- why the file of this name is refused; faults are told by their count
-abbrev pub Refuses : Files → List ℕ → LoadRefusal → Type 0
-Refuses files name (BadFile refusal) = BreaksForm files name (refusal_seen refusal)
-Refuses files name ReadFault = Unit {0}
-Refuses files name FileTooLong = HoldsLongFile files name
-Refuses files name NoMemory = Unit {0}
+abbrev pub Refuses : Files → RuleKind → List ℕ → Type 0 → LoadRefusal → Type 0
+Refuses files kind name rose (BadFile refusal) =
+    BreaksForm files kind name (refusal_seen refusal) ⊎ (rose × StopsAtHost files kind name (refusal_seen refusal))
+Refuses files kind name rose ReadFault = Unit {0}
+Refuses files kind name rose FileTooLong = HoldsLongFile files name
+Refuses files kind name rose NoMemory = Unit {0}

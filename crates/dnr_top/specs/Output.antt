@@ -1,11 +1,9 @@
--- What the program's verdicts and refusals say.
-use Rattle.std.specs.Prelude.{option_map}
-use Rattle.session_spec.specs.Scan as spec
-use Rattle.dnr_top.specs.declared.output.RuleName.{RuleName}
-use Rattle.dnr_top.specs.declared.output.Verdict.{Verdict}
+-- What a refusal adds to its code.
+use Rattle.session_spec.specs.Refusals as spec
+use Rattle.dnr_top.specs.declared.output.Detail.{Detail}
+use Rattle.dnr_top.specs.declared.output.Detail.TheVariants.{Nothing, Path, Why}
 
-abbrev pub name_seen : RuleName → spec.RuleName
-name_seen rule = record { extension = rule.extension.now; set = rule.set.now; id = rule.id }
-
-abbrev pub verdict_seen : Verdict → spec.Verdict
-verdict_seen verdict = record { outcome = verdict.outcome; rule = option_map name_seen verdict.rule }
+abbrev pub detail_seen : Detail → spec.Detail
+detail_seen Nothing = spec.nothing
+detail_seen (Path path) = spec.path path
+detail_seen (Why why) = spec.why why.now

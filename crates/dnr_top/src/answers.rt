@@ -1,23 +1,27 @@
 //! The answers to the lines of a script.
-ghost use Rattle.std.specs.Prelude.{◌≡◌, ◌++◌, OnOk, OnErr, option_map, string_bytes};
+ghost use Rattle.std.specs.Prelude.{◌≡◌, ◌<◌, ◌≤◌, length, IfOk, OnOk, OnErr, string_bytes};
 ghost use Rattle.dnr_base.specs.Faults.{HasCause, HasCauseOf};
+ghost use Rattle.dnr_base.specs.Request.{max_frames};
 ghost use Rattle.dnr_io.specs.Sink.{AppendsPart};
-ghost use Rattle.dnr_spec.specs.Lines as lines;
-ghost use Rattle.session_spec.specs.Answers.{reply_of, reply_to};
-ghost use Rattle.session_spec.specs.Out.{opening};
-ghost use Rattle.session_spec.specs.RuleFile.{HaveOwnIds};
-ghost use Rattle.dnr_top.specs.Rule.{rules_seen};
-ghost use Rattle.dnr_top.specs.Answers.{lines_seen, WritesFront, WritesAnswers, WritesAnswersInPart};
+ghost use Rattle.dnr_spec.specs.Lines.{max_lines};
+ghost use Rattle.rule_spec.specs.PatternRule.{NamesPattern};
+ghost use Rattle.rule_spec.specs.Scan.{scan};
+ghost use Rattle.generation.specs.Refused.{Ends};
+ghost use Rattle.json_spec.specs.RequestLine as spec;
+ghost use Rattle.session_spec.specs.Answers.{Says};
+ghost use Rattle.dnr_top.specs.Answers.{lines_seen, setting_of, HasNotFallen, AppendsSuch, SaysOfRequest, WritesFront, WritesAnswers, WritesAnswersInPart};
 ghost use Rattle.dnr_top.specs.declared.answers.WriteRefusal.TheVariants as refusal;
 
-use crate::output::{write_bad, write_verdict};
-use crate::request_line::read_request;
-use crate::rule::Rule;
-use crate::scan::verdict_of;
-use dnr_base::Request;
+use dnr_base::{Request, Steps};
 use dnr_io::{Failed, Sink, write_all};
 use dnr_spec::NoMemory;
+use explain_report::{write_bad, write_fault, write_not_yet, write_verdict};
+use generation::{DecideRefusal, Generation, Verdict};
+use regex_host::RegexHost;
+use script_read::{Command, LineFault, read_line};
 use std::alloc::Global;
+use std::marker::Brand;
+use std::sync::ledger::{Blank, Ledger};
 
 // How much text is kept before it is written.
 const PIECE: usize = 16_384;
@@ -47,25 +51,27 @@ impl From<NoMemory> for WriteRefusal {
     }
 }
 
-/// Answers the lines in order, and writes the answers in pieces of some kilobytes.
+/// Answers the lines in order, and writes the answers in pieces of some kilobytes. The host finds the matches of
+/// patterns; where it fails a line says so in place of a verdict, and the next line is answered.
 ///
 /// After a refusal, the sink has taken some first bytes of the answers.
-pub fn answer_lines<O: Sink>(
+pub fn answer_lines<O: Sink, H: RegexHost>(
     alloc: Global,
-    rules: &[Rule],
+    generation: &Generation,
     lines: &[Vec<u8>],
     out: &mut O,
+    host: &mut H,
 ) -> Result<(), WriteRefusal>
-    requires { HaveOwnIds (rules_seen rules.now) }
+    requires { length lines.now ≤ max_lines }
     ensures written { OnOk result (WritesAnswers (O.taken out.old) (O.taken out.new)
-        (opening (rules_seen rules.now)) (lines_seen lines.now)) }
+        (setting_of generation.now (H.faults host.old) (H.faults host.new)) generation.now.state (lines_seen lines.now)) }
     ensures part { OnErr result (WritesAnswersInPart (O.taken out.old) (O.taken out.new)
-        (opening (rules_seen rules.now)) (lines_seen lines.now)) }
+        (setting_of generation.now (H.faults host.old) (H.faults host.new)) generation.now.state (lines_seen lines.now)) }
     ensures cause { HasCauseOf WriteRefusal.Failed (O.faults out.old) (O.faults out.new) result }
 {
     let mut text = String::new(alloc);
     for (index, line) in lines.iter().enumerate() {
-        answer(alloc, rules, index + 1, line, &mut text)?;
+        answer(alloc, generation, (index + 1) as u32, line, host, &mut text)?;
         write_if_long(out, &mut text)?;
     }
     write_all(out, text.as_bytes())?;
@@ -87,41 +93,82 @@ fn write_if_long<O: Sink>(out: &mut O, text: &mut String) -> Result<(), Failed>
 }
 
 // Appends what a line of this number prints: nothing where it is blank.
-fn answer(
+#[tactic(auto, using(crate::proofs::Answered::same_is_no_fall))]
+fn answer<H: RegexHost>(
     alloc: Global,
-    rules: &[Rule],
-    number: usize,
+    generation: &Generation,
+    number: u32,
     line: &[u8],
+    host: &mut H,
     into: &mut String,
 ) -> Result<(), NoMemory>
-    requires { HaveOwnIds (rules_seen rules.now) }
-    ensures { OnOk result (string_bytes into.new ≡ string_bytes into.old ++ reply_of (opening (rules_seen rules.now)) number line.now) }
+    ensures said { OnOk result (AppendsSuch (Says (setting_of generation.now (H.faults host.old) (H.faults host.new))
+        generation.now.state number (spec.command_of number line.now)) (string_bytes into.old) (string_bytes into.new)) }
+    ensures later { HasNotFallen (H.faults host.old) (H.faults host.new) }
 {
-    if is_blank(line) {
-        return Ok(());
+    match read_line(alloc, number, line) {
+        Ok(Command::Blank) => Ok(()),
+        Ok(Command::Request(request)) => {
+            answer_request(alloc, generation, number, &request, host, into)
+        }
+        Ok(Command::Explain(_)) => write_not_yet(number, into),
+        Err(LineFault::NoMemory) => Err(NoMemory),
+        Err(fault) => write_bad(number, &fault, into),
     }
-    let request = read_request(alloc, number, line)?;
-    write_reply(alloc, rules, number, &request, into)
 }
 
-fn write_reply(
+// Appends the verdict of a request, or that the host failed.
+#[tactic(auto, using(crate::proofs::Answered::rose_is_no_fall, crate::proofs::Answered::later_is_no_fall, crate::proofs::Answered::same_is_no_fall))]
+fn answer_request<H: RegexHost>(
     alloc: Global,
-    rules: &[Rule],
-    number: usize,
-    request: &Option<Request>,
+    generation: &Generation,
+    number: u32,
+    request: &Request,
+    host: &mut H,
     into: &mut String,
 ) -> Result<(), NoMemory>
-    requires { HaveOwnIds (rules_seen rules.now) }
-    ensures { OnOk result (string_bytes into.new ≡ string_bytes into.old ++ reply_to (opening (rules_seen rules.now)) number request.now) }
+    requires { length request.now.frames ≤ max_frames }
+    ensures said { OnOk result (AppendsSuch (SaysOfRequest (setting_of generation.now (H.faults host.old) (H.faults host.new))
+        generation.now.state number request.now) (string_bytes into.old) (string_bytes into.new)) }
+    ensures later { HasNotFallen (H.faults host.old) (H.faults host.new) }
 {
-    match request {
-        Some(request) => write_verdict(alloc, number, 0, &verdict_of(rules, request), into),
-        None => write_bad(number, into),
+    match decide(alloc, generation, request, host) {
+        Ok(verdict) => write_verdict(alloc, number, generation.number(), &verdict, into),
+        Err(DecideRefusal::HostFault(rule)) => {
+            write_fault(alloc, number, generation.number(), &rule, into)
+        }
+        Err(DecideRefusal::NoMemory) => Err(NoMemory),
     }
 }
 
-fn is_blank(line: &[u8]) -> bool
-    ensures { result ≡ lines.is_blank line.now }
+// What becomes of a request. No steps are counted.
+fn decide<H: RegexHost>(
+    alloc: Global,
+    generation: &Generation,
+    request: &Request,
+    host: &mut H,
+) -> Result<Verdict, DecideRefusal>
+    requires { length request.now.frames ≤ max_frames }
+    ensures verdict { IfOk result (λ verdict. verdict ≡ scan generation.now.suffixes generation.now.state request.now) }
+    ensures ends { Ends (NamesPattern generation.now.state) (H.faults host.old) (H.faults host.new) result }
 {
-    line.iter().all(|byte| *byte == b' ' || *byte == b'\t')
+    decide_over::<H, Brand>(alloc, generation, request, host, Blank::new(1))
+}
+
+fn decide_over<H: RegexHost, L: Ledger>(
+    alloc: Global,
+    generation: &Generation,
+    request: &Request,
+    host: &mut H,
+    blank: Blank,
+) -> Result<Verdict, DecideRefusal>
+    requires frames { length request.now.frames ≤ max_frames }
+    requires name { blank.name ≡ L.name }
+    requires parts { blank.parts ≡ L.parts }
+    requires one { blank.parts ≡ 1 }
+    ensures verdict { IfOk result (λ verdict. verdict ≡ scan generation.now.suffixes generation.now.state request.now) }
+    ensures ends { Ends (NamesPattern generation.now.state) (H.faults host.old) (H.faults host.new) result }
+{
+    let mut steps = Steps::<L>::open(blank);
+    generation.decide(alloc, request, host, &mut steps)
 }

@@ -1,107 +1,15 @@
-//! The lines that a command writes. Texts are written as JSON by `serde_json`.
-ghost use Rattle.std.specs.Prelude.{◌≡◌, ◌++◌, codes, decimal, OnOk, IfOk, option_map, string_bytes};
-ghost use Rattle.json.specs.Print.{quoted};
-ghost use Rattle.session_spec.specs.Output as spec;
-ghost use Rattle.dnr_top.specs.Output.{name_seen, verdict_seen};
-ghost use Rattle.dnr_top.specs.RuleFile.{refusal_seen};
+//! What a refused file prints, and what `check` prints of one that is not.
+ghost use Rattle.std.specs.Prelude.{◌≡◌, ◌++◌, codes, decimal, OnOk, string_bytes};
+ghost use Rattle.session_spec.specs.Refusals as spec;
+ghost use Rattle.rules_file.specs.Answers.{refusal_seen};
+ghost use Rattle.dnr_top.specs.Output.{detail_seen};
 
-use crate::rule_file::FileRefusal;
 use dnr_base::NoMemory;
-use serde_json::Value;
-use session_spec::{Outcome, RuleFault};
+use dnr_spec::{HeaderRefusal, PatternRefusal};
+use explain_report::quoted_text;
+use rule_spec::{HeaderCause, PlacedRefusal, RulePath, RuleRefusal};
+use rules_file::FileRefusal;
 use std::alloc::Global;
-
-/// A rule by the extension and the ruleset that it stands in.
-#[derive(Clone, Copy, Debug)]
-pub struct RuleName<'a> {
-    /// The name of the extension.
-    pub extension: &'a str,
-    /// The id of the ruleset.
-    pub set: &'a str,
-    /// The id of the rule, which no other rule of the ruleset has.
-    pub id: u32,
-}
-
-/// What becomes of a request, and the rule that says so.
-#[derive(Clone, Copy, Debug)]
-pub struct Verdict<'a> {
-    /// What becomes of it.
-    pub outcome: Outcome,
-    /// The rule that decides. Where there is none, the request goes on as it is.
-    pub rule: Option<RuleName<'a>>,
-}
-
-/// Appends what a request line of this number prints. `generation` is the count of the updates before it.
-pub fn write_verdict(
-    alloc: Global,
-    line: usize,
-    generation: u32,
-    verdict: &Verdict,
-    into: &mut String,
-) -> Result<(), NoMemory>
-    ensures { OnOk result (string_bytes into.new ≡ string_bytes into.old ++ spec.verdict_line line generation (verdict_seen verdict.now)) }
-{
-    write_start(line, generation, verdict.outcome, into)?;
-    write_rule(alloc, &verdict.rule, into)?;
-    into.push_str("}\n")?;
-    Ok(())
-}
-
-fn write_start(
-    line: usize,
-    generation: u32,
-    outcome: Outcome,
-    into: &mut String,
-) -> Result<(), NoMemory>
-    ensures { OnOk result (string_bytes into.new ≡ string_bytes into.old ++ spec.verdict_start line generation outcome) }
-{
-    let outcome = outcome_name(outcome);
-    write!(
-        into,
-        "{{\"line\":{line},\"generation\":{generation},\"verdict\":\"{outcome}\""
-    )?;
-    Ok(())
-}
-
-// Appends the rule that decides, if there is one.
-fn write_rule(alloc: Global, rule: &Option<RuleName>, into: &mut String) -> Result<(), NoMemory>
-    ensures { OnOk result (string_bytes into.new ≡ string_bytes into.old ++ spec.rule_field (option_map name_seen rule.now)) }
-{
-    let Some(rule) = rule else {
-        return Ok(());
-    };
-    let extension = quoted_text(alloc, rule.extension)?;
-    let set = quoted_text(alloc, rule.set)?;
-    let id = rule.id;
-    write!(into, ",\"rule\":[{extension},{set},{id}]")?;
-    Ok(())
-}
-
-fn outcome_name(outcome: Outcome) -> &'static str
-    ensures { result.now ≡ spec.outcome_name outcome }
-{
-    match outcome {
-        Outcome::None => "none",
-        Outcome::Block => "block",
-        Outcome::Allow => "allow",
-    }
-}
-
-// The text as a JSON string, with its quotes.
-fn quoted_text(alloc: Global, text: &str) -> Result<String, NoMemory>
-    ensures { IfOk result (λ written. string_bytes written ≡ quoted text.now) }
-{
-    let text = Value::String(String::from_str(alloc, text)?);
-    Ok(text.to_string(alloc)?)
-}
-
-/// Appends what a line prints that is no request.
-pub fn write_bad(line: usize, into: &mut String) -> Result<(), NoMemory>
-    ensures { OnOk result (string_bytes into.new ≡ string_bytes into.old ++ spec.bad_line line) }
-{
-    write!(into, "{{\"line\":{line},\"bad\":\"not-yet-supported\"}}\n")?;
-    Ok(())
-}
 
 /// Appends what a rules file of this name prints that is refused, unless memory ran out.
 pub fn write_refusal(
@@ -114,36 +22,148 @@ pub fn write_refusal(
 {
     let file = quoted_text(alloc, file)?;
     write!(into, "{{\"file\":{file},\"refused\":")?;
-    write_cause(refusal, into)?;
+    match refusal {
+        FileRefusal::BadJson => into.push_str("\"bad-json\"")?,
+        FileRefusal::BadRules(refusal) => write_rule_fields(refusal, into)?,
+    }
     into.push_str("}\n")?;
     Ok(())
 }
 
-fn write_cause(refusal: &FileRefusal, into: &mut String) -> Result<(), NoMemory>
-    ensures { OnOk result (string_bytes into.new ≡ string_bytes into.old ++ spec.refusal_fields (refusal_seen refusal.now)) }
+/// Appends what `check` prints of a file of so many rules.
+pub fn write_count(count: usize, into: &mut String) -> Result<(), NoMemory>
+    ensures { OnOk result (string_bytes into.new ≡ string_bytes into.old ++ spec.count_line count) }
 {
-    match refusal {
-        FileRefusal::BadJson => into.push_str("\"bad-json\"")?,
-        FileRefusal::BadRule(place, fault) => {
-            let path = fault_name(*fault);
-            write!(
-                into,
-                "\"not-yet-supported\",\"place\":{place},\"path\":\"{path}\""
-            )?;
-        }
+    write!(into, "{{\"rules\":{count}}}\n")?;
+    Ok(())
+}
+
+fn write_rule_fields(refusal: &PlacedRefusal, into: &mut String) -> Result<(), NoMemory>
+    ensures { OnOk result (string_bytes into.new ≡ string_bytes into.old ++ spec.rule_fields refusal.now) }
+{
+    write_place(rule_code(refusal.cause), refusal.place, into)?;
+    write_id(refusal.id, into)?;
+    write_detail(detail_of(refusal.cause), into)
+}
+
+fn write_place(code: &str, place: u32, into: &mut String) -> Result<(), NoMemory>
+    ensures { OnOk result (string_bytes into.new
+        ≡ string_bytes into.old ++ codes "\"" ++ code.now ++ codes "\",\"place\":" ++ decimal place ++ codes ",\"id\":") }
+{
+    write!(into, "\"{code}\",\"place\":{place},\"id\":")?;
+    Ok(())
+}
+
+fn write_id(id: Option<u32>, into: &mut String) -> Result<(), NoMemory>
+    ensures { OnOk result (string_bytes into.new ≡ string_bytes into.old ++ spec.id_text id) }
+{
+    match id {
+        Some(id) => write!(into, "{id}")?,
+        None => into.push_str("null")?,
     }
     Ok(())
 }
 
-fn fault_name(fault: RuleFault) -> &'static str
-    ensures { result.now ≡ spec.fault_name fault }
+// What a refusal adds to its code.
+enum Detail {
+    Nothing,
+    Path(RulePath),
+    Why(&'static str),
+}
+
+fn write_detail(detail: Detail, into: &mut String) -> Result<(), NoMemory>
+    ensures { OnOk result (string_bytes into.new ≡ string_bytes into.old ++ spec.detail_field (detail_seen detail)) }
 {
-    match fault {
-        RuleFault::Rules => "rules",
-        RuleFault::Rule => "rule",
-        RuleFault::Id => "id",
-        RuleFault::Priority => "priority",
-        RuleFault::Condition => "condition",
-        RuleFault::Action => "action",
+    match detail {
+        Detail::Nothing => Ok(()),
+        Detail::Path(path) => write_path(path.name(), into),
+        Detail::Why(why) => write_why(why, into),
+    }
+}
+
+fn write_path(path: &str, into: &mut String) -> Result<(), NoMemory>
+    ensures { OnOk result (string_bytes into.new ≡ string_bytes into.old ++ codes ",\"path\":\"" ++ path.now ++ codes "\"") }
+{
+    write!(into, ",\"path\":\"{path}\"")?;
+    Ok(())
+}
+
+fn write_why(why: &str, into: &mut String) -> Result<(), NoMemory>
+    ensures { OnOk result (string_bytes into.new ≡ string_bytes into.old ++ codes ",\"why\":\"" ++ why.now ++ codes "\"") }
+{
+    write!(into, ",\"why\":\"{why}\"")?;
+    Ok(())
+}
+
+fn detail_of(refusal: RuleRefusal) -> Detail
+    ensures { detail_seen result ≡ spec.detail_of refusal }
+{
+    match refusal {
+        RuleRefusal::BadField(path) | RuleRefusal::BadDomain(path) | RuleRefusal::EmptyList(path) =>
+            { Detail::Path(path) }
+        RuleRefusal::BadUrlFilter(refusal) => Detail::Why(pattern_why(refusal)),
+        RuleRefusal::BadHeader(cause) => Detail::Why(header_why(cause)),
+        _ => Detail::Nothing,
+    }
+}
+
+fn rule_code(refusal: RuleRefusal) -> &'static str
+    ensures { result.now ≡ spec.rule_code refusal }
+{
+    match refusal {
+        RuleRefusal::NotObject => "not-object",
+        RuleRefusal::BadId => "bad-id",
+        RuleRefusal::DuplicateId => "duplicate-id",
+        RuleRefusal::BadPriority => "bad-priority",
+        RuleRefusal::BadField(_) => "bad-field",
+        RuleRefusal::BothFilters => "both-filters",
+        RuleRefusal::BadUrlFilter(_) => "bad-url-filter",
+        RuleRefusal::BadRegex => "bad-regex",
+        RuleRefusal::BadDomain(_) => "bad-domain",
+        RuleRefusal::EmptyList(_) => "empty-list",
+        RuleRefusal::BothTypeLists => "both-type-lists",
+        RuleRefusal::AllowAllTypes => "allow-all-types",
+        RuleRefusal::TabsNotSession => "tabs-not-session",
+        RuleRefusal::BadAction => "bad-action",
+        RuleRefusal::BadRedirect => "bad-redirect",
+        RuleRefusal::BadTransform => "bad-transform",
+        RuleRefusal::BadHeader(_) => "bad-header",
+        RuleRefusal::HostFault => "pattern-host",
+        RuleRefusal::NoMemory => "no-memory",
+    }
+}
+
+fn pattern_why(refusal: PatternRefusal) -> &'static str
+    ensures { result.now ≡ spec.pattern_why refusal }
+{
+    match refusal {
+        PatternRefusal::Empty => "empty",
+        PatternRefusal::TooLong => "too-long",
+        PatternRefusal::AnchorStar => "anchor-star",
+        PatternRefusal::NotAscii => "not-ascii",
+        PatternRefusal::NoMemory => "no-memory",
+    }
+}
+
+fn header_why(cause: HeaderCause) -> &'static str
+    ensures { result.now ≡ spec.header_why cause }
+{
+    match cause {
+        HeaderCause::NoHeaders => "no-headers",
+        HeaderCause::BadShape => "bad-shape",
+        HeaderCause::Op(refusal) => op_why(refusal),
+    }
+}
+
+fn op_why(refusal: HeaderRefusal) -> &'static str
+    ensures { result.now ≡ spec.op_why refusal }
+{
+    match refusal {
+        HeaderRefusal::BadName => "bad-name",
+        HeaderRefusal::BadValue => "bad-value",
+        HeaderRefusal::ValueMissing => "value-missing",
+        HeaderRefusal::ValueGiven => "value-given",
+        HeaderRefusal::AppendNotAllowed => "append-not-allowed",
+        HeaderRefusal::NoMemory => "no-memory",
     }
 }

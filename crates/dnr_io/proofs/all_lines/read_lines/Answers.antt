@@ -1,5 +1,5 @@
-use Rattle.std.proofs.Common.{◌≡◌, ◌++◌, ◌∷◌, [], map, ap, ◌∙◌, rules, arith}
-use Rattle.std.proofs.lemmas.List.{map-append}
+use Rattle.std.proofs.Common.{◌≡◌, ◌++◌, ◌∷◌, [], ◌+◌, length, map, ap, ◌∙◌, rules, arith}
+use Rattle.std.proofs.lemmas.List.{map-append, length-append}
 use Rattle.dnr_io.proofs.ReadSoFar.{one_read, is_beyond}
 use Rattle.dnr_io.proofs.all_lines.read_lines.Goals as goal
 
@@ -14,8 +14,11 @@ loop-all-preserved g c =
     let gives = rw c.in-Some.is at next.line in
     let counted = rw c.in-Some.is at next.counted in
     let read = one_read _ _ _ _ _ c.next_line.new.lines.count c.in-Some.line.items was.read gives counted.1 in
-    let lines : map (λ line. line.items) c.push.new.self.items ≡ map (λ line. line.items) c.loop-all.all.items ++ c.in-Some.line.items ∷ [] = ap (map (λ line. line.items)) c.in_ok-push.ensures.items ∙ map-append (λ line. line.items) c.loop-all.all.items (c.in-Some.line ∷ []) in record {
+    let lines : map (λ line. line.items) c.push.new.self.items ≡ map (λ line. line.items) c.loop-all.all.items ++ c.in-Some.line.items ∷ [] = ap (map (λ line. line.items)) c.in_ok-push.ensures.items ∙ map-append (λ line. line.items) c.loop-all.all.items (c.in-Some.line ∷ []) in
+    let grown : length c.push.new.self.items ≡ length c.loop-all.all.items + 1 = ap length c.in_ok-push.ensures.items ∙ length-append c.loop-all.all.items (c.in-Some.line ∷ []) in
+    let count : length c.push.new.self.items ≡ c.next_line.new.lines.count = omega (arith, grown, was.counted, counted.1) in record {
       read = rw lines read;
+      counted = count;
       few = omega (arith, counted.0, counted.1);
       live = counted.2;
       told = next.told ∙ was.told;

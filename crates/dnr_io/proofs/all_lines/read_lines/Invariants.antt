@@ -1,4 +1,4 @@
-use Rattle.std.proofs.Common.{◌≡◌, ◌-◌, ◌≤◌, map, is_some}
+use Rattle.std.proofs.Common.{◌≡◌, ◌-◌, ◌≤◌, length, map, is_some}
 use Rattle.std.specs.Prelude.{IsTrue}
 use Rattle.dnr_spec.specs.Lines.{max_lines}
 use Rattle.dnr_io.specs.Lines.{ahead}
@@ -8,6 +8,7 @@ use Rattle.dnr_io.proofs.all_lines.read_lines.Given as goal
 abbrev pub invariant-loop-all : goal.invariant-loop-all
 invariant-loop-all g l = record {
   read : ReadSoFar (g.S.Source.left l.fn.source) (ahead l.lines (g.S.Source.left l.source)) (map (λ line. line.items) l.all.items) l.lines.count;
+  counted : length l.all.items ≡ l.lines.count;
   few : l.lines.count ≤ max_lines;
   live : IsTrue l.lines.live;
   told : is_some (g.S.Source.left l.source) ≡ is_some (g.S.Source.left l.fn.source);
