@@ -6,7 +6,7 @@ use Rattle.json_spec.specs.RuleFields.{first_refusal, refusal_in, unless_refused
 use Rattle.rule_spec.specs.declared.rule_path.RulePath.TheVariants as path
 use Rattle.json_spec.specs.RuleFields.{Fields}
 use Rattle.json_spec.specs.MayRefuse.{MayRefuse, IsRefused}
-use Rattle.json_spec.specs.ReadRule.{domains_in, domain_lists_in, domain_lists_of, domain_tests}
+use Rattle.json_spec.specs.ReadRule.{domains_in, domain_lists_in, domain_lists_of}
 use Rattle.json_spec.proofs.Refused.{refused_on}
 
 -- a reading that is not refused leaves it to the rest

@@ -40,9 +40,12 @@ pub(crate) fn read_filters<H: RegexHost>(
     host: &mut H,
 ) -> Result<Filters, RuleRefusal>
     ensures ok { OnOk result (filters_in (fields_seen fields.now) ≡ Ok tt) }
-    ensures url_filter { IfOk result (λ filters. filters.url_filter ≡ option_copied fields.now.url_filter) }
-    ensures regex_filter { IfOk result (λ filters. filters.regex_filter ≡ option_copied fields.now.regex_filter) }
-    ensures groups { IfOk result (λ filters. filters.groups ≡ option_map_or groups_of (option_copied fields.now.regex_filter) None) }
+    ensures url_filter { IfOk result (λ filters.
+        filters.url_filter ≡ option_copied fields.now.url_filter) }
+    ensures regex_filter { IfOk result (λ filters.
+        filters.regex_filter ≡ option_copied fields.now.regex_filter) }
+    ensures groups { IfOk result (λ filters.
+        filters.groups ≡ option_map_or groups_of (option_copied fields.now.regex_filter) None) }
     ensures refused { IfErr result (MayRefuse (filters_in (fields_seen fields.now))
         (Rose (H.faults host.old) (H.faults host.new) × IsAtPattern (fields_seen fields.now))) }
     ensures later { H.faults host.old ≤ H.faults host.new }
@@ -108,7 +111,8 @@ fn is_regex_text(text: &str) -> bool
 // The count of groups of a regexFilter's pattern.
 fn check_pattern<H: RegexHost>(text: &str, fold: bool, host: &mut H) -> Result<u32, RuleRefusal>
     ensures groups { IfOk result (λ groups. groups_of text.now ≡ Some groups) }
-    ensures refused { IfErr result (RefusesTest (spec.pattern_test (Some text.now)) (Rose (H.faults host.old) (H.faults host.new))) }
+    ensures refused { IfErr result (RefusesTest (spec.pattern_test (Some text.now))
+        (Rose (H.faults host.old) (H.faults host.new))) }
     ensures later { H.faults host.old ≤ H.faults host.new }
 {
     match host.check(text, fold) {
@@ -134,7 +138,8 @@ pub(crate) fn read_domain_lists(
     alloc: Global,
     fields: &Fields<'_>,
 ) -> Result<DomainLists, RuleRefusal>
-    ensures ok { IfOk result (λ lists. domain_lists_in (fields_seen fields.now) ≡ Ok (lists_seen lists)) }
+    ensures ok { IfOk result (λ lists.
+        domain_lists_in (fields_seen fields.now) ≡ Ok (lists_seen lists)) }
     ensures refused { IfErr result (IsRefused (domain_lists_in (fields_seen fields.now))) }
 {
     let initiators = read_domains(alloc, RulePath::InitiatorDomains, &fields.initiators)?;

@@ -1,6 +1,6 @@
 ghost use Rattle.std.specs.Prelude.{◌≡◌, Ok, OnOk, IfErr, option_map};
 ghost use Rattle.std.specs.List.{list_all};
-ghost use Rattle.serde_json.specs.View.{view};
+ghost use Rattle.action_read.specs.Seen.{data_in};
 ghost use Rattle.dnr_base.specs.KindSet.{kinds_of};
 ghost use Rattle.rule_spec.specs.IsRule.{is_frame_kind};
 ghost use Rattle.json_spec.specs.MayRefuse.{IsRefused};
@@ -18,8 +18,9 @@ use serde_json::Value;
 // Refuses `allowAllRequests` where the rule gives no resource types, or others than frames.
 #[tactic(auto, unfolding(json_spec::specs::ReadRule::frames_in))]
 pub(crate) fn test_frames(action: Option<&Value>, fields: &Fields<'_>) -> Result<(), RuleRefusal>
-    ensures ok { OnOk result (frames_in (option_map (λ action. view action.now) action.entry) (fields_seen fields.now) ≡ Ok tt) }
-    ensures refused { IfErr result (IsRefused (frames_in (option_map (λ action. view action.now) action.entry) (fields_seen fields.now))) }
+    ensures ok { OnOk result (frames_in (data_in action.entry) (fields_seen fields.now) ≡ Ok tt) }
+    ensures refused { IfErr result
+        (IsRefused (frames_in (data_in action.entry) (fields_seen fields.now))) }
 {
     if is_allow_all(action) && !gives_frames(fields.kinds) {
         return Err(RuleRefusal::AllowAllTypes);
@@ -28,7 +29,7 @@ pub(crate) fn test_frames(action: Option<&Value>, fields: &Fields<'_>) -> Result
 }
 
 fn is_allow_all(action: Option<&Value>) -> bool
-    ensures { result ≡ rule.is_allow_all (spec.type_of (option_map (λ action. view action.now) action.entry)) }
+    ensures { result ≡ rule.is_allow_all (spec.type_of (data_in action.entry)) }
 {
     match action
         .and_then(|action| action.get("type"))

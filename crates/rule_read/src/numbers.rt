@@ -27,9 +27,13 @@ pub(crate) fn read_numbers<'a>(
     value: &'a Value,
     taken: &BTreeSet<u32>,
 ) -> Result<Numbers<'a>, RuleRefusal>
-    ensures ok { IfOk result (λ numbers. numbers_in (λ id. contains nat_cmp taken.now id) (view value.now) ≡ Ok (numbers_seen numbers)) }
-    ensures condition { IfOk result (λ numbers. view numbers.condition.now ≡ condition_at (view value.now)) }
-    ensures refused { IfErr result (IsRefused (numbers_in (λ id. contains nat_cmp taken.now id) (view value.now))) }
+    ensures ok { IfOk result (λ numbers.
+        numbers_in (λ id. contains nat_cmp taken.now id) (view value.now)
+        ≡ Ok (numbers_seen numbers)) }
+    ensures condition { IfOk result (λ numbers.
+        view numbers.condition.now ≡ condition_at (view value.now)) }
+    ensures refused { IfErr result
+        (IsRefused (numbers_in (λ id. contains nat_cmp taken.now id) (view value.now))) }
 {
     if value.as_object().is_none() {
         return Err(RuleRefusal::NotObject);

@@ -49,7 +49,8 @@ pub fn read_rule<H: RegexHost>(
 ) -> Result<Rule, RuleRefusal>
     ensures ok { IfOk result (λ rule. spec.read_rule kind (view value.now) ≡ Ok rule) }
     ensures refused { IfErr result (MayRefuse (spec.read_rule kind (view value.now))
-        (Rose (H.faults host.old) (H.faults host.new) × IsRuleAtPattern (λ id. false) (view value.now))) }
+        (Rose (H.faults host.old) (H.faults host.new)
+        × IsRuleAtPattern (λ id. false) (view value.now))) }
     ensures later { H.faults host.old ≤ H.faults host.new }
 {
     let taken = BTreeSet::new(alloc);
@@ -64,9 +65,12 @@ fn read_among<H: RegexHost>(
     taken: &BTreeSet<u32>,
     host: &mut H,
 ) -> Result<Rule, RuleRefusal>
-    ensures ok { IfOk result (λ rule. rule_in kind (λ id. contains nat_cmp taken.now id) (view value.now) ≡ Ok rule) }
-    ensures refused { IfErr result (MayRefuse (rule_in kind (λ id. contains nat_cmp taken.now id) (view value.now))
-        (Rose (H.faults host.old) (H.faults host.new) × IsRuleAtPattern (λ id. contains nat_cmp taken.now id) (view value.now))) }
+    ensures ok { IfOk result (λ rule.
+        rule_in kind (λ id. contains nat_cmp taken.now id) (view value.now) ≡ Ok rule) }
+    ensures refused { IfErr result
+        (MayRefuse (rule_in kind (λ id. contains nat_cmp taken.now id) (view value.now))
+        (Rose (H.faults host.old) (H.faults host.new)
+        × IsRuleAtPattern (λ id. contains nat_cmp taken.now id) (view value.now))) }
     ensures later { H.faults host.old ≤ H.faults host.new }
 {
     let numbers = read_numbers(value, taken)?;
@@ -96,7 +100,8 @@ fn condition_of(
 ) -> ConditionParts
     requires url_filter { filters.url_filter ≡ option_copied fields.url_filter }
     requires regex_filter { filters.regex_filter ≡ option_copied fields.regex_filter }
-    ensures { condition_seen result ≡ spec.condition_of (fields_seen fields.entry) (lists_seen lists) }
+    ensures { condition_seen result
+        ≡ spec.condition_of (fields_seen fields.entry) (lists_seen lists) }
 {
     let Filters {
         url_filter,
@@ -153,7 +158,8 @@ pub fn read_rules<H: RegexHost>(
     host: &mut H,
 ) -> Result<Vec<Rule>, PlacedRefusal>
     ensures ok { IfOk result (λ rules. spec.read_rules kind (view value.now) ≡ Ok rules.items) }
-    ensures refused { IfErr result (MayStop kind (as_array (view value.now)) (Rose (H.faults host.old) (H.faults host.new))) }
+    ensures refused { IfErr result (MayStop kind (as_array (view value.now))
+        (Rose (H.faults host.old) (H.faults host.new))) }
     ensures later { H.faults host.old ≤ H.faults host.new }
 {
     match value.as_array() {
@@ -175,7 +181,8 @@ fn read_list<H: RegexHost>(
     host: &mut H,
 ) -> Result<Vec<Rule>, PlacedRefusal>
     ensures ok { IfOk result (λ rules. spec.read_from kind [] (items_view values.now) ≡ Ok rules.items) }
-    ensures refused { IfErr result (MayStop kind (Some (items_view values.now)) (Rose (H.faults host.old) (H.faults host.new))) }
+    ensures refused { IfErr result (MayStop kind (Some (items_view values.now))
+        (Rose (H.faults host.old) (H.faults host.new))) }
     ensures later { H.faults host.old ≤ H.faults host.new }
 {
     let mut taken = BTreeSet::new(alloc);
@@ -190,8 +197,8 @@ fn read_list<H: RegexHost>(
 ///
 /// # Errors
 ///
-/// The refusal of the rule, with its place behind the others and its id. `rules` is then as it was, and `taken` may
-/// have the id of the rule besides.
+/// The refusal of the rule, with its place behind the others and its id. `rules` is then as it was; at `NoMemory`
+/// `taken` may have the id of the rule besides.
 #[tactic(auto, using(crate::proofs::ReadLists::id_more, crate::proofs::ReadLists::reads_next, crate::proofs::ReadLists::stops_at))]
 pub fn read_next<H: RegexHost>(
     alloc: Global,
@@ -204,7 +211,8 @@ pub fn read_next<H: RegexHost>(
     requires { Taken taken.old rules.old.items }
     ensures taken { OnOk result (Taken taken.new rules.new.items) }
     ensures read { OnOk result (ReadsNext kind (view value.now) rules.old.items rules.new.items) }
-    ensures refused { IfErr result (StopsAt kind (view value.now) rules.old.items (Rose (H.faults host.old) (H.faults host.new))) }
+    ensures refused { IfErr result (StopsAt kind (view value.now) rules.old.items
+        (Rose (H.faults host.old) (H.faults host.new))) }
     ensures kept { OnErr result (rules.new.items ≡ rules.old.items) }
     ensures later { H.faults host.old ≤ H.faults host.new }
 {

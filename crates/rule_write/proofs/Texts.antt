@@ -1,11 +1,11 @@
 -- The text of rules grows to that of their list.
-use Rattle.std.proofs.Common.{◌≡◌, ℕ, ◌<◌, ◌≤◌, ◌+◌, List, [], ◌∷◌, ◌++◌, length, map, fold, Bool, true, false, refl, sym, ap, ◌∙◌, arith, nat_lt}
+use Rattle.std.proofs.Common.{◌≡◌, ℕ, ◌<◌, ◌+◌, List, [], ◌∷◌, ◌++◌, length, map, fold, true, refl, ap, ◌∙◌, arith, nat_lt}
 use Rattle.std.proofs.lemmas.Bool.Decides.{nat_tests}
 use Rattle.std.proofs.lemmas.List.{append_assoc, length-append}
 use Rattle.serde_json.specs.View.{items_of}
 use Rattle.serde_json.specs.Written.{comma_if, compact_text, items_text}
 use Rattle.rule_spec.specs.Rule.{Rule}
-use Rattle.json_spec.specs.Written.{rule_written, rules_written, written}
+use Rattle.json_spec.specs.Written.{rule_written, written}
 use Rattle.rule_write.specs.Texts.{with_rule}
 
 begins : (rule : Rule) → 0 < length (compact_text (rule_written rule))

@@ -1,7 +1,5 @@
 //! The text of rules in the form of Chrome's reference, as it is written by hand.
 ghost use Rattle.std.specs.Prelude.{◌≡◌, ◌<◌, pos, negsuc, [], ◌∷◌, length, Ok, IfSome};
-ghost use Rattle.dnr_base.specs.KindSet.{kinds_of};
-ghost use Rattle.dnr_base.specs.declared.kind.Kind.TheVariants.{MainFrame, SubFrame};
 ghost use Rattle.dnr_spec.specs.UrlFilter.{pattern_of};
 ghost use Rattle.rule_spec.specs.IsRule.{AreDomains};
 
@@ -20,9 +18,7 @@ fn filter(alloc: Global, text: &str) -> Option<Pattern>
     Pattern::read(alloc, text).ok()
 }
 
-fn frames() -> KindSet
-    ensures { kinds_of result ≡ MainFrame ∷ SubFrame ∷ [] }
-{
+fn frames() -> KindSet {
     let mut kinds = KindSet::empty();
     kinds.insert(Kind::SubFrame);
     kinds.insert(Kind::MainFrame);
@@ -49,7 +45,7 @@ fn page_rule(alloc: Global) -> Option<Rule> {
         id: 1,
         priority: 3,
         condition,
-        action: Action::AllowAllRequests,
+        action: Action::Allow,
     }))
 }
 
@@ -121,7 +117,7 @@ fn rules_are_a_list_without_spaces(rt: HostRuntime) -> Result<(), Fail> {
     ];
     let text = write_rules(alloc, rules.as_slice())?;
     let first =
-        r#"[{"action":{"type":"allowAllRequests"},"condition":{"resourceTypes":["main_frame","sub_frame"],"urlFilter":"||a.com^"},"id":1,"priority":3}"#;
+        r#"[{"action":{"type":"allow"},"condition":{"resourceTypes":["main_frame","sub_frame"],"urlFilter":"||a.com^"},"id":1,"priority":3}"#;
     let second =
         r#"{"action":{"type":"block"},"condition":{"domainType":"thirdParty","excludedRequestMethods":["post"],"excludedTabIds":[-1,7],"initiatorDomains":["a.test","b.test"],"isUrlFilterCaseSensitive":true},"id":2,"priority":1}]"#;
     let expected = format!(in alloc; "{first},{second}")?;
