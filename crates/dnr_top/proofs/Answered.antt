@@ -1,5 +1,5 @@
 -- What was written along the lines of a script.
-use Rattle.std.proofs.Common.{◌≡◌, ◌⊎◌, ℕ, ◌+◌, ◌<◌, List, [], ◌∷◌, ◌++◌, Option, Some, None, Result, Ok, Err, OnOk, OnErr, Vec, take, drop, length, map, ◌≤◌, arith, subst, get_or, refl, sym, ap, ◌∙◌, inl, inr, append_assoc, append-nil}
+use Rattle.std.proofs.Common.{◌≡◌, ℕ, ◌+◌, ◌<◌, List, [], ◌∷◌, ◌++◌, Option, Some, None, Result, Ok, Err, OnOk, OnErr, Vec, take, drop, length, ◌≤◌, arith, subst, get_or, refl, sym, ap, ◌∙◌, inl, inr, append_assoc, append-nil}
 use Rattle.std.specs.Io.KnownBytes.{Appends}
 use Rattle.std.specs.declared.alloc.Global.{Global}
 use Rattle.std.proofs.lemmas.List.{take_more, take_all, take-append-drop, length-take-le, map-append, length-map}
@@ -13,7 +13,7 @@ use Rattle.json_spec.specs.RequestLine.{Command, blank, request, explain, comman
 use Rattle.session_spec.specs.Output.{verdict_line, bad_line, not_yet_line}
 use Rattle.rule_spec.specs.Scan.{Verdict, scan}
 use Rattle.rule_spec.specs.State.{State}
-use Rattle.session_spec.specs.Answers.{Setting, Says, Answer, Answers}
+use Rattle.session_spec.specs.Answers.{Setting, Says, Answers}
 use Rattle.dnr_top.specs.Answers.{lines_seen, setting_of, HasNotFallen, AppendsSuch, SaysOfRequest, WritesFront, WritesAnswers, WritesAnswersInPart}
 
 appends_append : (a b c : Option (List ℕ)) (xs ys : List ℕ) → Appends a b xs → Appends b c ys → Appends a c (xs ++ ys)

@@ -13,7 +13,7 @@ use Rattle.generation.specs.Basis.{Basis}
 use Rattle.rules_file.specs.Answers.{refusal_seen}
 use Rattle.session_spec.specs.Words.{Task, match_files, check_file}
 use Rattle.session_spec.specs.Refusals.{refusal_line, count_line}
-use Rattle.session_spec.specs.Out.{Files, Counts, HostRose, Writes, Ends, HasTooMuch, HoldsRules, HoldsLongFile, HoldsLines, HoldsTooMuch, IsRefused, IsBeginning, match_setting, opening}
+use Rattle.session_spec.specs.Out.{Files, Counts, HostRose, Writes, Ends, HasTooMuch, HoldsRules, HoldsLongFile, HoldsLines, HoldsTooMuch, IsRefused, IsBeginning, opening}
 use Rattle.dnr_top.specs.declared.load.LoadRefusal.{LoadRefusal}
 use Rattle.dnr_top.specs.declared.load.LoadRefusal.TheVariants.{BadFile, ReadFault, FileTooLong, NoMemory}
 use Rattle.dnr_top.specs.Answers.{setting_by, WritesAnswers, WritesAnswersInPart}

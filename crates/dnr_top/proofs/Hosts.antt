@@ -1,10 +1,9 @@
 -- The counts of hosts, of which one was used.
-use Rattle.std.proofs.Common.{◌≡◌, ℕ, ◌+◌, ◌<◌, List, [], ◌∷◌, ◌++◌, zero, suc, length, get_or, Option, Some, None, OnOk, OnErr, Result, Ok, Err, refl, sym, ap, ◌∙◌, subst, arith, ⊎_elim, inl, inr}
-use Rattle.std.specs.Prelude.{slice_get, slice_set, IfSome}
+use Rattle.std.proofs.Common.{◌≡◌, ℕ, List, [], ◌∷◌, ◌++◌, zero, suc, Option, Some, None, OnOk, OnErr, Result, Ok, Err, refl, sym, ap, ◌∙◌, subst, ⊎_elim, inl, inr}
+use Rattle.std.specs.Prelude.{slice_get, IfSome}
 use Rattle.dnr_base.specs.Faults.{Rose, Count}
 use Rattle.generation.specs.Basis.{Basis}
 use Rattle.rule_spec.specs.declared.rule_kind.RuleKind.{RuleKind}
-use Rattle.rule_spec.specs.State.{State}
 use Rattle.session_spec.specs.Out.{Files, HasRisen}
 use Rattle.dnr_top.specs.declared.load.LoadRefusal.{LoadRefusal}
 use Rattle.dnr_top.specs.declared.load.LoadRefusal.TheVariants.{BadFile, ReadFault, FileTooLong, NoMemory}

@@ -2,7 +2,7 @@ use Rattle.std.proofs.Common.{arith, subst}
 use Rattle.dnr_io.specs.Sink.{AppendsPart}
 use Rattle.std.specs.Io.KnownBytes.{Appends}
 use Rattle.dnr_top.specs.Answers.{setting_of}
-use Rattle.dnr_top.proofs.Answered.{all_written, no_fall_on, one_line_more, on_err, nothing_sent, unanswered_in_part, written_in_part, written_in_part_after}
+use Rattle.dnr_top.proofs.Answered.{all_written, no_fall_on, one_line_more, on_err, unanswered_in_part, written_in_part, written_in_part_after}
 use Rattle.dnr_top.proofs.answers.answer_lines.Goals as goal
 
 pub loop-index-preserved : goal.loop-index-preserved
