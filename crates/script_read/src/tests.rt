@@ -106,32 +106,31 @@ fn a_url_has_a_longest_text(rt: HostRuntime) -> Result<(), Fail> {
 
 #[test]
 fn lists_have_a_greatest_length(rt: HostRuntime) -> Result<(), Fail> {
+    let (frame, header) = ("{\"url\":null}", "[\"a\",\"\"]");
     let rows = [
-        ("frames", "{\"url\":null}", 64, CommandPath::Frames),
+        ("frames", frame, 64, None),
+        ("frames", frame, 65, Some(CommandPath::Frames)),
+        ("requestHeaders", header, 512, None),
         (
             "requestHeaders",
-            "[\"a\",\"\"]",
-            512,
-            CommandPath::RequestHeaders,
+            header,
+            513,
+            Some(CommandPath::RequestHeaders),
         ),
+        ("responseHeaders", header, 512, None),
         (
             "responseHeaders",
-            "[\"a\",\"\"]",
-            512,
-            CommandPath::ResponseHeaders,
+            header,
+            513,
+            Some(CommandPath::ResponseHeaders),
         ),
     ];
-    for (field, item, most, path) in rows {
-        let line = line_with_list(rt.alloc(), field, item, most)?;
+    for (field, item, count, path) in rows {
+        let line = line_with_list(rt.alloc(), field, item, count)?;
+        let fault = path.map(LineFault::BadCommand);
         assert!(rt;
-            fault_of(rt.alloc(), line.as_str()).is_none(),
-            "{most} in {field}"
-        );
-        let longer = line_with_list(rt.alloc(), field, item, most + 1)?;
-        let fault = LineFault::BadCommand(path);
-        assert!(rt;
-            fault_of(rt.alloc(), longer.as_str()) == Some(fault),
-            "more than {most} in {field}"
+            fault_of(rt.alloc(), line.as_str()) == fault,
+            "{count} in {field}"
         );
     }
     Ok(())
