@@ -1,5 +1,5 @@
 -- Of the values that the tests make.
-use Rattle.std.proofs.Common.{arith, ◌≡◌, ◌≤◌, ℕ, zero, suc, List, [], ◌∷◌, Bool, true, false, ◌&&◌, cond, Ok, Err, Option, Some, codes, nat_eq, length, ◌==◌, subst, refl, ap, ◌∙◌}
+use Rattle.std.proofs.Common.{arith, ◌≡◌, ℕ, zero, suc, List, [], ◌∷◌, Bool, true, false, ◌&&◌, cond, Ok, Err, Some, codes, nat_eq, length, ◌==◌, subst, refl, ap, ◌∙◌}
 use Rattle.std.specs.Prelude.{nat_lt, MatchBool, is_some}
 use Rattle.std.specs.List.{list_all, starts_with}
 use Rattle.std.specs.Char.{is_ascii}

@@ -20,6 +20,10 @@ lives_at rank set disabled rules origins = filter_map (live_at rank set disabled
 abbrev pub lines_at : List (List ℕ) → ℕ → List ℕ
 lines_at origins place = unwrap_or (slice_get origins place) []
 
+-- the rule at a place of a block, if it is in force
+abbrev pub live_in : Block → ℕ → Rule → Option Live
+live_in block place rule = live_at block.rank block.set.now block.disabled.now (rule, lines_at block.origins.now place)
+
 abbrev pub lives_in : Block → List Live
 lives_in block = lives_at block.rank block.set.now block.disabled.now block.rules.now block.origins.now
 

@@ -1,7 +1,7 @@
 ghost use Rattle.std.specs.Prelude.{◌≡◌, codes, true};
 ghost use Rattle.dnr_base.specs.declared.rank.Rank.TheVariants as rank;
 ghost use Rattle.rule_spec.specs.State as spec;
-ghost use Rattle.generation.specs.Block.{lines_at, live_at, lives_in};
+ghost use Rattle.generation.specs.Block.{lines_at, lives_in};
 
 use crate::live::Live;
 use dnr_base::{Items, Rank};
@@ -78,18 +78,22 @@ impl<'a> Block<'a> {
         }
     }
 
-    // The rule, which stands at this place, if it is in force.
-    pub(crate) fn live(&self, place: usize, rule: &'a Rule) -> Option<Live<'a>>
-        ensures { result ≡ live_at self.now.rank self.now.set.now self.now.disabled.now (rule.now, lines_at self.now.origins.now place) }
+    // Whether the rule is switched off.
+    pub(crate) fn is_off(&self, rule: &Rule) -> bool
+        ensures { result ≡ spec.has_number self.now.disabled.now rule.now.id }
     {
-        if is_off(self.disabled, rule.id()) {
-            return None;
-        }
-        Some(Live {
+        is_off(self.disabled, rule.id())
+    }
+
+    // The rule, which stands at this place and is in force.
+    pub(crate) fn live(&self, place: usize, rule: &'a Rule) -> Live<'a>
+        ensures { result ≡ record { rank = self.now.rank; set = self.now.set.now; rule = rule.now; lines = lines_at self.now.origins.now place } }
+    {
+        Live {
             rank: self.rank,
             set: self.set,
             rule,
             lines: lines_at(self.origins, place),
-        })
+        }
     }
 }

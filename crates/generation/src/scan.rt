@@ -3,7 +3,7 @@ ghost use Rattle.dnr_base.specs.Faults.{HasCauseOf};
 ghost use Rattle.rule_match.specs.Answers.{IsCalm};
 ghost use Rattle.rule_spec.specs.Scan.{is_candidate};
 ghost use Rattle.rule_spec.specs.State.{live_from, live_of, live_rules};
-ghost use Rattle.generation.specs.Block.{added_to, lives_in};
+ghost use Rattle.generation.specs.Block.{added_to, live_in, lives_in};
 ghost use Rattle.generation.specs.Kept as spec;
 ghost use Rattle.generation.specs.Refused.{Ends, IsPattern, IsPatternOf, IsRefusalAt};
 ghost use Rattle.dnr_base.specs.Request.{max_frames};
@@ -98,38 +98,31 @@ impl<'r> Scan<'r> {
         may_act(self.alloc, extension, rule, &self.request.view, host)
     }
 
-    // Takes the rule in, if it is a candidate.
-    fn take<'a, H: RegexHost, L: Ledger>(
+    // Takes the rule at a place of a block in, if it is in force and a candidate.
+    fn take_at<'a, H: RegexHost, L: Ledger>(
         &self,
         kept: Kept<'a>,
-        live: Live<'a>,
+        block: &Block<'a>,
+        place: usize,
+        rule: &'a Rule,
         host: &mut H,
         steps: &mut Steps<L>,
     ) -> Result<Kept<'a>, DecideRefusal>
-        ensures kept { IfOk result (λ new. new ≡ spec.with_live self.now.suffixes self.now.request kept.entry live.entry) }
-        ensures ends { Ends (IsPattern kept.entry.name (live.entry ∷ [])) (H.faults host.old) (H.faults host.new) result }
+        ensures kept { IfOk result (λ new. new ≡ spec.with_some self.now.suffixes self.now.request kept.entry (live_in block.now place rule.now)) }
+        ensures ends { Ends (IsPattern kept.entry.name (option_to_list (live_in block.now place rule.now))) (H.faults host.old) (H.faults host.new) result }
     {
-        match self.is_candidate(kept.name, live.rule, host, steps) {
-            Ok(true) => kept.add(live).map_err(|_| DecideRefusal::NoMemory),
-            Ok(false) => Ok(kept),
-            Err(refusal) => Err(refusal_at(self.alloc, refusal, kept.name, &live)),
+        if block.is_off(rule) {
+            return Ok(kept);
         }
-    }
-
-    // Takes the rule in, if there is one that is a candidate.
-    fn take_some<'a, H: RegexHost, L: Ledger>(
-        &self,
-        kept: Kept<'a>,
-        live: Option<Live<'a>>,
-        host: &mut H,
-        steps: &mut Steps<L>,
-    ) -> Result<Kept<'a>, DecideRefusal>
-        ensures kept { IfOk result (λ new. new ≡ spec.with_some self.now.suffixes self.now.request kept.entry live.entry) }
-        ensures ends { Ends (IsPattern kept.entry.name (option_to_list live.entry)) (H.faults host.old) (H.faults host.new) result }
-    {
-        match live {
-            Some(live) => self.take(kept, live, host, steps),
-            None => Ok(kept),
+        match self.is_candidate(kept.name, rule, host, steps) {
+            Ok(true) => kept
+                .add(block.live(place, rule))
+                .map_err(|_| DecideRefusal::NoMemory),
+            Ok(false) => Ok(kept),
+            Err(refusal) => {
+                let live = block.live(place, rule);
+                Err(refusal_at(self.alloc, refusal, kept.name, &live))
+            }
         }
     }
 
@@ -146,7 +139,7 @@ impl<'r> Scan<'r> {
     {
         let mut kept = kept;
         for (place, rule) in block.rules.iter().enumerate() {
-            match self.take_some(kept, block.live(place, rule), host, steps) {
+            match self.take_at(kept, block, place, rule, host, steps) {
                 Ok(more) => kept = more,
                 Err(refusal) => return Err(refusal),
             }

@@ -235,11 +235,11 @@ action_written action = object_of ((codes "type", Some (string (type_name action
 unfoldable pub rule_written : Rule → Data
 rule_written rule =
     object_of (
-      (codes "id", Some (number (unsigned rule.id)))
-      ∷ (codes "priority", Some (number (unsigned rule.priority)))
-      ∷ (codes "condition", Some (condition_written rule.condition))
-      ∷ (codes "action", Some (action_written rule.action))
-      ∷ []
+    (codes "id", Some (number (unsigned rule.id)))
+    ∷ (codes "priority", Some (number (unsigned rule.priority)))
+    ∷ (codes "condition", Some (condition_written rule.condition))
+    ∷ (codes "action", Some (action_written rule.action))
+    ∷ []
     )
 
 abbrev pub rules_written : List Rule → Data

@@ -1,8 +1,9 @@
 // The fields of a condition, each tested alone. None takes memory.
-ghost use Rattle.std.specs.Prelude.{◌≡◌, option_map};
+ghost use Rattle.std.specs.Prelude.{◌≡◌, not, option_map};
 ghost use Rattle.std.specs.Option.{option_copied};
 ghost use Rattle.dnr_base.specs.MethodSet.{methods_of};
 ghost use Rattle.dnr_base.specs.View.{host_of};
+ghost use Rattle.dnr_spec.specs.Domains.{covers_some};
 ghost use Rattle.rule_spec.specs.Holds as spec;
 
 use dnr_base::{Items, Method, MethodSet, Scheme, Text, View};
@@ -56,6 +57,13 @@ pub(crate) fn is_among(domains: Option<&DomainSet>, view: &View) -> bool
         None => true,
         Some(domains) => domains.covers(view.host()),
     }
+}
+
+// Most rules exclude no domains, so an empty list is asked nothing.
+pub(crate) fn is_not_among(domains: &DomainSet, view: &View) -> bool
+    ensures { result ≡ not (covers_some domains.now (host_of view.now)) }
+{
+    domains.entries().is_empty() || !domains.covers(view.host())
 }
 
 pub(crate) fn fits(filter: Option<&Pattern>, fold: bool, view: &View) -> bool

@@ -10,7 +10,7 @@ ghost use Rattle.rule_match.specs.Patterns.{without_pattern, asks_for_match};
 
 use crate::MatchRefusal;
 use crate::conditions::{
-    fits, has_tab, is_among, is_by, is_from, is_in, is_not_by, is_not_from, is_party,
+    fits, has_tab, is_among, is_by, is_from, is_in, is_not_among, is_not_by, is_not_from, is_party,
 };
 use dnr_base::{Part, Steps, Text};
 use dnr_rules::{Condition, Rule};
@@ -91,7 +91,7 @@ impl<'a> PreparedPart<'a> {
     {
         let view = self.part.view;
         is_among(condition.hosts(), view)
-            && !condition.not_hosts().covers(view.host())
+            && is_not_among(condition.not_hosts(), view)
             && fits(condition.url_filter(), !condition.case_sensitive(), view)
     }
 

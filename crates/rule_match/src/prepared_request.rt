@@ -174,7 +174,7 @@ impl<'a> PreparedRequest<'a> {
         if self.own.matches(rule, host, steps)? {
             return Ok(Some(Reach::Own));
         }
-        if !reaches_by_frames(rule.action()) {
+        if self.request.frames.as_slice().is_empty() || !reaches_by_frames(rule.action()) {
             return Ok(None);
         }
         let place = self.first_frame(rule, host, steps)?;
@@ -225,7 +225,7 @@ impl<'a> PreparedRequest<'a> {
         if self.own.plain_matches(rule, steps) {
             return Some(Reach::Own);
         }
-        if !reaches_by_frames(rule.action()) {
+        if self.request.frames.as_slice().is_empty() || !reaches_by_frames(rule.action()) {
             return None;
         }
         self.plain_first_frame(rule, steps).map(Reach::Frame)
