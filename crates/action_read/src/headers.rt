@@ -1,4 +1,4 @@
-ghost use Rattle.std.specs.Prelude.{◌≡◌, ◌++◌, [], List, Ok, IfOk, IfErr, map, option_map};
+ghost use Rattle.std.specs.Prelude.{◌≡◌, ◌++◌, ◌&&◌, [], List, Ok, IfOk, IfErr, map, option_map};
 ghost use Rattle.std.specs.Option.{option_copied};
 ghost use Rattle.serde_json.specs.View.{view, items_view};
 ghost use Rattle.json_spec.specs.RuleFields.{each};
@@ -32,7 +32,7 @@ pub(crate) fn read_changes(alloc: Global, action: &Value) -> Result<Action, Rule
 {
     let request = action.get("requestHeaders");
     let response = action.get("responseHeaders");
-    if is_empty_list(request) && is_empty_list(response) {
+    if have_no_changes(request, response) {
         return Err(RuleRefusal::BadHeader(HeaderCause::NoHeaders));
     }
     let request = changes_of(alloc, request)?;
@@ -43,6 +43,12 @@ pub(crate) fn read_changes(alloc: Global, action: &Value) -> Result<Action, Rule
         Items::build(request),
         Items::build(response),
     ))
+}
+
+fn have_no_changes(request: Option<&Value>, response: Option<&Value>) -> bool
+    ensures { result ≡ (spec.is_empty_list (option_map (λ value. view value.now) request.entry) && spec.is_empty_list (option_map (λ value. view value.now) response.entry)) }
+{
+    is_empty_list(request) && is_empty_list(response)
 }
 
 // Absent, or a list without items.

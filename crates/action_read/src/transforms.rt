@@ -1,8 +1,9 @@
-ghost use Rattle.std.specs.Prelude.{◌≡◌, ℕ, ◌+◌, ◌*◌, ◌-◌, ◌==◌, ◌≤◌, ◌||◌, true, codes, Ok, OnOk, IfOk, IfErr, length, fold, option_map, option_and_then};
+ghost use Rattle.std.specs.Prelude.{◌≡◌, ℕ, ◌+◌, ◌*◌, ◌-◌, ◌==◌, ◌≤◌, ◌&&◌, ◌||◌, true, codes, Ok, OnOk, IfOk, IfErr, is_some, length, fold, option_map, option_and_then};
 ghost use Rattle.std.specs.List.{list_any, list_all};
 ghost use Rattle.std.specs.Str.{str_to_ascii_lowercase};
 ghost use Rattle.std.specs.Char.{is_ascii_digit};
 ghost use Rattle.serde_json.specs.View.{view, items_view};
+ghost use Rattle.serde_json.specs.Find.{get};
 ghost use Rattle.dnr_spec.specs.Domains as domains;
 ghost use Rattle.rule_spec.specs.Redirects as rule;
 ghost use Rattle.json_spec.specs.RuleFields.{each};
@@ -141,7 +142,7 @@ pub(crate) fn read_transform(alloc: Global, value: &Value) -> Result<Transform, 
     ensures ok { IfOk result (λ transform. transform_in (view value.now) ≡ Ok transform) }
     ensures refused { IfErr result (IsRefused (transform_in (view value.now))) }
 {
-    if value.as_object().is_none() {
+    if !value.is_object() {
         return Err(RuleRefusal::BadTransform);
     }
     let scheme = scheme_part(value)?;
@@ -150,7 +151,7 @@ pub(crate) fn read_transform(alloc: Global, value: &Value) -> Result<Transform, 
     let path = text_part(alloc, value, "path", Part::Path)?;
     let query = text_part(alloc, value, "query", Part::Query)?;
     let query_transform = changes_part(alloc, value)?;
-    if value.get("query").is_some() && value.get("queryTransform").is_some() {
+    if has_two_queries(value) {
         return Err(RuleRefusal::BadTransform);
     }
     let fragment = text_part(alloc, value, "fragment", Part::Fragment)?;
@@ -168,6 +169,13 @@ pub(crate) fn read_transform(alloc: Global, value: &Value) -> Result<Transform, 
         username,
         password,
     })
+}
+
+// Whether both a new query and changes of the old one are given.
+fn has_two_queries(transform: &Value) -> bool
+    ensures { result ≡ (is_some (get (codes "query") (view transform.now)) && is_some (get (codes "queryTransform") (view transform.now))) }
+{
+    transform.get("query").is_some() && transform.get("queryTransform").is_some()
 }
 
 #[tactic(auto, unfolding(json_spec::specs::RuleAction::part_in))]
@@ -208,7 +216,13 @@ fn scheme_part(transform: &Value) -> Result<Option<Scheme>, RuleRefusal>
 fn as_new_scheme(value: &Value) -> Option<Scheme>
     ensures { result ≡ spec.as_new_scheme (view value.now) }
 {
-    match value.as_str()? {
+    scheme_named(value.as_str()?)
+}
+
+fn scheme_named(name: &str) -> Option<Scheme>
+    ensures { result ≡ spec.new_scheme name.now }
+{
+    match name {
         "http" => Some(Scheme::Http),
         "https" => Some(Scheme::Https),
         "ftp" => Some(Scheme::Ftp),
@@ -235,7 +249,7 @@ fn changes_part(alloc: Global, transform: &Value) -> Result<Option<QueryTransfor
 fn as_changes(alloc: Global, value: &Value) -> Result<Option<QueryTransform>, NoMemory>
     ensures { IfOk result (λ changes. changes ≡ spec.as_changes (view value.now)) }
 {
-    if value.as_object().is_none() {
+    if !value.is_object() {
         return Ok(None);
     }
     let Some(remove) = removed_keys(alloc, value.get("removeParams"))? else {
