@@ -1,5 +1,5 @@
 -- The tests of a transform, one after the other.
-use Rattle.std.proofs.Common.{◌≡◌, Bool, true, false, List, [], ◌∷◌, Option, Some, None, refl, sym, ap, subst, ◌∙◌}
+use Rattle.std.proofs.Common.{◌≡◌, true, false, List, [], ◌∷◌, Option, Some, None, refl, sym, ap, subst, ◌∙◌}
 use Rattle.std.specs.Prelude.{Result, Ok, Err, is_some, is_none}
 use Rattle.serde_json.specs.Data.{Data}
 use Rattle.dnr_base.specs.declared.transform.Transform.{Transform}

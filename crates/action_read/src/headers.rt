@@ -7,6 +7,7 @@ ghost use Rattle.json_spec.specs.RuleAction.{changes_at, ops_in, modify_in};
 ghost use Rattle.dnr_rules.specs.Seen.{action_seen};
 ghost use Rattle.json_spec.specs.MayRefuse.{IsRefused};
 ghost use Rattle.action_read.specs.Changes.{change_seen, changes_seen};
+ghost use Rattle.action_read.specs.Seen.{data_in};
 
 use dnr_base::{Direction, Items, NoMemory, Operation};
 use dnr_rules::Action;
@@ -27,7 +28,7 @@ pub(crate) struct Change<'a> {
 // Reads the header changes of an action. Both lists have their shape before an operation is tested.
 #[tactic(auto, unfolding(json_spec::specs::RuleAction::modify_in))]
 pub(crate) fn read_changes(alloc: Global, action: &Value) -> Result<Action, RuleRefusal>
-    ensures ok { IfOk result (λ changes. modify_in (view action.now) ≡ Ok (action_seen changes)) }
+    ensures ok { IfOk result (λ read. modify_in (view action.now) ≡ Ok (action_seen read)) }
     ensures refused { IfErr result (IsRefused (modify_in (view action.now))) }
 {
     let request = action.get("requestHeaders");
@@ -39,21 +40,19 @@ pub(crate) fn read_changes(alloc: Global, action: &Value) -> Result<Action, Rule
     let response = changes_of(alloc, response)?;
     let request = read_ops(alloc, Direction::Request, request.as_slice())?;
     let response = read_ops(alloc, Direction::Response, response.as_slice())?;
-    Ok(Action::ModifyHeaders(
-        Items::build(request),
-        Items::build(response),
-    ))
+    Ok(Action::ModifyHeaders(Items::build(request), Items::build(response)))
 }
 
 fn have_no_changes(request: Option<&Value>, response: Option<&Value>) -> bool
-    ensures { result ≡ (spec.is_empty_list (option_map (λ value. view value.now) request.entry) && spec.is_empty_list (option_map (λ value. view value.now) response.entry)) }
+    ensures { result ≡ (spec.is_empty_list (data_in request.entry)
+        && spec.is_empty_list (data_in response.entry)) }
 {
     is_empty_list(request) && is_empty_list(response)
 }
 
 // Absent, or a list without items.
 fn is_empty_list(list: Option<&Value>) -> bool
-    ensures { result ≡ spec.is_empty_list (option_map (λ value. view value.now) list.entry) }
+    ensures { result ≡ spec.is_empty_list (data_in list.entry) }
 {
     match list {
         None => true,
@@ -66,8 +65,9 @@ fn is_empty_list(list: Option<&Value>) -> bool
 
 // The changes of a list, which are none where it is absent.
 fn changes_of<'a>(alloc: Global, list: Option<&'a Value>) -> Result<Vec<Change<'a>>, RuleRefusal>
-    ensures ok { IfOk result (λ changes. changes_at (option_map (λ value. view value.now) list.entry) ≡ Some (changes_seen changes.items)) }
-    ensures refused { IfErr result (IsRefused (spec.or_bad_shape (changes_at (option_map (λ value. view value.now) list.entry)))) }
+    ensures ok { IfOk result (λ changes.
+        changes_at (data_in list.entry) ≡ Some (changes_seen changes.items)) }
+    ensures refused { IfErr result (IsRefused (spec.or_bad_shape (changes_at (data_in list.entry)))) }
 {
     match changes_in(alloc, list) {
         Ok(Some(changes)) => Ok(changes),
@@ -77,8 +77,12 @@ fn changes_of<'a>(alloc: Global, list: Option<&'a Value>) -> Result<Vec<Change<'
 }
 
 #[tactic(auto, unfolding(json_spec::specs::RuleAction::changes_at))]
-fn changes_in<'a>(alloc: Global, list: Option<&'a Value>) -> Result<Option<Vec<Change<'a>>>, NoMemory>
-    ensures { IfOk result (λ changes. option_map (λ list. changes_seen list.items) changes ≡ changes_at (option_map (λ value. view value.now) list.entry)) }
+fn changes_in<'a>(
+    alloc: Global,
+    list: Option<&'a Value>,
+) -> Result<Option<Vec<Change<'a>>>, NoMemory>
+    ensures { IfOk result (λ changes.
+        option_map (λ list. changes_seen list.items) changes ≡ changes_at (data_in list.entry)) }
 {
     match list {
         None => Ok(Some(Vec::new(alloc))),
@@ -90,7 +94,8 @@ fn changes_in<'a>(alloc: Global, list: Option<&'a Value>) -> Result<Option<Vec<C
 }
 
 fn changes_among(alloc: Global, values: &[Value]) -> Result<Option<Vec<Change<'_>>>, NoMemory>
-    ensures { IfOk result (λ changes. option_map (λ list. changes_seen list.items) changes ≡ each spec.as_change (items_view values.now)) }
+    ensures { IfOk result (λ changes. option_map (λ list. changes_seen list.items) changes
+        ≡ each spec.as_change (items_view values.now)) }
 {
     let mut changes = Vec::with_capacity(alloc, values.len())?;
     for value in values {
@@ -139,7 +144,8 @@ fn read_ops(
     direction: Direction,
     changes: &[Change<'_>],
 ) -> Result<Vec<HeaderOp>, RuleRefusal>
-    ensures ok { IfOk result (λ ops. ops_in direction (changes_seen changes.now) ≡ Ok ops.items) }
+    ensures ok { IfOk result (λ ops.
+        ops_in direction (changes_seen changes.now) ≡ Ok ops.items) }
     ensures refused { IfErr result (IsRefused (ops_in direction (changes_seen changes.now))) }
 {
     let mut ops = match Vec::with_capacity(alloc, changes.len()) {
@@ -155,11 +161,23 @@ fn read_ops(
     Ok(ops)
 }
 
-fn read_op(alloc: Global, direction: Direction, change: &Change<'_>) -> Result<HeaderOp, RuleRefusal>
-    ensures ok { IfOk result (λ op. spec.read_change direction (change_seen change.now) ≡ Ok op) }
-    ensures refused { IfErr result (IsRefused (spec.or_bad_change (spec.read_change direction (change_seen change.now)))) }
+fn read_op(
+    alloc: Global,
+    direction: Direction,
+    change: &Change<'_>,
+) -> Result<HeaderOp, RuleRefusal>
+    ensures ok { IfOk result (λ op.
+        spec.read_change direction (change_seen change.now) ≡ Ok op) }
+    ensures refused { IfErr result
+        (IsRefused (spec.or_bad_change (spec.read_change direction (change_seen change.now)))) }
 {
-    match HeaderOp::read(alloc, direction, change.header, change.operation, change.value) {
+    match HeaderOp::read(
+        alloc,
+        direction,
+        change.header,
+        change.operation,
+        change.value,
+    ) {
         Ok(op) => Ok(op),
         Err(HeaderRefusal::NoMemory) => Err(RuleRefusal::NoMemory),
         Err(refusal) => Err(RuleRefusal::BadHeader(HeaderCause::Op(refusal))),

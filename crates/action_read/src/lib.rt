@@ -1,4 +1,5 @@
-//! The action of a rule from JSON: redirects, transforms and header changes, and which of them is refused first.
+//! The action of a rule from JSON: redirects, transforms and header changes, and which of them is
+//! refused first.
 //!
 //! What each is read as stands in `json_spec`, `specs/RuleAction.antt`.
 #![tactic(auto)]
@@ -6,6 +7,8 @@
 mod action;
 mod headers;
 mod redirects;
+#[cfg(test)]
+mod tests;
 mod transforms;
 
 pub use action::read_action;

@@ -15,7 +15,8 @@ use url::{ParseError, Url};
 // The most bytes of a URL that a rule leads to.
 const MAX_URL: usize = 65_536;
 
-// Reads the redirect of an action. `groups` is the count of groups of the rule's regexFilter, if it has one.
+// Reads the redirect of an action. `groups` is the count of groups of the rule's `regexFilter`, if it
+// has one.
 #[tactic(auto, unfolding(json_spec::specs::RuleAction::redirect_in))]
 pub(crate) fn read_redirect(
     alloc: Global,
@@ -102,7 +103,7 @@ fn read_substitution(
     value: &Value,
     groups: Option<u32>,
 ) -> Result<Redirect, RuleRefusal>
-    ensures ok { IfOk result (λ redirect. substitution_in groups (view value.now) ≡ Ok redirect) }
+    ensures ok { IfOk result (λ target. substitution_in groups (view value.now) ≡ Ok target) }
     ensures refused { IfErr result (IsRefused (substitution_in groups (view value.now))) }
 {
     let Some(groups) = groups else {

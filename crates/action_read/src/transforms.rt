@@ -11,6 +11,7 @@ ghost use Rattle.json_spec.specs.RuleAction as spec;
 ghost use Rattle.json_spec.specs.RuleAction.{part_in, transform_in};
 ghost use Rattle.json_spec.specs.MayRefuse.{IsRefused};
 ghost use Rattle.action_read.specs.Parts.{test_of};
+ghost use Rattle.action_read.specs.Seen.{data_in};
 
 use dnr_base::{Items, NoMemory, QueryPair, QueryTransform, Scheme, Text, Transform};
 use rule_spec::RuleRefusal;
@@ -71,16 +72,16 @@ fn is_address(text: &[u8]) -> bool
 fn has_address_bytes(address: &[u8]) -> bool
     ensures { result ≡ list_all domains.is_address_byte address.now }
 {
-    address
-        .iter()
-        .all(|byte| byte.is_ascii_hexdigit() || *byte == b':' || *byte == b'.')
+    address.iter().all(|byte| byte.is_ascii_hexdigit() || *byte == b':' || *byte == b'.')
 }
 
 fn has_host_bytes(text: &[u8]) -> bool
     ensures { result ≡ list_all (λ b. domains.is_label_byte b || b == 46) text.now }
 {
-    text.iter()
-        .all(|byte| byte.is_ascii_alphanumeric() || *byte == b'-' || *byte == b'_' || *byte == b'.')
+    text.iter().all(|byte| byte.is_ascii_alphanumeric()
+        || *byte == b'-'
+        || *byte == b'_'
+        || *byte == b'.')
 }
 
 // Empty, or a port.
@@ -126,7 +127,11 @@ fn begins_with(text: &[u8], byte: u8) -> bool
 }
 
 // A short text that may stand there. `None`: the value is no such text.
-pub(crate) fn tested_text(alloc: Global, value: &Value, part: Part) -> Result<Option<Text>, NoMemory>
+pub(crate) fn tested_text(
+    alloc: Global,
+    value: &Value,
+    part: Part,
+) -> Result<Option<Text>, NoMemory>
     ensures { IfOk result (λ text. text ≡ spec.tested_text (test_of part) (view value.now)) }
 {
     match value.as_str() {
@@ -173,7 +178,8 @@ pub(crate) fn read_transform(alloc: Global, value: &Value) -> Result<Transform, 
 
 // Whether both a new query and changes of the old one are given.
 fn has_two_queries(transform: &Value) -> bool
-    ensures { result ≡ (is_some (get (codes "query") (view transform.now)) && is_some (get (codes "queryTransform") (view transform.now))) }
+    ensures { result ≡ (is_some (get (codes "query") (view transform.now))
+        && is_some (get (codes "queryTransform") (view transform.now))) }
 {
     transform.get("query").is_some() && transform.get("queryTransform").is_some()
 }
@@ -185,8 +191,10 @@ fn text_part(
     key: &str,
     part: Part,
 ) -> Result<Option<Text>, RuleRefusal>
-    ensures ok { IfOk result (λ text. part_in (spec.tested_text (test_of part)) key.now (view transform.now) ≡ Ok text) }
-    ensures refused { IfErr result (IsRefused (part_in (spec.tested_text (test_of part)) key.now (view transform.now))) }
+    ensures ok { IfOk result (λ text.
+        part_in (spec.tested_text (test_of part)) key.now (view transform.now) ≡ Ok text) }
+    ensures refused { IfErr result
+        (IsRefused (part_in (spec.tested_text (test_of part)) key.now (view transform.now))) }
 {
     let Some(value) = transform.get(key) else {
         return Ok(None);
@@ -200,8 +208,10 @@ fn text_part(
 
 #[tactic(auto, unfolding(json_spec::specs::RuleAction::part_in))]
 fn scheme_part(transform: &Value) -> Result<Option<Scheme>, RuleRefusal>
-    ensures ok { IfOk result (λ scheme. part_in spec.as_new_scheme (codes "scheme") (view transform.now) ≡ Ok scheme) }
-    ensures refused { IfErr result (IsRefused (part_in spec.as_new_scheme (codes "scheme") (view transform.now))) }
+    ensures ok { IfOk result (λ scheme.
+        part_in spec.as_new_scheme (codes "scheme") (view transform.now) ≡ Ok scheme) }
+    ensures refused { IfErr result
+        (IsRefused (part_in spec.as_new_scheme (codes "scheme") (view transform.now))) }
 {
     match transform.get("scheme") {
         None => Ok(None),
@@ -233,8 +243,10 @@ fn scheme_named(name: &str) -> Option<Scheme>
 
 #[tactic(auto, unfolding(json_spec::specs::RuleAction::part_in))]
 fn changes_part(alloc: Global, transform: &Value) -> Result<Option<QueryTransform>, RuleRefusal>
-    ensures ok { IfOk result (λ changes. part_in spec.as_changes (codes "queryTransform") (view transform.now) ≡ Ok changes) }
-    ensures refused { IfErr result (IsRefused (part_in spec.as_changes (codes "queryTransform") (view transform.now))) }
+    ensures ok { IfOk result (λ changes.
+        part_in spec.as_changes (codes "queryTransform") (view transform.now) ≡ Ok changes) }
+    ensures refused { IfErr result
+        (IsRefused (part_in spec.as_changes (codes "queryTransform") (view transform.now))) }
 {
     let Some(value) = transform.get("queryTransform") else {
         return Ok(None);
@@ -269,7 +281,8 @@ fn as_changes(alloc: Global, value: &Value) -> Result<Option<QueryTransform>, No
 
 // A list that is absent is empty.
 fn removed_keys(alloc: Global, list: Option<&Value>) -> Result<Option<Vec<Text>>, NoMemory>
-    ensures { IfOk result (λ keys. option_map (λ keys. keys.items) keys ≡ spec.list_from spec.short_text (option_map (λ value. view value.now) list.entry)) }
+    ensures { IfOk result (λ keys. option_map (λ keys. keys.items) keys
+        ≡ spec.list_from spec.short_text (data_in list.entry)) }
 {
     let Some(list) = list else {
         return Ok(Some(Vec::new(alloc)));
@@ -281,7 +294,8 @@ fn removed_keys(alloc: Global, list: Option<&Value>) -> Result<Option<Vec<Text>>
 }
 
 fn keys_in(alloc: Global, values: &[Value]) -> Result<Option<Vec<Text>>, NoMemory>
-    ensures { IfOk result (λ keys. option_map (λ keys. keys.items) keys ≡ each spec.short_text (items_view values.now)) }
+    ensures { IfOk result (λ keys. option_map (λ keys. keys.items) keys
+        ≡ each spec.short_text (items_view values.now)) }
 {
     let mut keys = Vec::with_capacity(alloc, values.len())?;
     for value in values {
@@ -295,7 +309,8 @@ fn keys_in(alloc: Global, values: &[Value]) -> Result<Option<Vec<Text>>, NoMemor
 
 // A list that is absent is empty.
 fn new_pairs(alloc: Global, list: Option<&Value>) -> Result<Option<Vec<QueryPair>>, NoMemory>
-    ensures { IfOk result (λ pairs. option_map (λ pairs. pairs.items) pairs ≡ spec.list_from spec.as_pair (option_map (λ value. view value.now) list.entry)) }
+    ensures { IfOk result (λ pairs. option_map (λ pairs. pairs.items) pairs
+        ≡ spec.list_from spec.as_pair (data_in list.entry)) }
 {
     let Some(list) = list else {
         return Ok(Some(Vec::new(alloc)));
@@ -307,7 +322,8 @@ fn new_pairs(alloc: Global, list: Option<&Value>) -> Result<Option<Vec<QueryPair
 }
 
 fn pairs_in(alloc: Global, values: &[Value]) -> Result<Option<Vec<QueryPair>>, NoMemory>
-    ensures { IfOk result (λ pairs. option_map (λ pairs. pairs.items) pairs ≡ each spec.as_pair (items_view values.now)) }
+    ensures { IfOk result (λ pairs. option_map (λ pairs. pairs.items) pairs
+        ≡ each spec.as_pair (items_view values.now)) }
 {
     let mut pairs = Vec::with_capacity(alloc, values.len())?;
     for value in values {
@@ -339,7 +355,7 @@ fn as_pair(alloc: Global, value: &Value) -> Result<Option<QueryPair>, NoMemory>
 }
 
 fn text_of(alloc: Global, value: Option<&Value>) -> Result<Option<Text>, NoMemory>
-    ensures { IfOk result (λ text. text ≡ option_and_then spec.short_text (option_map (λ value. view value.now) value.entry)) }
+    ensures { IfOk result (λ text. text ≡ option_and_then spec.short_text (data_in value.entry)) }
 {
     match value {
         Some(value) => tested_text(alloc, value, Part::Other),
@@ -349,7 +365,7 @@ fn text_of(alloc: Global, value: Option<&Value>) -> Result<Option<Text>, NoMemor
 
 // A truth value that is absent is false.
 fn flag(value: Option<&Value>) -> Option<bool>
-    ensures { result ≡ spec.flag_from (option_map (λ value. view value.now) value.entry) }
+    ensures { result ≡ spec.flag_from (data_in value.entry) }
 {
     match value {
         Some(value) => value.as_bool(),
