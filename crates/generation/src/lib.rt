@@ -16,8 +16,6 @@ mod refusal;
 mod scan;
 mod sorted;
 mod targets;
-#[cfg(test)]
-mod tests;
 
 pub use dnr_verdict::{NamedOp, Verdict};
 pub use generation::Generation;
