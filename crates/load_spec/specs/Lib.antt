@@ -1,0 +1,6 @@
+pub mod Files
+pub mod ManifestPath
+pub mod Manifest
+pub mod Extensions
+pub mod Installing
+pub mod Examples

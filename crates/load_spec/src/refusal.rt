@@ -1,0 +1,24 @@
+use dnr_base::Text;
+
+/// Why an extension is not installed, in the order in which it is tested. A count is that after the installation.
+#[derive(Debug, Drop)]
+pub enum Refusal {
+    /// An extension of this name is installed.
+    ExtensionThere(Text),
+    /// There would be more than 16 extensions.
+    ExtensionLimit(usize),
+    /// It has more than 100 rulesets.
+    RulesetLimit(usize),
+    /// Its rulesets have more than 330,000 rules, enabled or not.
+    RulesLimit(usize),
+    /// More than 50 of its rulesets are enabled.
+    EnabledLimit(usize),
+    /// The enabled rules past the first 30,000 of each extension are more than 300,000 over all extensions.
+    PoolLimit(usize),
+    /// Its enabled rulesets have more than 1,000 rules with a `regexFilter`.
+    RegexLimit(usize),
+    /// This many updates were accepted, and no more are.
+    TooManyUpdates(usize),
+    /// Memory ran out.
+    NoMemory,
+}
