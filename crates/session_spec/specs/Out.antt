@@ -1,23 +1,26 @@
 -- What a command may do: the statuses that it may end with, and the bytes that it may write on each, for its words,
 -- what the files hold, and how the counts of faults rose.
-use Rattle.std.specs.Prelude.{◌≡◌, ◌⊎◌, ℕ, ◌<◌, ◌≤◌, List, [], ◌∷◌, ◌++◌, length, codes, slice_get, true, false, Option, Some, None, Ok, Err}
+use Rattle.std.specs.Prelude.{◌≡◌, ◌⊎◌, ℕ, List, [], ◌∷◌, ◌++◌, length, codes, slice_get, Bool, true, false, Option, Some, None, Ok, Err}
 use Rattle.dnr_spec.specs.declared.status.Status.{Status}
 use Rattle.dnr_spec.specs.declared.status.Status.TheVariants as status
 use Rattle.dnr_spec.specs.Lines.{lines_of, is_within_limits}
+use Rattle.dnr_spec.specs.Suffixes.{SuffixRule}
 use Rattle.dnr_base.specs.Faults.{Rose, Count}
-use Rattle.rule_spec.specs.declared.placed_refusal.PlacedRefusal.{PlacedRefusal}
 use Rattle.rule_spec.specs.declared.rule_kind.RuleKind.{RuleKind}
 use Rattle.rule_spec.specs.declared.rule_kind.RuleKind.TheVariants.{Static}
 use Rattle.rule_spec.specs.Rule.{Rule}
 use Rattle.rule_spec.specs.State.{Extension, State}
-use Rattle.json_spec.specs.RulesFile.{FileRefusal, bad_rules, max_file, rules_of, StopsInFile}
-use Rattle.session_spec.specs.Refusals.{refusal_line, count_line}
+use Rattle.json_spec.specs.RulesFile.{FileRefusal}
+use Rattle.json_spec.specs.Written.{written}
+use Rattle.list_spec.specs.LineKind as list
+use Rattle.compile_spec.specs.Compiled.{CompiledRule, rules_in}
+use Rattle.compile_spec.specs.Report.{report}
+use Rattle.load_spec.specs.Files.{Files, HoldsRules, BreaksForm, StopsAtHost, HoldsLongFile}
+use Rattle.load_spec.specs.Installing.{RefusedInstall, opening}
+use Rattle.session_spec.specs.Refusals.{refusal_line, install_line, count_line, unsupported_lines}
 use Rattle.session_spec.specs.Answers.{Setting, Answers}
-use Rattle.session_spec.specs.Words.{Task, match_files, check_file, task_of}
-
--- what each name holds, if there is a file of that name
-abbrev pub Files : Type 0
-Files = List ℕ → Option (List ℕ)
+use Rattle.session_spec.specs.Loading.{HoldsList, PrintsRefusedList, Loaded, Loads, RefusesFile, HasLongFileIn}
+use Rattle.session_spec.specs.Words.{Serving, Task, match_files, check_file, compile_file, serve_script, task_of}
 
 -- How often each thing outside had failed before the call, and after it. The first pattern host reads files, and each
 -- other decides requests.
@@ -34,36 +37,7 @@ HasRisen (Some count) = Rose count.before count.now
 abbrev pub HostRose : Counts → ℕ → Type 0
 HostRose counts place = HasRisen (slice_get counts.hosts place)
 
--- ---- what the files hold
-
--- the file is short enough, and these are its rules
-pub record HoldsRules (files : Files) (kind : RuleKind) (name : List ℕ) (rules : List Rule) : Type 0 where
-  pub file : List ℕ
-  pub held : files name ≡ Some file
-  pub short : length file ≤ max_file
-  pub read : rules_of kind file ≡ Ok rules
-
--- the file is short enough, and breaks its form so
-pub record BreaksForm (files : Files) (kind : RuleKind) (name : List ℕ) (refusal : FileRefusal) : Type 0 where
-  pub file : List ℕ
-  pub held : files name ≡ Some file
-  pub short : length file ≤ max_file
-  pub read : rules_of kind file ≡ Err refusal
-
--- the file is short enough, and a pattern host may fail at the rule that is named
-pub record StopsAtHost (files : Files) (kind : RuleKind) (name : List ℕ) (refusal : FileRefusal) : Type 0 where
-  pub file : List ℕ
-  pub held : files name ≡ Some file
-  pub short : length file ≤ max_file
-  pub placed : PlacedRefusal
-  pub same : refusal ≡ bad_rules placed
-  pub stops : StopsInFile kind file placed
-
--- the file has more bytes than a rules file may have
-pub record HoldsLongFile (files : Files) (name : List ℕ) : Type 0 where
-  pub file : List ℕ
-  pub held : files name ≡ Some file
-  pub long : max_file < length file
+-- ---- scripts
 
 -- the file is a script of these lines
 pub record HoldsLines (files : Files) (name : List ℕ) (lines : List (List ℕ)) : Type 0 where
@@ -78,32 +52,7 @@ pub record HoldsTooMuch (files : Files) (name : List ℕ) : Type 0 where
   pub held : files name ≡ Some script
   pub beyond : is_within_limits script ≡ false
 
--- ---- what a command writes
-
--- the extension `local` with the ruleset `rules`
-abbrev pub local : List Rule → Extension
-local rules = record {
-  name = codes "local";
-  sets = record { id = codes "rules"; enabled = true; rules = rules; origins = []; disabled = [] } ∷ [];
-  dynamic = [];
-  session = [];
-}
-
-abbrev pub opening : List Rule → State
-opening rules = record { extensions = local rules ∷ []; count = 0 }
-
--- `match` has no suffix list, and its second host decides
-abbrev pub match_setting : Counts → Setting
-match_setting counts = record { suffixes = []; rose = HostRose counts 1 }
-
--- the rules were read, and each line of the script was answered
-pub record IsServed (files : Files) (counts : Counts) (rules_name script_name written : List ℕ) : Type 0 where
-  pub rules : List Rule
-  pub loaded : HoldsRules files Static rules_name rules
-  pub lines : List (List ℕ)
-  pub script : HoldsLines files script_name lines
-  pub last : State
-  pub output : Answers (match_setting counts) (opening rules) 1 lines written last
+-- ---- rules files
 
 -- the rules were read and counted
 pub record IsCounted (files : Files) (kind : RuleKind) (rules_name written : List ℕ) : Type 0 where
@@ -117,12 +66,115 @@ pub record IsRefused (files : Files) (counts : Counts) (kind : RuleKind) (rules_
   pub broken : BreaksForm files kind rules_name refusal ⊎ (HostRose counts 0 × StopsAtHost files kind rules_name refusal)
   pub output : written ≡ refusal_line rules_name refusal
 
+-- ---- filter lists
+
+-- each line that gives nothing, the count of the rules, and the rules as JSON
+abbrev pub compiled_text : List ℕ → List CompiledRule → List ℕ
+compiled_text bytes rules =
+    unsupported_lines (report (list.lines_of bytes)) ++ count_line (length rules) ++ written (rules_in rules) ++ codes "\n"
+
+-- the list was compiled
+pub record IsCompiled (files : Files) (name output : List ℕ) : Type 0 where
+  pub bytes : List ℕ
+  pub rules : List CompiledRule
+  pub held : HoldsList files name bytes rules
+  pub same : output ≡ compiled_text bytes rules
+
+-- ---- sessions
+
+-- the extension `local` with the ruleset `rules`
+abbrev pub local : List Rule → Extension
+local rules = record {
+  name = codes "local";
+  sets = record { id = codes "rules"; enabled = true; rules = rules; origins = []; disabled = [] } ∷ [];
+  dynamic = [];
+  session = [];
+}
+
+-- `match` has no suffix list
+abbrev pub loaded_with : List Rule → Loaded
+loaded_with rules = record { suffixes = []; extensions = local rules ∷ [] }
+
+-- A session answers a script. What is read before that is the rules file of `match`, or what the words of `serve` name.
+pub data Session : Type 0 where
+  of_rules : List ℕ → Session
+  of_words : Serving → Session
+
+-- all that is read before the script was read
+abbrev pub LoadsFor : Files → Session → Loaded → Type 0
+LoadsFor files (of_rules name) loaded = (rules : List Rule) × HoldsRules files Static name rules × (loaded ≡ loaded_with rules)
+LoadsFor files (of_words serving) loaded = Loads files serving loaded
+
+-- updates are served in `serve` alone
+abbrev pub has_updates : Session → Bool
+has_updates (of_rules name) = false
+has_updates (of_words serving) = true
+
+-- the second host decides
+abbrev pub setting_for : Counts → Session → List SuffixRule → Setting
+setting_for counts session suffixes = record { suffixes = suffixes; rose = HostRose counts 1; has_updates = has_updates session }
+
+-- all was read and installed, and the session begins in this state
+pub record Opens (files : Files) (session : Session) (loaded : Loaded) (state : State) : Type 0 where
+  pub read : LoadsFor files session loaded
+  pub installed : opening loaded.extensions ≡ Ok state
+
+-- each line of the script was answered
+pub record IsServed (files : Files) (counts : Counts) (session : Session) (script_name written : List ℕ) : Type 0 where
+  pub loaded : Loaded
+  pub first : State
+  pub opens : Opens files session loaded first
+  pub lines : List (List ℕ)
+  pub script : HoldsLines files script_name lines
+  pub last : State
+  pub output : Answers (setting_for counts session loaded.suffixes) first 1 lines written last
+
+-- all was read, and an extension is not installed
+pub record IsNotInstalled (files : Files) (session : Session) (written : List ℕ) : Type 0 where
+  pub loaded : Loaded
+  pub read : LoadsFor files session loaded
+  pub refused : RefusedInstall
+  pub judged : opening loaded.extensions ≡ Err refused
+  pub output : written ≡ install_line refused
+
+-- a file is refused that is read before the script
+abbrev pub RefusesFileOf : Files → Counts → Session → List ℕ → Type 0
+RefusesFileOf files counts (of_rules name) written = IsRefused files counts Static name written
+RefusesFileOf files counts (of_words serving) written = RefusesFile files (HostRose counts 0) serving written
+
+-- a file is too long that is read before the script
+abbrev pub HasLongFileOf : Files → Session → Type 0
+HasLongFileOf files (of_rules name) = HoldsLongFile files name
+HasLongFileOf files (of_words serving) = HasLongFileIn files serving
+
+-- all was read and installed, and the script is too long
+pub record HasLongScript (files : Files) (session : Session) (script_name : List ℕ) : Type 0 where
+  pub loaded : Loaded
+  pub first : State
+  pub opens : Opens files session loaded first
+  pub script : HoldsTooMuch files script_name
+
+-- ---- what a command writes
+
+-- what a session writes that ends so, to the last byte
+abbrev pub SessionWrites : Files → Counts → Session → List ℕ → Status → List ℕ → Type 0
+SessionWrites files counts session script status.Done written = IsServed files counts session script written
+SessionWrites files counts session script status.Refused written =
+    RefusesFileOf files counts session written ⊎ IsNotInstalled files session written
+SessionWrites files counts session script status.Usage written = ⊥
+SessionWrites files counts session script status.ReadFault written = ⊥
+SessionWrites files counts session script status.WriteFault written = ⊥
+SessionWrites files counts session script status.NoMemory written = ⊥
+SessionWrites files counts session script status.FileTooLong written = ⊥
+
 -- what a command writes that ends so, to the last byte: the two statuses that say all there is to say
 abbrev pub Writes : Files → Counts → Task → Status → List ℕ → Type 0
-Writes files counts (match_files rules script) status.Done written = IsServed files counts rules script written
-Writes files counts (match_files rules script) status.Refused written = IsRefused files counts Static rules written
+Writes files counts (match_files rules script) ended written = SessionWrites files counts (of_rules rules) script ended written
+Writes files counts (serve_script serving) ended written = SessionWrites files counts (of_words serving) serving.script ended written
 Writes files counts (check_file kind rules) status.Done written = IsCounted files kind rules written
 Writes files counts (check_file kind rules) status.Refused written = IsRefused files counts kind rules written
+Writes files counts (compile_file name) status.Done written = IsCompiled files name written
+Writes files counts (compile_file name) status.Refused written = PrintsRefusedList files (HostRose counts 0) name written
 Writes files counts task status.Usage written = ⊥
 Writes files counts task status.ReadFault written = ⊥
 Writes files counts task status.WriteFault written = ⊥
@@ -137,11 +189,16 @@ pub record IsBeginning (files : Files) (counts : Counts) (task : Task) (written 
 
 -- ---- how it ends
 
--- what is too long where a command ends so: a file, or its script after the files were read
+-- a session has too much to read: a file, or its script after the files were read
+abbrev pub SessionHasTooMuch : Files → Session → List ℕ → Type 0
+SessionHasTooMuch files session script = HasLongFileOf files session ⊎ HasLongScript files session script
+
+-- what is too long where a command ends so
 abbrev pub HasTooMuch : Files → Task → Type 0
-HasTooMuch files (match_files rules script) =
-    HoldsLongFile files rules ⊎ ((read : List Rule) × HoldsRules files Static rules read × HoldsTooMuch files script)
+HasTooMuch files (match_files rules script) = SessionHasTooMuch files (of_rules rules) script
 HasTooMuch files (check_file kind rules) = HoldsLongFile files rules
+HasTooMuch files (compile_file name) = HoldsLongFile files name
+HasTooMuch files (serve_script serving) = SessionHasTooMuch files (of_words serving) serving.script
 
 -- what a status says of a task: the event that it comes from, and what was written
 abbrev pub Ends : Files → Counts → Task → Status → List ℕ → Type 0

@@ -1,10 +1,13 @@
--- How a refused rule is written: its code, its place and id, and the path or the reason where the code has one.
-use Rattle.std.specs.Prelude.{ℕ, List, [], ◌++◌, codes, decimal, Option, Some, None}
+-- How refusals are written. A refused rule has its code, its place and id, and the path or the reason where the code
+-- has one.
+use Rattle.std.specs.Prelude.{ℕ, List, [], ◌∷◌, ◌++◌, codes, decimal, Option, Some, None}
 use Rattle.json.specs.Print.{quoted}
 use Rattle.dnr_spec.specs.declared.pattern_refusal.PatternRefusal.{PatternRefusal}
 use Rattle.dnr_spec.specs.declared.pattern_refusal.PatternRefusal.TheVariants as pattern
 use Rattle.dnr_spec.specs.declared.header_refusal.HeaderRefusal.{HeaderRefusal}
 use Rattle.dnr_spec.specs.declared.header_refusal.HeaderRefusal.TheVariants as header
+use Rattle.dnr_spec.specs.declared.suffix_refusal.SuffixRefusal.{SuffixRefusal}
+use Rattle.dnr_spec.specs.declared.suffix_refusal.SuffixRefusal.TheVariants as suffix
 use Rattle.rule_spec.specs.declared.rule_path.RulePath.{RulePath}
 use Rattle.rule_spec.specs.RulePath.{path_name}
 use Rattle.rule_spec.specs.declared.rule_refusal.HeaderCause.{HeaderCause}
@@ -13,6 +16,14 @@ use Rattle.rule_spec.specs.declared.rule_refusal.RuleRefusal.{RuleRefusal}
 use Rattle.rule_spec.specs.declared.rule_refusal.RuleRefusal.TheVariants as rule
 use Rattle.rule_spec.specs.declared.placed_refusal.PlacedRefusal.{PlacedRefusal}
 use Rattle.json_spec.specs.RulesFile.{FileRefusal, bad_json, bad_rules}
+use Rattle.list_spec.specs.declared.reason.Reason.{Reason}
+use Rattle.list_spec.specs.declared.reason.Reason.TheVariants as reason
+use Rattle.compile_spec.specs.declared.reported.Reported.{Reported}
+use Rattle.load_spec.specs.declared.refusal.Refusal.{Refusal}
+use Rattle.load_spec.specs.declared.refusal.Refusal.TheVariants as install
+use Rattle.load_spec.specs.ManifestPath as manifest
+use Rattle.load_spec.specs.Extensions.{FileCause, bad_rules_file, bad_manifest, RefusedFile}
+use Rattle.load_spec.specs.Installing.{RefusedInstall}
 
 -- Want of memory is written nowhere; its name here is that of its status.
 abbrev pub no_memory : List ℕ
@@ -106,10 +117,116 @@ abbrev pub file_fields : FileRefusal → List ℕ
 file_fields bad_json = codes "\"bad-json\""
 file_fields (bad_rules refusal) = rule_fields refusal
 
--- what a file prints that is refused
-abbrev pub refusal_line : List ℕ → FileRefusal → List ℕ
-refusal_line file refusal = codes "{\"file\":" ++ quoted file ++ codes ",\"refused\":" ++ file_fields refusal ++ codes "}\n"
+-- ---- files
 
--- what `check` prints of a file with so many rules
+-- what a file prints that is refused, with these fields
+abbrev pub file_line : List ℕ → List ℕ → List ℕ
+file_line file fields = codes "{\"file\":" ++ quoted file ++ codes ",\"refused\":" ++ fields ++ codes "}\n"
+
+-- a rules file
+abbrev pub refusal_line : List ℕ → FileRefusal → List ℕ
+refusal_line file refusal = file_line file (file_fields refusal)
+
+-- a file of an extension
+abbrev pub cause_fields : FileCause → List ℕ
+cause_fields (bad_rules_file refusal) = file_fields refusal
+cause_fields (bad_manifest field) = codes "\"bad-manifest\",\"path\":\"" ++ manifest.path_name field ++ codes "\""
+
+abbrev pub refused_file_line : RefusedFile → List ℕ
+refused_file_line refused = file_line refused.file (cause_fields refused.cause)
+
+-- a suffix list
+abbrev pub suffix_fields : SuffixRefusal → List ℕ
+suffix_fields suffix.NotUtf8 = codes "\"not-utf8\""
+suffix_fields (suffix.BadRule line) = codes "\"bad-suffix\",\"line\":" ++ decimal line
+suffix_fields suffix.TooManyRules = codes "\"too-many-rules\""
+suffix_fields suffix.NoMemory = codes "\"" ++ no_memory ++ codes "\""
+
+abbrev pub suffixes_line : List ℕ → SuffixRefusal → List ℕ
+suffixes_line file refusal = file_line file (suffix_fields refusal)
+
+-- a filter list: it gives too many rules, or a pattern host failed at the line of this number
+pub data ListRefusal : Type 0 where
+  too_many_rules : ℕ → ListRefusal
+  host_failed : ℕ → ListRefusal
+
+abbrev pub list_fields : ListRefusal → List ℕ
+list_fields (too_many_rules count) = codes "\"too-many-rules\",\"count\":" ++ decimal count
+list_fields (host_failed line) = codes "\"pattern-host\",\"line\":" ++ decimal line
+
+abbrev pub list_line : List ℕ → ListRefusal → List ℕ
+list_line file refusal = file_line file (list_fields refusal)
+
+-- ---- installations
+
+abbrev pub install_code : Refusal → List ℕ
+install_code (install.ExtensionThere name) = codes "extension-there"
+install_code (install.ExtensionLimit count) = codes "extension-limit"
+install_code (install.RulesetLimit count) = codes "ruleset-limit"
+install_code (install.RulesLimit count) = codes "rules-limit"
+install_code (install.EnabledLimit count) = codes "enabled-limit"
+install_code (install.PoolLimit count) = codes "pool-limit"
+install_code (install.RegexLimit count) = codes "regex-limit"
+install_code (install.TooManyUpdates count) = codes "too-many-updates"
+install_code install.NoMemory = no_memory
+
+-- the count that a limit is compared with; the name that is there already stands in the line anyway
+abbrev pub install_count : Refusal → Option ℕ
+install_count (install.ExtensionThere name) = None
+install_count (install.ExtensionLimit count) = Some count
+install_count (install.RulesetLimit count) = Some count
+install_count (install.RulesLimit count) = Some count
+install_count (install.EnabledLimit count) = Some count
+install_count (install.PoolLimit count) = Some count
+install_count (install.RegexLimit count) = Some count
+install_count (install.TooManyUpdates count) = Some count
+install_count install.NoMemory = None
+
+abbrev pub count_field : Option ℕ → List ℕ
+count_field None = []
+count_field (Some count) = codes ",\"count\":" ++ decimal count
+
+-- what an extension prints that is not installed
+abbrev pub install_line : RefusedInstall → List ℕ
+install_line refused =
+    codes "{\"extension\":" ++ quoted refused.extension ++ codes ",\"refused\":\"" ++ install_code refused.cause ++ codes "\""
+    ++ count_field (install_count refused.cause) ++ codes "}\n"
+
+-- ---- counts and reports
+
+-- what `check` prints of a file with so many rules, and `compile` of a list that gives so many
 abbrev pub count_line : ℕ → List ℕ
 count_line count = codes "{\"rules\":" ++ decimal count ++ codes "}\n"
+
+abbrev pub reason_code : Reason → List ℕ
+reason_code reason.LineTooLong = codes "line-too-long"
+reason_code reason.ElementHiding = codes "element-hiding"
+reason_code reason.NotAscii = codes "not-ascii"
+reason_code reason.Space = codes "space"
+reason_code (reason.UnknownOption name) = codes "unknown-option"
+reason_code (reason.OptionValue name) = codes "option-value"
+reason_code reason.DocumentOnBlock = codes "document-on-block"
+reason_code reason.BadDomain = codes "bad-domain"
+reason_code reason.EmptyPattern = codes "empty-pattern"
+reason_code reason.AnchorStar = codes "anchor-star"
+reason_code reason.BadRegex = codes "bad-regex"
+
+-- the option that is at fault, if one is
+abbrev pub option_at_fault : Reason → Option (List ℕ)
+option_at_fault (reason.UnknownOption name) = Some name
+option_at_fault (reason.OptionValue name) = Some name
+option_at_fault _ = None
+
+abbrev pub name_field : Option (List ℕ) → List ℕ
+name_field None = []
+name_field (Some name) = codes ",\"name\":" ++ quoted name
+
+-- what `compile` prints of a line that gives nothing
+abbrev pub unsupported_line : Reported → List ℕ
+unsupported_line one =
+    codes "{\"line\":" ++ decimal one.line ++ codes ",\"unsupported\":\"" ++ reason_code one.reason ++ codes "\""
+    ++ name_field (option_at_fault one.reason) ++ codes "}\n"
+
+abbrev pub unsupported_lines : List Reported → List ℕ
+unsupported_lines [] = []
+unsupported_lines (one ∷ others) = unsupported_line one ++ unsupported_lines others

@@ -1,17 +1,43 @@
 -- The command that the words after the program's name say.
-use Rattle.std.specs.Prelude.{ℕ, List, [], ◌∷◌, length, slice_index, codes, Bool, not, ◌==◌, ◌&&◌, nat_lt, Option, Some, None, option_map, if◌then◌else◌}
+use Rattle.std.specs.Prelude.{ℕ, suc, List, [], ◌∷◌, length, take, drop, slice_index, codes, filter_map, Bool, not, ◌==◌, ◌&&◌, ◌||◌, nat_lt, nat_le, Option, Some, None, option_map, option_and_then, if◌then◌else◌}
+use Rattle.std.specs.List.{list_all, position_from}
 use Rattle.std.specs.Str.{bytes_eq}
 use Rattle.rule_spec.specs.declared.rule_kind.RuleKind.{RuleKind}
 use Rattle.rule_spec.specs.declared.rule_kind.RuleKind.TheVariants.{Static, Dynamic, Session}
 
--- `match RULES REQUESTS`, and `check KIND RULES`
+-- what is installed before the script: an extension of a folder, or a filter list as the extension of this name
+pub data Installed : Type 0 where
+  folder : List ℕ → Installed
+  list : List ℕ → List ℕ → Installed
+
+-- a session: its suffix list if any, what is installed in order, and its script
+pub record Serving : Type 0 where
+  pub suffixes : Option (List ℕ)
+  pub installed : List Installed
+  pub script : List ℕ
+
+-- `match RULES REQUESTS`, `check KIND RULES`, `compile LIST`, and `serve [--psl F] [--ext NAME].. [--list NAME=F].. SCRIPT`
 pub data Task : Type 0 where
   match_files : List ℕ → List ℕ → Task
   check_file : RuleKind → List ℕ → Task
+  compile_file : List ℕ → Task
+  serve_script : Serving → Task
+
+-- ---- names
 
 -- a name of a file is not empty and does not begin with `-`
 abbrev pub is_file_name : List ℕ → Bool
 is_file_name word = nat_lt 0 (length word) && not (slice_index word 0 == 45)
+
+-- `a-z`, `0-9`, `-` and `_`
+abbrev pub is_name_byte : ℕ → Bool
+is_name_byte b = (nat_le 97 b && nat_le b 122) || (nat_le 48 b && nat_le b 57) || b == 45 || b == 95
+
+-- a name of an extension has 1 to 64 of them
+abbrev pub is_extension_name : List ℕ → Bool
+is_extension_name word = nat_lt 0 (length word) && nat_le (length word) 64 && list_all is_name_byte word
+
+-- ---- `match`, `check` and `compile`
 
 abbrev pub kind_named : List ℕ → Option RuleKind
 kind_named word =
@@ -19,17 +45,82 @@ kind_named word =
     else (if bytes_eq word (codes "dynamic") then Some Dynamic
     else (if bytes_eq word (codes "session") then Some Session else None))
 
-abbrev pub match_of : List ℕ → List ℕ → Option Task
-match_of rules script = if is_file_name rules && is_file_name script then Some (match_files rules script) else None
+abbrev pub match_of : List (List ℕ) → Option Task
+match_of (rules ∷ script ∷ []) = if is_file_name rules && is_file_name script then Some (match_files rules script) else None
+match_of _ = None
 
-abbrev pub check_of : List ℕ → List ℕ → Option Task
-check_of kind rules = if is_file_name rules then option_map (λ kind. check_file kind rules) (kind_named kind) else None
+abbrev pub check_of : List (List ℕ) → Option Task
+check_of (kind ∷ rules ∷ []) = if is_file_name rules then option_map (λ kind. check_file kind rules) (kind_named kind) else None
+check_of _ = None
+
+abbrev pub compile_of : List (List ℕ) → Option Task
+compile_of (file ∷ []) = if is_file_name file then Some (compile_file file) else None
+compile_of _ = None
+
+-- ---- `serve`
+
+-- what an option chooses
+pub data Choice : Type 0 where
+  suffixes_in : List ℕ → Choice
+  install : Installed → Choice
+
+-- `NAME=F`, where NAME ends before the first `=`
+abbrev pub list_at : List ℕ → Option ℕ → Option Choice
+list_at word None = None
+list_at word (Some place) =
+    if is_extension_name (take place word) && is_file_name (drop (suc place) word) then Some (install (list (take place word) (drop (suc place) word)))
+    else None
+
+abbrev pub list_named : List ℕ → Option Choice
+list_named word = list_at word (position_from (λ b. b == 61) 0 word)
+
+-- an option and its value
+abbrev pub choice_of : List ℕ → List ℕ → Option Choice
+choice_of option value =
+    if bytes_eq option (codes "--psl") then (if is_file_name value then Some (suffixes_in value) else None)
+    else (if bytes_eq option (codes "--ext") then (if is_extension_name value then Some (install (folder value)) else None)
+    else (if bytes_eq option (codes "--list") then list_named value else None))
+
+-- options and their values, before the name of the script
+pub record Choices : Type 0 where
+  pub choices : List Choice
+  pub script : List ℕ
+
+abbrev pub with_choice : Choice → Choices → Choices
+with_choice choice rest = record rest { choices = choice ∷ rest.choices }
+
+abbrev pub choices_of : List (List ℕ) → Option Choices
+choices_of [] = None
+choices_of (script ∷ []) = if is_file_name script then Some (record { choices = []; script = script }) else None
+choices_of (option ∷ value ∷ words) =
+    option_and_then (λ choice. option_map (with_choice choice) (choices_of words)) (choice_of option value)
+
+abbrev pub suffixes_chosen : Choice → Option (List ℕ)
+suffixes_chosen (suffixes_in file) = Some file
+suffixes_chosen (install one) = None
+
+abbrev pub installs : Choice → Option Installed
+installs (suffixes_in file) = None
+installs (install one) = Some one
+
+-- at most one suffix list
+abbrev pub serving_with : List (List ℕ) → Choices → Option Task
+serving_with [] c = Some (serve_script (record { suffixes = None; installed = filter_map installs c.choices; script = c.script }))
+serving_with (file ∷ []) c = Some (serve_script (record { suffixes = Some file; installed = filter_map installs c.choices; script = c.script }))
+serving_with (file ∷ other ∷ files) c = None
+
+abbrev pub serve_of : List (List ℕ) → Option Task
+serve_of words = option_and_then (λ c. serving_with (filter_map suffixes_chosen c.choices) c) (choices_of words)
+
+-- ---- commands
+
+abbrev pub command_of : List ℕ → List (List ℕ) → Option Task
+command_of command words =
+    if bytes_eq command (codes "match") then match_of words
+    else (if bytes_eq command (codes "check") then check_of words
+    else (if bytes_eq command (codes "compile") then compile_of words
+    else (if bytes_eq command (codes "serve") then serve_of words else None)))
 
 abbrev pub task_of : List (List ℕ) → Option Task
 task_of [] = None
-task_of (command ∷ []) = None
-task_of (command ∷ first ∷ []) = None
-task_of (command ∷ first ∷ second ∷ []) =
-    if bytes_eq command (codes "match") then match_of first second
-    else (if bytes_eq command (codes "check") then check_of first second else None)
-task_of (command ∷ first ∷ second ∷ more ∷ words) = None
+task_of (command ∷ words) = command_of command words
