@@ -1,0 +1,5 @@
+pub mod Initiators
+pub mod Compiled
+pub mod Report
+pub mod Installed
+pub mod Examples
