@@ -10,67 +10,68 @@ use Rattle.json_spec.specs.RequestLine.{url_in, initiator_in, kind_in, method_in
 use Rattle.json_spec.specs.RequestLine as line
 use Rattle.json_spec.specs.RuleAction.{part_in, transform_in, extension_in, substitution_in, redirect_in, changes_at, ops_in, modify_in, action_in}
 use Rattle.json_spec.specs.ReadRule.{domains_in, filters_in, domain_lists_in, lists_in, numbers_in, frames_in, tabs_in, rule_in, read_rules}
-use Rattle.session_spec.specs.Examples.{request_line, NoRulesDecideNothing, MainFrameIsLeftAlone, AllowPrevailsAtEqualPriority, GreaterPriorityPrevails, SmallerIdPrevails, BlankLinesCount, CrAloneIsNoBlankLine, BrokenLinesAreBad, NullIsPresent, FractionIsNoId, LastValueOfAKeyCounts, SecondOfEqualIdsIsAtFault, FirstRuleAtFaultIsNamed, FilterIsRefusedWithItsReason, NestingHasALimit, MatchTakesTwoFileNames, CheckTakesAKind, TwoFilesAreServed, RulesAreCounted, UsageIsForBadWords}
-use Rattle.session_spec.specs.Out.{opening}
+use Rattle.session_spec.specs.Examples.{request_line, NoRulesDecideNothing, MainFrameIsLeftAlone, AllowPrevailsAtEqualPriority, GreaterPriorityPrevails, SmallerIdPrevails, BlankLinesCount, CrAloneIsNoBlankLine, BrokenLinesAreBad, NullIsPresent, FractionIsNoId, LastValueOfAKeyCounts, SecondOfEqualIdsIsAtFault, FirstRuleAtFaultIsNamed, FilterIsRefusedWithItsReason, NestingHasALimit, MatchTakesTwoFileNames, CheckTakesAKind, CompileTakesAFile, ServeTakesOptions, ServeIsStrict, TwoFilesAreServed, RulesAreCounted, UsageIsForBadWords}
+use Rattle.load_spec.specs.Installing.{judge_install}
+use Rattle.session_spec.specs.Out.{local, loaded_with}
 
 pub no_rules_decide_nothing : NoRulesDecideNothing
-unfolding field_in absent_in old_list_in fields_in part_in transform_in extension_in substitution_in redirect_in changes_at ops_in modify_in action_in domains_in filters_in domain_lists_in lists_in numbers_in frames_in tabs_in rule_in read_rules url_in initiator_in kind_in method_in tab_in frame_in line.frames_in as_header headers_in request_in command_in command_of url_on_literals serde_json_on_literals is_utf8 scan
+unfolding field_in absent_in old_list_in fields_in part_in transform_in extension_in substitution_in redirect_in changes_at ops_in modify_in action_in domains_in filters_in domain_lists_in lists_in numbers_in frames_in tabs_in rule_in read_rules url_in initiator_in kind_in method_in tab_in frame_in line.frames_in as_header headers_in request_in command_in command_of url_on_literals serde_json_on_literals is_utf8 scan judge_install
 no_rules_decide_nothing = refl
 
 pub main_frame_is_left_alone : MainFrameIsLeftAlone
-unfolding field_in absent_in old_list_in fields_in part_in transform_in extension_in substitution_in redirect_in changes_at ops_in modify_in action_in domains_in filters_in domain_lists_in lists_in numbers_in frames_in tabs_in rule_in read_rules url_in initiator_in kind_in method_in tab_in frame_in line.frames_in as_header headers_in request_in command_in command_of url_on_literals serde_json_on_literals is_utf8 scan
+unfolding field_in absent_in old_list_in fields_in part_in transform_in extension_in substitution_in redirect_in changes_at ops_in modify_in action_in domains_in filters_in domain_lists_in lists_in numbers_in frames_in tabs_in rule_in read_rules url_in initiator_in kind_in method_in tab_in frame_in line.frames_in as_header headers_in request_in command_in command_of url_on_literals serde_json_on_literals is_utf8 scan judge_install
 main_frame_is_left_alone = refl
 
 pub allow_prevails_at_equal_priority : AllowPrevailsAtEqualPriority
-unfolding field_in absent_in old_list_in fields_in part_in transform_in extension_in substitution_in redirect_in changes_at ops_in modify_in action_in domains_in filters_in domain_lists_in lists_in numbers_in frames_in tabs_in rule_in read_rules url_in initiator_in kind_in method_in tab_in frame_in line.frames_in as_header headers_in request_in command_in command_of url_on_literals serde_json_on_literals is_utf8 scan
+unfolding field_in absent_in old_list_in fields_in part_in transform_in extension_in substitution_in redirect_in changes_at ops_in modify_in action_in domains_in filters_in domain_lists_in lists_in numbers_in frames_in tabs_in rule_in read_rules url_in initiator_in kind_in method_in tab_in frame_in line.frames_in as_header headers_in request_in command_in command_of url_on_literals serde_json_on_literals is_utf8 scan judge_install
 allow_prevails_at_equal_priority = refl
 
 pub greater_priority_prevails : GreaterPriorityPrevails
-unfolding field_in absent_in old_list_in fields_in part_in transform_in extension_in substitution_in redirect_in changes_at ops_in modify_in action_in domains_in filters_in domain_lists_in lists_in numbers_in frames_in tabs_in rule_in read_rules url_in initiator_in kind_in method_in tab_in frame_in line.frames_in as_header headers_in request_in command_in command_of url_on_literals serde_json_on_literals is_utf8 scan
+unfolding field_in absent_in old_list_in fields_in part_in transform_in extension_in substitution_in redirect_in changes_at ops_in modify_in action_in domains_in filters_in domain_lists_in lists_in numbers_in frames_in tabs_in rule_in read_rules url_in initiator_in kind_in method_in tab_in frame_in line.frames_in as_header headers_in request_in command_in command_of url_on_literals serde_json_on_literals is_utf8 scan judge_install
 greater_priority_prevails = refl
 
 pub smaller_id_prevails : SmallerIdPrevails
-unfolding field_in absent_in old_list_in fields_in part_in transform_in extension_in substitution_in redirect_in changes_at ops_in modify_in action_in domains_in filters_in domain_lists_in lists_in numbers_in frames_in tabs_in rule_in read_rules url_in initiator_in kind_in method_in tab_in frame_in line.frames_in as_header headers_in request_in command_in command_of url_on_literals serde_json_on_literals is_utf8 scan
+unfolding field_in absent_in old_list_in fields_in part_in transform_in extension_in substitution_in redirect_in changes_at ops_in modify_in action_in domains_in filters_in domain_lists_in lists_in numbers_in frames_in tabs_in rule_in read_rules url_in initiator_in kind_in method_in tab_in frame_in line.frames_in as_header headers_in request_in command_in command_of url_on_literals serde_json_on_literals is_utf8 scan judge_install
 smaller_id_prevails = refl
 
 pub blank_lines_count : BlankLinesCount
-unfolding field_in absent_in old_list_in fields_in part_in transform_in extension_in substitution_in redirect_in changes_at ops_in modify_in action_in domains_in filters_in domain_lists_in lists_in numbers_in frames_in tabs_in rule_in read_rules url_in initiator_in kind_in method_in tab_in frame_in line.frames_in as_header headers_in request_in command_in command_of url_on_literals serde_json_on_literals is_utf8 scan
+unfolding field_in absent_in old_list_in fields_in part_in transform_in extension_in substitution_in redirect_in changes_at ops_in modify_in action_in domains_in filters_in domain_lists_in lists_in numbers_in frames_in tabs_in rule_in read_rules url_in initiator_in kind_in method_in tab_in frame_in line.frames_in as_header headers_in request_in command_in command_of url_on_literals serde_json_on_literals is_utf8 scan judge_install
 blank_lines_count = refl
 
 pub cr_alone_is_no_blank_line : CrAloneIsNoBlankLine
-unfolding field_in absent_in old_list_in fields_in part_in transform_in extension_in substitution_in redirect_in changes_at ops_in modify_in action_in domains_in filters_in domain_lists_in lists_in numbers_in frames_in tabs_in rule_in read_rules url_in initiator_in kind_in method_in tab_in frame_in line.frames_in as_header headers_in request_in command_in command_of url_on_literals serde_json_on_literals is_utf8 scan
+unfolding field_in absent_in old_list_in fields_in part_in transform_in extension_in substitution_in redirect_in changes_at ops_in modify_in action_in domains_in filters_in domain_lists_in lists_in numbers_in frames_in tabs_in rule_in read_rules url_in initiator_in kind_in method_in tab_in frame_in line.frames_in as_header headers_in request_in command_in command_of url_on_literals serde_json_on_literals is_utf8 scan judge_install
 cr_alone_is_no_blank_line = refl
 
 pub broken_lines_are_bad : BrokenLinesAreBad
-unfolding field_in absent_in old_list_in fields_in part_in transform_in extension_in substitution_in redirect_in changes_at ops_in modify_in action_in domains_in filters_in domain_lists_in lists_in numbers_in frames_in tabs_in rule_in read_rules url_in initiator_in kind_in method_in tab_in frame_in line.frames_in as_header headers_in request_in command_in command_of url_on_literals serde_json_on_literals is_utf8 scan
+unfolding field_in absent_in old_list_in fields_in part_in transform_in extension_in substitution_in redirect_in changes_at ops_in modify_in action_in domains_in filters_in domain_lists_in lists_in numbers_in frames_in tabs_in rule_in read_rules url_in initiator_in kind_in method_in tab_in frame_in line.frames_in as_header headers_in request_in command_in command_of url_on_literals serde_json_on_literals is_utf8 scan judge_install
 broken_lines_are_bad = refl
 
 pub null_is_present : NullIsPresent
-unfolding field_in absent_in old_list_in fields_in part_in transform_in extension_in substitution_in redirect_in changes_at ops_in modify_in action_in domains_in filters_in domain_lists_in lists_in numbers_in frames_in tabs_in rule_in read_rules url_in initiator_in kind_in method_in tab_in frame_in line.frames_in as_header headers_in request_in command_in command_of url_on_literals serde_json_on_literals is_utf8 scan
+unfolding field_in absent_in old_list_in fields_in part_in transform_in extension_in substitution_in redirect_in changes_at ops_in modify_in action_in domains_in filters_in domain_lists_in lists_in numbers_in frames_in tabs_in rule_in read_rules url_in initiator_in kind_in method_in tab_in frame_in line.frames_in as_header headers_in request_in command_in command_of url_on_literals serde_json_on_literals is_utf8 scan judge_install
 null_is_present = refl
 
 pub fraction_is_no_id : FractionIsNoId
-unfolding field_in absent_in old_list_in fields_in part_in transform_in extension_in substitution_in redirect_in changes_at ops_in modify_in action_in domains_in filters_in domain_lists_in lists_in numbers_in frames_in tabs_in rule_in read_rules url_in initiator_in kind_in method_in tab_in frame_in line.frames_in as_header headers_in request_in command_in command_of url_on_literals serde_json_on_literals is_utf8 scan
+unfolding field_in absent_in old_list_in fields_in part_in transform_in extension_in substitution_in redirect_in changes_at ops_in modify_in action_in domains_in filters_in domain_lists_in lists_in numbers_in frames_in tabs_in rule_in read_rules url_in initiator_in kind_in method_in tab_in frame_in line.frames_in as_header headers_in request_in command_in command_of url_on_literals serde_json_on_literals is_utf8 scan judge_install
 fraction_is_no_id = refl
 
 pub last_value_of_a_key_counts : LastValueOfAKeyCounts
-unfolding field_in absent_in old_list_in fields_in part_in transform_in extension_in substitution_in redirect_in changes_at ops_in modify_in action_in domains_in filters_in domain_lists_in lists_in numbers_in frames_in tabs_in rule_in read_rules url_in initiator_in kind_in method_in tab_in frame_in line.frames_in as_header headers_in request_in command_in command_of url_on_literals serde_json_on_literals is_utf8 scan
+unfolding field_in absent_in old_list_in fields_in part_in transform_in extension_in substitution_in redirect_in changes_at ops_in modify_in action_in domains_in filters_in domain_lists_in lists_in numbers_in frames_in tabs_in rule_in read_rules url_in initiator_in kind_in method_in tab_in frame_in line.frames_in as_header headers_in request_in command_in command_of url_on_literals serde_json_on_literals is_utf8 scan judge_install
 last_value_of_a_key_counts = refl
 
 pub second_of_equal_ids_is_at_fault : SecondOfEqualIdsIsAtFault
-unfolding field_in absent_in old_list_in fields_in part_in transform_in extension_in substitution_in redirect_in changes_at ops_in modify_in action_in domains_in filters_in domain_lists_in lists_in numbers_in frames_in tabs_in rule_in read_rules url_in initiator_in kind_in method_in tab_in frame_in line.frames_in as_header headers_in request_in command_in command_of url_on_literals serde_json_on_literals is_utf8 scan
+unfolding field_in absent_in old_list_in fields_in part_in transform_in extension_in substitution_in redirect_in changes_at ops_in modify_in action_in domains_in filters_in domain_lists_in lists_in numbers_in frames_in tabs_in rule_in read_rules url_in initiator_in kind_in method_in tab_in frame_in line.frames_in as_header headers_in request_in command_in command_of url_on_literals serde_json_on_literals is_utf8 scan judge_install
 second_of_equal_ids_is_at_fault = refl
 
 pub first_rule_at_fault_is_named : FirstRuleAtFaultIsNamed
-unfolding field_in absent_in old_list_in fields_in part_in transform_in extension_in substitution_in redirect_in changes_at ops_in modify_in action_in domains_in filters_in domain_lists_in lists_in numbers_in frames_in tabs_in rule_in read_rules url_in initiator_in kind_in method_in tab_in frame_in line.frames_in as_header headers_in request_in command_in command_of url_on_literals serde_json_on_literals is_utf8 scan
+unfolding field_in absent_in old_list_in fields_in part_in transform_in extension_in substitution_in redirect_in changes_at ops_in modify_in action_in domains_in filters_in domain_lists_in lists_in numbers_in frames_in tabs_in rule_in read_rules url_in initiator_in kind_in method_in tab_in frame_in line.frames_in as_header headers_in request_in command_in command_of url_on_literals serde_json_on_literals is_utf8 scan judge_install
 first_rule_at_fault_is_named = refl
 
 pub filter_is_refused_with_its_reason : FilterIsRefusedWithItsReason
-unfolding field_in absent_in old_list_in fields_in part_in transform_in extension_in substitution_in redirect_in changes_at ops_in modify_in action_in domains_in filters_in domain_lists_in lists_in numbers_in frames_in tabs_in rule_in read_rules url_in initiator_in kind_in method_in tab_in frame_in line.frames_in as_header headers_in request_in command_in command_of url_on_literals serde_json_on_literals is_utf8 scan
+unfolding field_in absent_in old_list_in fields_in part_in transform_in extension_in substitution_in redirect_in changes_at ops_in modify_in action_in domains_in filters_in domain_lists_in lists_in numbers_in frames_in tabs_in rule_in read_rules url_in initiator_in kind_in method_in tab_in frame_in line.frames_in as_header headers_in request_in command_in command_of url_on_literals serde_json_on_literals is_utf8 scan judge_install
 filter_is_refused_with_its_reason = refl
 
 pub nesting_has_a_limit : NestingHasALimit
-unfolding field_in absent_in old_list_in fields_in part_in transform_in extension_in substitution_in redirect_in changes_at ops_in modify_in action_in domains_in filters_in domain_lists_in lists_in numbers_in frames_in tabs_in rule_in read_rules url_in initiator_in kind_in method_in tab_in frame_in line.frames_in as_header headers_in request_in command_in command_of url_on_literals serde_json_on_literals is_utf8 scan
+unfolding field_in absent_in old_list_in fields_in part_in transform_in extension_in substitution_in redirect_in changes_at ops_in modify_in action_in domains_in filters_in domain_lists_in lists_in numbers_in frames_in tabs_in rule_in read_rules url_in initiator_in kind_in method_in tab_in frame_in line.frames_in as_header headers_in request_in command_in command_of url_on_literals serde_json_on_literals is_utf8 scan judge_install
 nesting_has_a_limit = (refl, refl)
 
 pub match_takes_two_file_names : MatchTakesTwoFileNames
@@ -79,17 +80,27 @@ match_takes_two_file_names = (refl, refl, refl)
 pub check_takes_a_kind : CheckTakesAKind
 check_takes_a_kind = (refl, refl, refl)
 
+pub compile_takes_a_file : CompileTakesAFile
+compile_takes_a_file = (refl, refl, refl)
+
+pub serve_takes_options : ServeTakesOptions
+serve_takes_options = (refl, refl)
+
+pub serve_is_strict : ServeIsStrict
+serve_is_strict = (refl, refl, refl, refl, refl, refl)
+
 pub two_files_are_served : TwoFilesAreServed
-unfolding field_in absent_in old_list_in fields_in part_in transform_in extension_in substitution_in redirect_in changes_at ops_in modify_in action_in domains_in filters_in domain_lists_in lists_in numbers_in frames_in tabs_in rule_in read_rules url_in initiator_in kind_in method_in tab_in frame_in line.frames_in as_header headers_in request_in command_in command_of url_on_literals serde_json_on_literals is_utf8 scan
+unfolding field_in absent_in old_list_in fields_in part_in transform_in extension_in substitution_in redirect_in changes_at ops_in modify_in action_in domains_in filters_in domain_lists_in lists_in numbers_in frames_in tabs_in rule_in read_rules url_in initiator_in kind_in method_in tab_in frame_in line.frames_in as_header headers_in request_in command_in command_of url_on_literals serde_json_on_literals is_utf8 scan judge_install
 two_files_are_served = record {
-  rules = [];
-  loaded = record { file = codes "[]"; held = refl; short = omega arith; read = refl };
+  loaded = loaded_with [];
+  first = record { extensions = local [] ∷ []; count = 0 };
+  opens = record { read = ([], record { file = codes "[]"; held = refl; short = omega arith; read = refl }, refl); installed = refl };
   lines = request_line (codes "script") ∷ [];
   script = record { script = request_line (codes "script") ++ codes "\n"; held = refl; within = refl; same = refl };
-  last = opening [];
+  last = record { extensions = local [] ∷ []; count = 0 };
   output = record {
     said = codes "{\"line\":1,\"generation\":0,\"verdict\":\"none\"}\n";
-    state = opening [];
+    state = record { extensions = local [] ∷ []; count = 0 };
     rest = [];
     split = refl;
     first = record { reply = inl refl; state = refl };
@@ -98,7 +109,7 @@ two_files_are_served = record {
 }
 
 pub rules_are_counted : RulesAreCounted
-unfolding field_in absent_in old_list_in fields_in part_in transform_in extension_in substitution_in redirect_in changes_at ops_in modify_in action_in domains_in filters_in domain_lists_in lists_in numbers_in frames_in tabs_in rule_in read_rules url_in initiator_in kind_in method_in tab_in frame_in line.frames_in as_header headers_in request_in command_in command_of url_on_literals serde_json_on_literals is_utf8 scan
+unfolding field_in absent_in old_list_in fields_in part_in transform_in extension_in substitution_in redirect_in changes_at ops_in modify_in action_in domains_in filters_in domain_lists_in lists_in numbers_in frames_in tabs_in rule_in read_rules url_in initiator_in kind_in method_in tab_in frame_in line.frames_in as_header headers_in request_in command_in command_of url_on_literals serde_json_on_literals is_utf8 scan judge_install
 rules_are_counted = record {
   rules = [];
   loaded = record { file = codes "[]"; held = refl; short = omega arith; read = refl };

@@ -1,5 +1,5 @@
 -- Examples, each computed from the definitions alone.
-use Rattle.std.specs.Prelude.{◌≡◌, ℕ, ◌+◌, List, [], ◌∷◌, ◌++◌, codes, Bool, true, false, Some, None, Result, Ok, Err, replicate, bytes_eq, if◌then◌else◌}
+use Rattle.std.specs.Prelude.{◌≡◌, ℕ, ◌+◌, List, [], ◌∷◌, ◌++◌, codes, Some, None, Result, Ok, Err, replicate, bytes_eq, if◌then◌else◌}
 use Rattle.dnr_base.specs.Faults.{Count}
 use Rattle.dnr_spec.specs.declared.status.Status.TheVariants as status
 use Rattle.dnr_spec.specs.Lines.{lines_of}
@@ -11,9 +11,11 @@ use Rattle.json_spec.specs.RulesFile.{FileRefusal, rules_of}
 use Rattle.json_spec.specs.declared.line_fault.LineFault.{LineFault}
 use Rattle.json_spec.specs.RequestLine.{Command, blank, request, explain, command_of}
 use Rattle.session_spec.specs.Output.{verdict_line, bad_line, not_yet_line}
-use Rattle.session_spec.specs.Refusals.{refusal_line, count_line}
-use Rattle.session_spec.specs.Words.{match_files, check_file, task_of}
-use Rattle.session_spec.specs.Out.{Files, Counts, opening, Out}
+use Rattle.session_spec.specs.Refusals.{refusal_line, install_line}
+use Rattle.session_spec.specs.Words.{folder, list, match_files, check_file, compile_file, serve_script, task_of}
+use Rattle.load_spec.specs.Files.{Files}
+use Rattle.load_spec.specs.Installing.{RefusedInstall, opening}
+use Rattle.session_spec.specs.Out.{Counts, local, Out}
 
 -- ---- what `match` writes where no host fails
 
@@ -31,8 +33,12 @@ abbrev pub replies : State → ℕ → List (List ℕ) → List ℕ
 replies state number [] = []
 replies state number (line ∷ lines) = reply_of state number line ++ replies state (number + 1) lines
 
+abbrev replies_in : Result State RefusedInstall → List ℕ → List ℕ
+replies_in (Ok state) script = replies state 1 (lines_of script)
+replies_in (Err refused) script = install_line refused
+
 abbrev written_for : Result (List Rule) FileRefusal → List ℕ → List ℕ
-written_for (Ok rules) script = replies (opening rules) 1 (lines_of script)
+written_for (Ok rules) script = replies_in (opening (local rules ∷ [])) script
 written_for (Err refusal) script = refusal_line (codes "r.json") refusal
 
 -- the bytes that are written for a rules file `r.json` and a script
@@ -173,6 +179,34 @@ CheckTakesAKind =
     (task_of (codes "check" ∷ codes "session" ∷ codes "a" ∷ []) ≡ Some (check_file Session (codes "a")))
     × (task_of (codes "check" ∷ codes "local" ∷ codes "a" ∷ []) ≡ None)
     × (task_of (codes "check" ∷ codes "static" ∷ codes "-a" ∷ []) ≡ None)
+
+-- `compile` takes the name of a file.
+abbrev pub CompileTakesAFile : Type 0
+CompileTakesAFile =
+    (task_of (codes "compile" ∷ codes "l.txt" ∷ []) ≡ Some (compile_file (codes "l.txt")))
+    × (task_of (codes "compile" ∷ []) ≡ None)
+    × (task_of (codes "compile" ∷ codes "-l" ∷ []) ≡ None)
+
+-- `serve` takes options in any order and then a script; what is installed keeps its order.
+abbrev pub ServeTakesOptions : Type 0
+ServeTakesOptions =
+    (task_of (codes "serve" ∷ codes "s" ∷ []) ≡ Some (serve_script (record { suffixes = None; installed = []; script = codes "s" })))
+    × (task_of (codes "serve" ∷ codes "--list" ∷ codes "l=e=f" ∷ codes "--psl" ∷ codes "p.dat" ∷ codes "--ext" ∷ codes "shop" ∷ codes "s" ∷ [])
+    ≡ Some (serve_script (record {
+      suffixes = Some (codes "p.dat");
+      installed = list (codes "l") (codes "e=f") ∷ folder (codes "shop") ∷ [];
+      script = codes "s";
+    })))
+
+-- An option behind the script, a second suffix list, a name with a dot, an option without a value: none is a command.
+abbrev pub ServeIsStrict : Type 0
+ServeIsStrict =
+    (task_of (codes "serve" ∷ codes "s" ∷ codes "--psl" ∷ codes "p" ∷ []) ≡ None)
+    × (task_of (codes "serve" ∷ codes "--psl" ∷ codes "p" ∷ codes "--psl" ∷ codes "q" ∷ codes "s" ∷ []) ≡ None)
+    × (task_of (codes "serve" ∷ codes "--ext" ∷ codes "a.b" ∷ codes "s" ∷ []) ≡ None)
+    × (task_of (codes "serve" ∷ codes "--ext" ∷ codes "s" ∷ []) ≡ None)
+    × (task_of (codes "serve" ∷ codes "--list" ∷ codes "l" ∷ codes "s" ∷ []) ≡ None)
+    × (task_of (codes "serve" ∷ []) ≡ None)
 
 -- ---- statuses
 

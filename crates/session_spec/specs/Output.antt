@@ -12,7 +12,6 @@ use Rattle.dnr_spec.specs.declared.view_refusal.ViewRefusal.TheVariants as view
 use Rattle.rule_spec.specs.declared.outcome.Outcome.{Outcome}
 use Rattle.rule_spec.specs.declared.outcome.Outcome.TheVariants as outcome
 use Rattle.rule_spec.specs.Scan.{NamedOp, Verdict}
-use Rattle.json_spec.specs.declared.command_path.CommandPath.{CommandPath}
 use Rattle.json_spec.specs.declared.line_fault.LineFault.{LineFault}
 use Rattle.json_spec.specs.declared.line_fault.LineFault.TheVariants as fault
 use Rattle.json_spec.specs.CommandPath.{path_name}

@@ -1,7 +1,7 @@
 //! Examples of the definitions. Each is stated in `specs/Examples.antt` and computed from the definitions
 //! by the prover; the functions do nothing.
 
-ghost use Rattle.session_spec.specs.Examples.{NoRulesDecideNothing, MainFrameIsLeftAlone, AllowPrevailsAtEqualPriority, GreaterPriorityPrevails, SmallerIdPrevails, BlankLinesCount, CrAloneIsNoBlankLine, BrokenLinesAreBad, NullIsPresent, FractionIsNoId, LastValueOfAKeyCounts, SecondOfEqualIdsIsAtFault, FirstRuleAtFaultIsNamed, FilterIsRefusedWithItsReason, NestingHasALimit, MatchTakesTwoFileNames, CheckTakesAKind, TwoFilesAreServed, RulesAreCounted, UsageIsForBadWords};
+ghost use Rattle.session_spec.specs.Examples.{NoRulesDecideNothing, MainFrameIsLeftAlone, AllowPrevailsAtEqualPriority, GreaterPriorityPrevails, SmallerIdPrevails, BlankLinesCount, CrAloneIsNoBlankLine, BrokenLinesAreBad, NullIsPresent, FractionIsNoId, LastValueOfAKeyCounts, SecondOfEqualIdsIsAtFault, FirstRuleAtFaultIsNamed, FilterIsRefusedWithItsReason, NestingHasALimit, MatchTakesTwoFileNames, CheckTakesAKind, CompileTakesAFile, ServeTakesOptions, ServeIsStrict, TwoFilesAreServed, RulesAreCounted, UsageIsForBadWords};
 
 /// Without rules a request goes on.
 #[tactic(auto, using(crate::proofs::Computed::no_rules_decide_nothing))]
@@ -91,6 +91,25 @@ pub fn nesting_has_a_limit()
 #[tactic(auto, using(crate::proofs::Computed::match_takes_two_file_names))]
 pub fn match_takes_two_file_names()
     ensures { MatchTakesTwoFileNames }
+{}
+
+/// `compile` takes the name of a file.
+#[tactic(auto, using(crate::proofs::Computed::compile_takes_a_file))]
+pub fn compile_takes_a_file()
+    ensures { CompileTakesAFile }
+{}
+
+/// `serve` takes options in any order and then a script; what is installed keeps its order.
+#[tactic(auto, using(crate::proofs::Computed::serve_takes_options))]
+pub fn serve_takes_options()
+    ensures { ServeTakesOptions }
+{}
+
+/// An option behind the script, a second suffix list, a name with a dot, an option without a value: none is a
+/// command.
+#[tactic(auto, using(crate::proofs::Computed::serve_is_strict))]
+pub fn serve_is_strict()
+    ensures { ServeIsStrict }
 {}
 
 /// The two files are served, with the one line that says `none`.
