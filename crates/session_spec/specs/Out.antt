@@ -156,36 +156,35 @@ pub record HasLongScript (files : Files) (session : Session) (script_name : List
 
 -- ---- what a command writes
 
--- what a session writes that ends so, to the last byte
+-- What a command writes to the last byte, where it ends with Done and where it ends with Refused: the two statuses that
+-- say all there is to say.
+abbrev pub SaysAll : (List ℕ → Type 0) → (List ℕ → Type 0) → Status → List ℕ → Type 0
+SaysAll Done Refused status.Done written = Done written
+SaysAll Done Refused status.Refused written = Refused written
+SaysAll Done Refused status.Usage written = ⊥
+SaysAll Done Refused status.ReadFault written = ⊥
+SaysAll Done Refused status.WriteFault written = ⊥
+SaysAll Done Refused status.NoMemory written = ⊥
+SaysAll Done Refused status.FileTooLong written = ⊥
+
+-- a file is refused that is read before the script, or an extension is not installed
+abbrev pub RefusesSession : Files → Counts → Session → List ℕ → Type 0
+RefusesSession files counts session written = RefusesFileOf files counts session written ⊎ IsNotInstalled files session written
+
 abbrev pub SessionWrites : Files → Counts → Session → List ℕ → Status → List ℕ → Type 0
-SessionWrites files counts session script status.Done written = IsServed files counts session script written
-SessionWrites files counts session script status.Refused written =
-    RefusesFileOf files counts session written ⊎ IsNotInstalled files session written
-SessionWrites files counts session script status.Usage written = ⊥
-SessionWrites files counts session script status.ReadFault written = ⊥
-SessionWrites files counts session script status.WriteFault written = ⊥
-SessionWrites files counts session script status.NoMemory written = ⊥
-SessionWrites files counts session script status.FileTooLong written = ⊥
+SessionWrites files counts session script = SaysAll (IsServed files counts session script) (RefusesSession files counts session)
 
--- what a command writes that ends so, to the last byte: the two statuses that say all there is to say
 abbrev pub Writes : Files → Counts → Task → Status → List ℕ → Type 0
-Writes files counts (match_files rules script) ended written = SessionWrites files counts (of_rules rules) script ended written
-Writes files counts (serve_script serving) ended written = SessionWrites files counts (of_words serving) serving.script ended written
-Writes files counts (check_file kind rules) status.Done written = IsCounted files kind rules written
-Writes files counts (check_file kind rules) status.Refused written = IsRefused files counts kind rules written
-Writes files counts (compile_file name) status.Done written = IsCompiled files name written
-Writes files counts (compile_file name) status.Refused written = PrintsRefusedList files (HostRose counts 0) name written
-Writes files counts task status.Usage written = ⊥
-Writes files counts task status.ReadFault written = ⊥
-Writes files counts task status.WriteFault written = ⊥
-Writes files counts task status.NoMemory written = ⊥
-Writes files counts task status.FileTooLong written = ⊥
+Writes files counts (match_files rules script) = SessionWrites files counts (of_rules rules) script
+Writes files counts (check_file kind rules) = SaysAll (IsCounted files kind rules) (IsRefused files counts kind rules)
+Writes files counts (compile_file name) = SaysAll (IsCompiled files name) (PrintsRefusedList files (HostRose counts 0) name)
+Writes files counts (serve_script serving) = SessionWrites files counts (of_words serving) serving.script
 
--- some first bytes of what the command would write that says all
-pub record IsBeginning (files : Files) (counts : Counts) (task : Task) (written : List ℕ) : Type 0 where
+-- some first bytes of what a command writes that says all
+pub record IsBeginning (Writes : Status → List ℕ → Type 0) (written : List ℕ) : Type 0 where
   pub rest : List ℕ
   pub ended : Status
-  pub whole : Writes files counts task ended (written ++ rest)
+  pub whole : Writes ended (written ++ rest)
 
 -- ---- how it ends
 
@@ -200,15 +199,19 @@ HasTooMuch files (check_file kind rules) = HoldsLongFile files rules
 HasTooMuch files (compile_file name) = HoldsLongFile files name
 HasTooMuch files (serve_script serving) = SessionHasTooMuch files (of_words serving) serving.script
 
--- what a status says of a task: the event that it comes from, and what was written
+-- What a status says of a command that writes so, and that may have too much to read: the event that the status comes
+-- from, and what was written.
+abbrev pub EndsBy : Counts → (Status → List ℕ → Type 0) → Type 0 → Status → List ℕ → Type 0
+EndsBy counts Writes TooMuch status.Done written = Writes status.Done written
+EndsBy counts Writes TooMuch status.Refused written = Writes status.Refused written
+EndsBy counts Writes TooMuch status.Usage written = ⊥
+EndsBy counts Writes TooMuch status.ReadFault written = Rose counts.shelf.before counts.shelf.now × (written ≡ [])
+EndsBy counts Writes TooMuch status.WriteFault written = Rose counts.sink.before counts.sink.now × IsBeginning Writes written
+EndsBy counts Writes TooMuch status.NoMemory written = (written ≡ []) ⊎ IsBeginning Writes written
+EndsBy counts Writes TooMuch status.FileTooLong written = TooMuch × (written ≡ [])
+
 abbrev pub Ends : Files → Counts → Task → Status → List ℕ → Type 0
-Ends files counts task status.Done written = Writes files counts task status.Done written
-Ends files counts task status.Refused written = Writes files counts task status.Refused written
-Ends files counts task status.Usage written = ⊥
-Ends files counts task status.ReadFault written = Rose counts.shelf.before counts.shelf.now × (written ≡ [])
-Ends files counts task status.WriteFault written = Rose counts.sink.before counts.sink.now × IsBeginning files counts task written
-Ends files counts task status.NoMemory written = (written ≡ []) ⊎ IsBeginning files counts task written
-Ends files counts task status.FileTooLong written = HasTooMuch files task × (written ≡ [])
+Ends files counts task = EndsBy counts (Writes files counts task) (HasTooMuch files task)
 
 -- words that say no command end with Usage alone, and write nothing
 abbrev pub EndsFor : Files → Counts → Option Task → Status → List ℕ → Type 0
