@@ -4,15 +4,25 @@ use Rattle.std.specs.Prelude.{◌≡◌, ◌⊎◌, ℕ, ◌<◌, ◌≤◌, Lis
 use Rattle.std.specs.List.{AllZip}
 use Rattle.dnr_spec.specs.declared.suffix_refusal.SuffixRefusal.{SuffixRefusal}
 use Rattle.dnr_spec.specs.Suffixes.{SuffixRule}
+use Rattle.rule_spec.specs.declared.rule_kind.RuleKind.{RuleKind}
 use Rattle.rule_spec.specs.State.{Extension}
 use Rattle.list_spec.specs.LineKind.{lines_of}
 use Rattle.compile_spec.specs.Compiled.{CompiledRule, max_compiled, compiled}
 use Rattle.compile_spec.specs.Installed.{list_extension}
 use Rattle.compile_spec.specs.Report.{StopsAtLine}
-use Rattle.load_spec.specs.Files.{Files, HoldsFile, HoldsLongFile, HoldsSuffixes, BreaksSuffixes}
+use Rattle.json_spec.specs.RulesFile.{FileRefusal}
+use Rattle.load_spec.specs.Files.{Files, HoldsFile, HoldsLongFile, BreaksForm, StopsAtHost, HoldsSuffixes, BreaksSuffixes}
 use Rattle.load_spec.specs.Extensions.{EndsAtOne, HoldsExtension, RefusedFile, RefusesExtension, HasLongFile}
-use Rattle.session_spec.specs.Refusals.{refused_file_line, suffixes_line, ListRefusal, too_many_rules, host_failed, list_line}
+use Rattle.session_spec.specs.Refusals.{refusal_line, refused_file_line, suffixes_line, ListRefusal, too_many_rules, host_failed, list_line}
 use Rattle.session_spec.specs.Words.{Installed, folder, list, Serving}
+
+-- ---- rules files
+
+-- the file breaks its form, or the host failed at one of its patterns where its count rose; this line says so
+pub record PrintsRefusedRules (files : Files) (rose : Type 0) (kind : RuleKind) (name line : List ℕ) : Type 0 where
+  pub refusal : FileRefusal
+  pub broken : BreaksForm files kind name refusal ⊎ (rose × StopsAtHost files kind name refusal)
+  pub same : line ≡ refusal_line name refusal
 
 -- ---- filter lists
 

@@ -10,16 +10,15 @@ use Rattle.rule_spec.specs.declared.rule_kind.RuleKind.{RuleKind}
 use Rattle.rule_spec.specs.declared.rule_kind.RuleKind.TheVariants.{Static}
 use Rattle.rule_spec.specs.Rule.{Rule}
 use Rattle.rule_spec.specs.State.{Extension, State}
-use Rattle.json_spec.specs.RulesFile.{FileRefusal}
 use Rattle.json_spec.specs.Written.{written}
 use Rattle.list_spec.specs.LineKind as list
 use Rattle.compile_spec.specs.Compiled.{CompiledRule, rules_in}
 use Rattle.compile_spec.specs.Report.{report}
-use Rattle.load_spec.specs.Files.{Files, HoldsRules, BreaksForm, StopsAtHost, HoldsLongFile}
+use Rattle.load_spec.specs.Files.{Files, HoldsRules, HoldsLongFile}
 use Rattle.load_spec.specs.Installing.{RefusedInstall, opening}
-use Rattle.session_spec.specs.Refusals.{refusal_line, install_line, count_line, unsupported_lines}
+use Rattle.session_spec.specs.Refusals.{install_line, count_line, unsupported_lines}
 use Rattle.session_spec.specs.Answers.{Setting, Answers}
-use Rattle.session_spec.specs.Loading.{HoldsList, PrintsRefusedList, Loaded, Loads, RefusesFile, HasLongFileIn}
+use Rattle.session_spec.specs.Loading.{PrintsRefusedRules, HoldsList, PrintsRefusedList, Loaded, Loads, RefusesFile, HasLongFileIn}
 use Rattle.session_spec.specs.Words.{Serving, Task, match_files, check_file, compile_file, serve_script, task_of}
 
 -- How often each thing outside had failed before the call, and after it. The first pattern host reads files, and each
@@ -59,12 +58,6 @@ pub record IsCounted (files : Files) (kind : RuleKind) (rules_name written : Lis
   pub rules : List Rule
   pub loaded : HoldsRules files kind rules_name rules
   pub output : written ≡ count_line (length rules)
-
--- the rules file breaks its form, or the host that reads files failed at one of its patterns
-pub record IsRefused (files : Files) (counts : Counts) (kind : RuleKind) (rules_name written : List ℕ) : Type 0 where
-  pub refusal : FileRefusal
-  pub broken : BreaksForm files kind rules_name refusal ⊎ (HostRose counts 0 × StopsAtHost files kind rules_name refusal)
-  pub output : written ≡ refusal_line rules_name refusal
 
 -- ---- filter lists
 
@@ -139,7 +132,7 @@ pub record IsNotInstalled (files : Files) (session : Session) (written : List �
 
 -- a file is refused that is read before the script
 abbrev pub RefusesFileOf : Files → Counts → Session → List ℕ → Type 0
-RefusesFileOf files counts (of_rules name) written = IsRefused files counts Static name written
+RefusesFileOf files counts (of_rules name) written = PrintsRefusedRules files (HostRose counts 0) Static name written
 RefusesFileOf files counts (of_words serving) written = RefusesFile files (HostRose counts 0) serving written
 
 -- a file is too long that is read before the script
@@ -176,7 +169,7 @@ SessionWrites files counts session script = SaysAll (IsServed files counts sessi
 
 abbrev pub Writes : Files → Counts → Task → Status → List ℕ → Type 0
 Writes files counts (match_files rules script) = SessionWrites files counts (of_rules rules) script
-Writes files counts (check_file kind rules) = SaysAll (IsCounted files kind rules) (IsRefused files counts kind rules)
+Writes files counts (check_file kind rules) = SaysAll (IsCounted files kind rules) (PrintsRefusedRules files (HostRose counts 0) kind rules)
 Writes files counts (compile_file name) = SaysAll (IsCompiled files name) (PrintsRefusedList files (HostRose counts 0) name)
 Writes files counts (serve_script serving) = SessionWrites files counts (of_words serving) serving.script
 
