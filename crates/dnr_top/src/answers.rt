@@ -51,27 +51,29 @@ impl From<NoMemory> for WriteRefusal {
     }
 }
 
-/// Answers the lines in order, and writes the answers in pieces of some kilobytes. The host finds the matches of
+/// Answers the lines in order, and writes the answers in pieces of some kilobytes. Where updates are served, a line that
+/// asks for one is answered as what is not there yet; elsewhere it is a bad command. The host finds the matches of
 /// patterns; where it fails a line says so in place of a verdict, and the next line is answered.
 ///
 /// After a refusal, the sink has taken some first bytes of the answers.
 pub fn answer_lines<O: Sink, H: RegexHost>(
     alloc: Global,
     generation: &Generation,
+    postpones: bool,
     lines: &[Vec<u8>],
     out: &mut O,
     host: &mut H,
 ) -> Result<(), WriteRefusal>
     requires { length lines.now ≤ max_lines }
     ensures written { OnOk result (WritesAnswers (O.taken out.old) (O.taken out.new)
-        (setting_of generation.now (H.faults host.old) (H.faults host.new)) generation.now.state (lines_seen lines.now)) }
+        (setting_of generation.now (H.faults host.old) (H.faults host.new) postpones) generation.now.state (lines_seen lines.now)) }
     ensures part { OnErr result (WritesAnswersInPart (O.taken out.old) (O.taken out.new)
-        (setting_of generation.now (H.faults host.old) (H.faults host.new)) generation.now.state (lines_seen lines.now)) }
+        (setting_of generation.now (H.faults host.old) (H.faults host.new) postpones) generation.now.state (lines_seen lines.now)) }
     ensures cause { HasCauseOf WriteRefusal.Failed (O.faults out.old) (O.faults out.new) result }
 {
     let mut text = String::new(alloc);
     for (index, line) in lines.iter().enumerate() {
-        answer(alloc, generation, (index + 1) as u32, line, host, &mut text)?;
+        answer(alloc, generation, postpones, (index + 1) as u32, line, host, &mut text)?;
         write_if_long(out, &mut text)?;
     }
     write_all(out, text.as_bytes())?;
@@ -97,23 +99,44 @@ fn write_if_long<O: Sink>(out: &mut O, text: &mut String) -> Result<(), Failed>
 fn answer<H: RegexHost>(
     alloc: Global,
     generation: &Generation,
+    postpones: bool,
     number: u32,
     line: &[u8],
     host: &mut H,
     into: &mut String,
 ) -> Result<(), NoMemory>
-    ensures said { OnOk result (AppendsSuch (Says (setting_of generation.now (H.faults host.old) (H.faults host.new))
-        generation.now.state number (spec.command_of number line.now)) (string_bytes into.old) (string_bytes into.new)) }
+    ensures said { OnOk result (AppendsSuch (Prints (setting_of generation.now (H.faults host.old) (H.faults host.new) postpones)
+        generation.now.state number line.now) (string_bytes into.old) (string_bytes into.new)) }
     ensures later { HasNotFallen (H.faults host.old) (H.faults host.new) }
 {
     match read_line(alloc, number, line) {
         Ok(Command::Blank) => Ok(()),
         Ok(Command::Request(request)) => {
-            answer_request(alloc, generation, number, &request, host, into)
+            answer_request(alloc, generation, postpones, number, &request, host, into)
         }
         Ok(Command::Explain(_)) => write_not_yet(number, into),
         Err(LineFault::NoMemory) => Err(NoMemory),
-        Err(fault) => write_bad(number, &fault, into),
+        Err(fault) => answer_fault(alloc, postpones, number, line, &fault, into),
+    }
+}
+
+// Appends what a line prints that is none of those that are answered: that it is bad, or not there yet.
+fn answer_fault(
+    alloc: Global,
+    postpones: bool,
+    number: u32,
+    line: &[u8],
+    fault: &LineFault,
+    into: &mut String,
+) -> Result<(), NoMemory>
+    requires { spec.command_of number line.now ≡ Err fault.now }
+    ensures { OnOk result (AppendsSuch (PrintsOfFault (postpones && is_postponed line.now) number fault.now)
+        (string_bytes into.old) (string_bytes into.new)) }
+{
+    if postpones && is_postponed(alloc, line)? {
+        write_not_yet(number, into)
+    } else {
+        write_bad(number, fault, into)
     }
 }
 
@@ -122,13 +145,14 @@ fn answer<H: RegexHost>(
 fn answer_request<H: RegexHost>(
     alloc: Global,
     generation: &Generation,
+    postpones: bool,
     number: u32,
     request: &Request,
     host: &mut H,
     into: &mut String,
 ) -> Result<(), NoMemory>
     requires { length request.now.frames ≤ max_frames }
-    ensures said { OnOk result (AppendsSuch (SaysOfRequest (setting_of generation.now (H.faults host.old) (H.faults host.new))
+    ensures said { OnOk result (AppendsSuch (SaysOfRequest (setting_of generation.now (H.faults host.old) (H.faults host.new) postpones)
         generation.now.state number request.now) (string_bytes into.old) (string_bytes into.new)) }
     ensures later { HasNotFallen (H.faults host.old) (H.faults host.new) }
 {

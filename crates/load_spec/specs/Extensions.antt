@@ -50,8 +50,7 @@ pub record HoldsExtension (files : Files) (name : List ℕ) (extension : Extensi
 
 -- ---- one that is not read
 
--- Of the things that are read in order, an earlier one was read, and this is what comes of a later one: the first that is
--- not read ends so.
+-- of things that are read in order, all before some one were read, and that one ends so
 abbrev pub EndsAtOne : {X Y : Type 0} → (X → Y → Type 0) → (X → Type 0) → List X → Type 0
 EndsAtOne Reads Ends [] = ⊥
 EndsAtOne {Y = Y} Reads Ends (x ∷ xs) = Ends x ⊎ ((y : Y) × Reads x y × EndsAtOne Reads Ends xs)

@@ -10,7 +10,9 @@ use Rattle.json_spec.specs.RequestLine.{url_in, initiator_in, kind_in, method_in
 use Rattle.json_spec.specs.RequestLine as line
 use Rattle.json_spec.specs.RuleAction.{part_in, transform_in, extension_in, substitution_in, redirect_in, changes_at, ops_in, modify_in, action_in}
 use Rattle.json_spec.specs.ReadRule.{domains_in, filters_in, domain_lists_in, lists_in, numbers_in, frames_in, tabs_in, rule_in, read_rules}
-use Rattle.session_spec.specs.Examples.{request_line, NoRulesDecideNothing, MainFrameIsLeftAlone, AllowPrevailsAtEqualPriority, GreaterPriorityPrevails, SmallerIdPrevails, BlankLinesCount, CrAloneIsNoBlankLine, BrokenLinesAreBad, NullIsPresent, FractionIsNoId, LastValueOfAKeyCounts, SecondOfEqualIdsIsAtFault, FirstRuleAtFaultIsNamed, FilterIsRefusedWithItsReason, NestingHasALimit, MatchTakesTwoFileNames, CheckTakesAKind, CompileTakesAFile, ServeTakesOptions, ServeIsStrict, TwoFilesAreServed, RulesAreCounted, UsageIsForBadWords}
+use Rattle.session_spec.specs.Examples.{request_line, NoRulesDecideNothing, MainFrameIsLeftAlone, AllowPrevailsAtEqualPriority, GreaterPriorityPrevails, SmallerIdPrevails, BlankLinesCount, CrAloneIsNoBlankLine, BrokenLinesAreBad, NullIsPresent, FractionIsNoId, LastValueOfAKeyCounts, SecondOfEqualIdsIsAtFault, FirstRuleAtFaultIsNamed, FilterIsRefusedWithItsReason, NestingHasALimit, MatchTakesTwoFileNames, CheckTakesAKind, CompileTakesAFile, ServeTakesOptions, ServeIsStrict, RefusedFilesSayWhy, RefusedInstallsSayWhy, UnsupportedLinesSayWhy, CompiledListsAreReported, TwoFilesAreServed, RulesAreCounted, UsageIsForBadWords}
+use Rattle.compile_spec.specs.Compiled.{compiled}
+use Rattle.compile_spec.specs.Report.{report}
 use Rattle.load_spec.specs.Installing.{judge_install}
 use Rattle.session_spec.specs.Out.{local, loaded_with}
 
@@ -88,6 +90,22 @@ serve_takes_options = (refl, refl)
 
 pub serve_is_strict : ServeIsStrict
 serve_is_strict = (refl, refl, refl, refl, refl, refl)
+
+pub refused_files_say_why : RefusedFilesSayWhy
+unfolding url_on_literals serde_json_on_literals
+refused_files_say_why = (refl, refl, refl, refl, refl, refl)
+
+pub refused_installs_say_why : RefusedInstallsSayWhy
+unfolding url_on_literals serde_json_on_literals
+refused_installs_say_why = (refl, refl)
+
+pub unsupported_lines_say_why : UnsupportedLinesSayWhy
+unfolding url_on_literals serde_json_on_literals
+unsupported_lines_say_why = (refl, refl)
+
+pub compiled_lists_are_reported : CompiledListsAreReported
+unfolding url_on_literals serde_json_on_literals compiled report
+compiled_lists_are_reported = refl
 
 pub two_files_are_served : TwoFilesAreServed
 unfolding field_in absent_in old_list_in fields_in part_in transform_in extension_in substitution_in redirect_in changes_at ops_in modify_in action_in domains_in filters_in domain_lists_in lists_in numbers_in frames_in tabs_in rule_in read_rules url_in initiator_in kind_in method_in tab_in frame_in line.frames_in as_header headers_in request_in command_in command_of url_on_literals serde_json_on_literals is_utf8 scan judge_install

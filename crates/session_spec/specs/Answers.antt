@@ -1,10 +1,11 @@
 -- What a session prints for the lines of its script: a relation, in which a state is carried along.
-use Rattle.std.specs.Prelude.{◌≡◌, ◌⊎◌, ℕ, ◌+◌, List, [], ◌∷◌, ◌++◌, codes, Bool, true, false, ◌&&◌, Result, Ok, Err}
+use Rattle.std.specs.Prelude.{◌≡◌, ◌⊎◌, ℕ, ◌+◌, List, [], ◌∷◌, ◌++◌, codes, Bool, true, false, not, ◌&&◌, Result, Ok, Err}
 use Rattle.std.specs.List.{list_any}
 use Rattle.std.specs.Option.{option_map_or}
 use Rattle.std.specs.Str.{bytes_eq}
 use Rattle.serde_json.specs.Data.{Data}
 use Rattle.dnr_base.specs.declared.rule_name.RuleName.{RuleName}
+use Rattle.dnr_spec.specs.Lines.{is_blank}
 use Rattle.dnr_spec.specs.Suffixes.{SuffixRule}
 use Rattle.rule_spec.specs.State.{State}
 use Rattle.rule_spec.specs.Scan.{scan}
@@ -15,11 +16,11 @@ use Rattle.json_spec.specs.RequestLine.{Command, blank, request, explain, comman
 use Rattle.session_spec.specs.Output.{verdict_line, bad_line, fault_line, not_yet_line}
 
 -- What the answers of a session rest on beside its state: the suffix list, whether the count of the pattern host that
--- decides requests rose in the run, and whether updates are served, which are not there yet.
+-- decides requests rose in the run, and whether lines that ask for updates are answered as what is not there yet.
 pub record Setting : Type 1 where
   pub suffixes : List SuffixRule
   pub rose : Type 0
-  pub has_updates : Bool
+  pub postpones : Bool
 
 -- in place of a verdict: the host failed at the pattern of a rule in force
 pub record SaysFault (rose : Type 0) (state : State) (number : ℕ) (said : List ℕ) : Type 0 where
@@ -37,32 +38,38 @@ Says setting state number (Ok (request r)) said =
 Says setting state number (Ok (explain r)) said = said ≡ not_yet_line number
 Says setting state number (Err fault) said = said ≡ bad_line number fault
 
--- ---- updates
+-- ---- commands that are not there yet
 
-abbrev pub update_names : List (List ℕ)
-update_names =
+-- updates, and to wait for those before it; their fields are not read yet, so they are not tested
+abbrev pub postponed_commands : List (List ℕ)
+postponed_commands =
     codes "dynamic" ∷ codes "session" ∷ codes "rulesets" ∷ codes "static" ∷ codes "install" ∷ codes "uninstall" ∷ codes "sync" ∷ []
 
-abbrev pub is_update_name : List ℕ → Bool
-is_update_name name = list_any (bytes_eq name) update_names
+abbrev pub is_postponed_name : List ℕ → Bool
+is_postponed_name name = list_any (bytes_eq name) postponed_commands
 
--- the tree is an object that asks for an update, or to wait for those before it
-abbrev pub names_update : Data → Bool
-names_update d = option_map_or is_update_name (text_at (codes "cmd") d) false
+-- the tree is an object that asks for one of them
+abbrev pub names_postponed : Data → Bool
+names_postponed d = option_map_or is_postponed_name (text_at (codes "cmd") d) false
 
-unfoldable pub asks_for_update : List ℕ → Bool
-asks_for_update line = option_map_or names_update (tree_of line) false
+-- a line that is not blank and asks for that
+unfoldable pub is_postponed : List ℕ → Bool
+is_postponed line = not (is_blank line) && option_map_or names_postponed (tree_of line) false
 
 -- ---- lines
 
--- a line that asks for an update is answered as what is not there yet, where updates are served
+-- such a line is answered as what is not there yet where a session is served; elsewhere it is a bad command
 abbrev pub Replies : Bool → Setting → State → ℕ → List ℕ → List ℕ → Type 0
 Replies true setting now number line said = said ≡ not_yet_line number
 Replies false setting now number line said = Says setting now number (command_of number line) said
 
+-- what a line of this number prints in this state
+abbrev pub Prints : Setting → State → ℕ → List ℕ → List ℕ → Type 0
+Prints setting now number line said = Replies (setting.postpones && is_postponed line) setting now number line said
+
 -- a line of this number, in this state, may print this, and leave that state
 pub record Answer (setting : Setting) (now : State) (number : ℕ) (line said : List ℕ) (after : State) : Type 0 where
-  pub reply : Replies (setting.has_updates && asks_for_update line) setting now number line said
+  pub reply : Prints setting now number line said
   pub state : after ≡ now
 
 -- what a first line said and what the others said

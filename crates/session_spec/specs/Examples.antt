@@ -11,11 +11,18 @@ use Rattle.json_spec.specs.RulesFile.{FileRefusal, rules_of}
 use Rattle.json_spec.specs.declared.line_fault.LineFault.{LineFault}
 use Rattle.json_spec.specs.RequestLine.{Command, blank, request, explain, command_of}
 use Rattle.session_spec.specs.Output.{verdict_line, bad_line, not_yet_line}
-use Rattle.session_spec.specs.Refusals.{refusal_line, install_line}
-use Rattle.session_spec.specs.Words.{folder, list, match_files, check_file, compile_file, serve_script, task_of}
+use Rattle.dnr_spec.specs.declared.suffix_refusal.SuffixRefusal.TheVariants.{NotUtf8, BadRule, TooManyRules}
+use Rattle.list_spec.specs.declared.reason.Reason.TheVariants.{ElementHiding, UnknownOption}
+use Rattle.list_spec.specs.LineKind as list
+use Rattle.compile_spec.specs.Compiled.{compiled}
+use Rattle.load_spec.specs.declared.manifest_path.ManifestPath.TheVariants as path
+use Rattle.load_spec.specs.declared.refusal.Refusal.TheVariants.{ExtensionThere, RegexLimit}
+use Rattle.load_spec.specs.Extensions.{bad_manifest}
+use Rattle.session_spec.specs.Refusals.{refusal_line, refused_file_line, suffixes_line, too_many_rules, host_failed, list_line, install_line, unsupported_line}
+use Rattle.session_spec.specs.Words.{folder, list as from_list, match_files, check_file, compile_file, serve_script, task_of}
 use Rattle.load_spec.specs.Files.{Files}
 use Rattle.load_spec.specs.Installing.{RefusedInstall, opening}
-use Rattle.session_spec.specs.Out.{Counts, local, Out}
+use Rattle.session_spec.specs.Out.{Counts, local, compiled_text, Out}
 
 -- ---- what `match` writes where no host fails
 
@@ -194,7 +201,7 @@ ServeTakesOptions =
     × (task_of (codes "serve" ∷ codes "--list" ∷ codes "l=e=f" ∷ codes "--psl" ∷ codes "p.dat" ∷ codes "--ext" ∷ codes "shop" ∷ codes "s" ∷ [])
     ≡ Some (serve_script (record {
       suffixes = Some (codes "p.dat");
-      installed = list (codes "l") (codes "e=f") ∷ folder (codes "shop") ∷ [];
+      installed = from_list (codes "l") (codes "e=f") ∷ folder (codes "shop") ∷ [];
       script = codes "s";
     })))
 
@@ -207,6 +214,39 @@ ServeIsStrict =
     × (task_of (codes "serve" ∷ codes "--ext" ∷ codes "s" ∷ []) ≡ None)
     × (task_of (codes "serve" ∷ codes "--list" ∷ codes "l" ∷ codes "s" ∷ []) ≡ None)
     × (task_of (codes "serve" ∷ []) ≡ None)
+
+-- ---- refusals and reports
+
+-- A file of an extension, a suffix list and a filter list each say why they are refused.
+abbrev pub RefusedFilesSayWhy : Type 0
+RefusedFilesSayWhy =
+    (refused_file_line (record { file = codes "a/manifest.json"; cause = bad_manifest path.Manifest })
+    ≡ codes "{\"file\":\"a/manifest.json\",\"refused\":\"bad-manifest\",\"path\":\"manifest\"}\n")
+    × (suffixes_line (codes "p.dat") (BadRule 2) ≡ codes "{\"file\":\"p.dat\",\"refused\":\"bad-suffix\",\"line\":2}\n")
+    × (suffixes_line (codes "p.dat") NotUtf8 ≡ codes "{\"file\":\"p.dat\",\"refused\":\"not-utf8\"}\n")
+    × (suffixes_line (codes "p.dat") TooManyRules ≡ codes "{\"file\":\"p.dat\",\"refused\":\"too-many-rules\"}\n")
+    × (list_line (codes "l.txt") (too_many_rules 300001) ≡ codes "{\"file\":\"l.txt\",\"refused\":\"too-many-rules\",\"count\":300001}\n")
+    × (list_line (codes "l.txt") (host_failed 7) ≡ codes "{\"file\":\"l.txt\",\"refused\":\"pattern-host\",\"line\":7}\n")
+
+-- An extension that is not installed says why, and the count that is too great.
+abbrev pub RefusedInstallsSayWhy : Type 0
+RefusedInstallsSayWhy =
+    (install_line (record { extension = codes "a"; cause = ExtensionThere (codes "a") }) ≡ codes "{\"extension\":\"a\",\"refused\":\"extension-there\"}\n")
+    × (install_line (record { extension = codes "local"; cause = RegexLimit 1001 })
+    ≡ codes "{\"extension\":\"local\",\"refused\":\"regex-limit\",\"count\":1001}\n")
+
+-- A line of a list that gives nothing says why, and which option is at fault.
+abbrev pub UnsupportedLinesSayWhy : Type 0
+UnsupportedLinesSayWhy =
+    (unsupported_line (record { line = 3; reason = ElementHiding }) ≡ codes "{\"line\":3,\"unsupported\":\"element-hiding\"}\n")
+    × (unsupported_line (record { line = 6; reason = UnknownOption (codes "popup") })
+    ≡ codes "{\"line\":6,\"unsupported\":\"unknown-option\",\"name\":\"popup\"}\n")
+
+-- Of a compiled list the lines that give nothing stand first, then the count of the rules, then the rules.
+abbrev pub CompiledListsAreReported : Type 0
+CompiledListsAreReported =
+    compiled_text (codes "! t\nx$script=1\n||a.com^$image,~image\n") (compiled (list.lines_of (codes "! t\nx$script=1\n||a.com^$image,~image\n")))
+    ≡ codes "{\"line\":2,\"unsupported\":\"option-value\",\"name\":\"script\"}\n{\"rules\":0}\n[]\n"
 
 -- ---- statuses
 

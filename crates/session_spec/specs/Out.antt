@@ -10,7 +10,7 @@ use Rattle.rule_spec.specs.declared.rule_kind.RuleKind.{RuleKind}
 use Rattle.rule_spec.specs.declared.rule_kind.RuleKind.TheVariants.{Static}
 use Rattle.rule_spec.specs.Rule.{Rule}
 use Rattle.rule_spec.specs.State.{Extension, State}
-use Rattle.json_spec.specs.Written.{written}
+use Rattle.json_spec.specs.Written.{written as json_text}
 use Rattle.list_spec.specs.LineKind as list
 use Rattle.compile_spec.specs.Compiled.{CompiledRule, rules_in}
 use Rattle.compile_spec.specs.Report.{report}
@@ -64,7 +64,7 @@ pub record IsCounted (files : Files) (kind : RuleKind) (rules_name written : Lis
 -- each line that gives nothing, the count of the rules, and the rules as JSON
 abbrev pub compiled_text : List ℕ → List CompiledRule → List ℕ
 compiled_text bytes rules =
-    unsupported_lines (report (list.lines_of bytes)) ++ count_line (length rules) ++ written (rules_in rules) ++ codes "\n"
+    unsupported_lines (report (list.lines_of bytes)) ++ count_line (length rules) ++ json_text (rules_in rules) ++ codes "\n"
 
 -- the list was compiled
 pub record IsCompiled (files : Files) (name output : List ℕ) : Type 0 where
@@ -98,14 +98,14 @@ abbrev pub LoadsFor : Files → Session → Loaded → Type 0
 LoadsFor files (of_rules name) loaded = (rules : List Rule) × HoldsRules files Static name rules × (loaded ≡ loaded_with rules)
 LoadsFor files (of_words serving) loaded = Loads files serving loaded
 
--- updates are served in `serve` alone
-abbrev pub has_updates : Session → Bool
-has_updates (of_rules name) = false
-has_updates (of_words serving) = true
+-- `match` has no other commands than requests; `serve` will have updates
+abbrev pub postpones : Session → Bool
+postpones (of_rules name) = false
+postpones (of_words serving) = true
 
 -- the second host decides
 abbrev pub setting_for : Counts → Session → List SuffixRule → Setting
-setting_for counts session suffixes = record { suffixes = suffixes; rose = HostRose counts 1; has_updates = has_updates session }
+setting_for counts session suffixes = record { suffixes = suffixes; rose = HostRose counts 1; postpones = postpones session }
 
 -- all was read and installed, and the session begins in this state
 pub record Opens (files : Files) (session : Session) (loaded : Loaded) (state : State) : Type 0 where
@@ -216,7 +216,7 @@ EndsFor files counts (Some task) ended written = Ends files counts task ended wr
 abbrev pub Out : List (List ℕ) → Files → Counts → Status → List ℕ → Type 0
 Out words files counts ended written = EndsFor files counts (task_of words) ended written
 
--- the statuses on which nothing is written, whatever the shelf tells
+-- the statuses on which nothing is written, whatever the shelf tells: a script is read whole before it is answered
 abbrev pub IsSilent : Status → Type 0
 IsSilent status.Done = ⊥
 IsSilent status.Refused = ⊥

@@ -1,7 +1,7 @@
 //! Examples of the definitions. Each is stated in `specs/Examples.antt` and computed from the definitions
 //! by the prover; the functions do nothing.
 
-ghost use Rattle.session_spec.specs.Examples.{NoRulesDecideNothing, MainFrameIsLeftAlone, AllowPrevailsAtEqualPriority, GreaterPriorityPrevails, SmallerIdPrevails, BlankLinesCount, CrAloneIsNoBlankLine, BrokenLinesAreBad, NullIsPresent, FractionIsNoId, LastValueOfAKeyCounts, SecondOfEqualIdsIsAtFault, FirstRuleAtFaultIsNamed, FilterIsRefusedWithItsReason, NestingHasALimit, MatchTakesTwoFileNames, CheckTakesAKind, CompileTakesAFile, ServeTakesOptions, ServeIsStrict, TwoFilesAreServed, RulesAreCounted, UsageIsForBadWords};
+ghost use Rattle.session_spec.specs.Examples.{NoRulesDecideNothing, MainFrameIsLeftAlone, AllowPrevailsAtEqualPriority, GreaterPriorityPrevails, SmallerIdPrevails, BlankLinesCount, CrAloneIsNoBlankLine, BrokenLinesAreBad, NullIsPresent, FractionIsNoId, LastValueOfAKeyCounts, SecondOfEqualIdsIsAtFault, FirstRuleAtFaultIsNamed, FilterIsRefusedWithItsReason, NestingHasALimit, MatchTakesTwoFileNames, CheckTakesAKind, CompileTakesAFile, ServeTakesOptions, ServeIsStrict, RefusedFilesSayWhy, RefusedInstallsSayWhy, UnsupportedLinesSayWhy, CompiledListsAreReported, TwoFilesAreServed, RulesAreCounted, UsageIsForBadWords};
 
 /// Without rules a request goes on.
 #[tactic(auto, using(crate::proofs::Computed::no_rules_decide_nothing))]
@@ -110,6 +110,30 @@ pub fn serve_takes_options()
 #[tactic(auto, using(crate::proofs::Computed::serve_is_strict))]
 pub fn serve_is_strict()
     ensures { ServeIsStrict }
+{}
+
+/// A file of an extension, a suffix list and a filter list each say why they are refused.
+#[tactic(auto, using(crate::proofs::Computed::refused_files_say_why))]
+pub fn refused_files_say_why()
+    ensures { RefusedFilesSayWhy }
+{}
+
+/// An extension that is not installed says why, and the count that is too great.
+#[tactic(auto, using(crate::proofs::Computed::refused_installs_say_why))]
+pub fn refused_installs_say_why()
+    ensures { RefusedInstallsSayWhy }
+{}
+
+/// A line of a list that gives nothing says why, and which option is at fault.
+#[tactic(auto, using(crate::proofs::Computed::unsupported_lines_say_why))]
+pub fn unsupported_lines_say_why()
+    ensures { UnsupportedLinesSayWhy }
+{}
+
+/// Of a compiled list the lines that give nothing stand first, then the count of the rules, then the rules.
+#[tactic(auto, using(crate::proofs::Computed::compiled_lists_are_reported))]
+pub fn compiled_lists_are_reported()
+    ensures { CompiledListsAreReported }
 {}
 
 /// The two files are served, with the one line that says `none`.

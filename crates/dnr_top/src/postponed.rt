@@ -1,0 +1,25 @@
+//! Lines that ask for updates, which are not there yet.
+ghost use Rattle.std.specs.Prelude.{◌≡◌, IfOk, option_map};
+ghost use Rattle.dnr_spec.specs.Lines as lines;
+ghost use Rattle.json_spec.specs.Json.{tree_of};
+ghost use Rattle.serde_json.specs.View.{view};
+ghost use Rattle.session_spec.specs.Answers as spec;
+
+use dnr_base::NoMemory;
+use serde_json::Value;
+use std::alloc::Global;
+
+/// Whether a line asks for an update, or to wait for those before it. It is read once more, which only lines owe that are
+/// no request.
+#[tactic(auto, unfolding(session_spec::specs::Answers::is_postponed))]
+pub fn is_postponed(alloc: Global, line: &[u8]) -> Result<bool, NoMemory>
+    ensures { IfOk result (λ asks. asks ≡ spec.is_postponed line.now) }
+{
+    if is_blank(line) {
+        return Ok(false);
+    }
+    match read_tree(alloc, line)? {
+        Some(tree) => Ok(names_postponed(&tree)),
+        None => Ok(false),
+    }
+}
