@@ -1,4 +1,4 @@
 pub mod Answered
-pub mod Hosts
+pub mod LaterCommands
 pub mod Ended
-pub mod NoSuffixes
+pub mod Hosts

@@ -1,11 +1,10 @@
 //! Lines that ask for updates, which are not there yet.
-ghost use Rattle.std.specs.Prelude.{◌≡◌, IfOk, option_map};
-ghost use Rattle.dnr_spec.specs.Lines as lines;
-ghost use Rattle.json_spec.specs.Json.{tree_of};
+ghost use Rattle.std.specs.Prelude.{◌≡◌, IfOk};
 ghost use Rattle.serde_json.specs.View.{view};
 ghost use Rattle.session_spec.specs.Answers as spec;
 
 use dnr_base::NoMemory;
+use script_read::{is_blank, read_tree};
 use serde_json::Value;
 use std::alloc::Global;
 
@@ -22,4 +21,23 @@ pub fn is_postponed(alloc: Global, line: &[u8]) -> Result<bool, NoMemory>
         Some(tree) => Ok(names_postponed(&tree)),
         None => Ok(false),
     }
+}
+
+fn names_postponed(tree: &Value) -> bool
+    ensures { result ≡ spec.names_postponed (view tree.now) }
+{
+    match tree.get("cmd").and_then(Value::as_str) {
+        Some(name) => is_postponed_name(name),
+        None => false,
+    }
+}
+
+// Whether it is the name of an update, or asks to wait for those before it.
+fn is_postponed_name(name: &str) -> bool
+    ensures { result ≡ spec.is_postponed_name name.now }
+{
+    matches!(
+        name,
+        "dynamic" | "session" | "rulesets" | "static" | "install" | "uninstall" | "sync"
+    )
 }

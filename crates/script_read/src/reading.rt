@@ -45,15 +45,17 @@ pub fn read_line(alloc: Global, line: u32, bytes: &[u8]) -> Result<Command, Line
     }
 }
 
-// Whether the line has spaces and tabs alone.
-fn is_blank(bytes: &[u8]) -> bool
+/// Whether the line has spaces and tabs alone.
+pub fn is_blank(bytes: &[u8]) -> bool
     ensures { result ≡ lines.is_blank bytes.now }
 {
     bytes.iter().all(|byte| *byte == b' ' || *byte == b'\t')
 }
 
-// The tree of the line, if it is JSON.
-fn read_tree(alloc: Global, bytes: &[u8]) -> Result<Option<Value>, NoMemory>
+/// The tree of the line, if it is JSON.
+///
+/// `NoMemory`: memory ran out.
+pub fn read_tree(alloc: Global, bytes: &[u8]) -> Result<Option<Value>, NoMemory>
     ensures { IfOk result (λ tree. option_map view tree ≡ tree_of bytes.now) }
 {
     match Value::from_slice(alloc, bytes) {

@@ -5,7 +5,7 @@ use Rattle.std.specs.Option.{option_map_or}
 use Rattle.std.specs.Str.{bytes_eq}
 use Rattle.std.proofs.lemmas.Bool.{cases_Bool}
 use Rattle.std.proofs.lemmas.Slice.Eq.{bytes_eq-Decides}
-use Rattle.serde_json.specs.Data.{Data, null, boolean, number, string, array, object, Members}
+use Rattle.serde_json.specs.Data.{Data, null, boolean, number as numeral, string, array, object, Members}
 use Rattle.serde_json.specs.Find.{as_str, as_object, get}
 use Rattle.dnr_spec.specs.Lines.{max_lines, is_blank}
 use Rattle.json_spec.specs.declared.command_path.CommandPath.TheVariants as path
@@ -21,7 +21,7 @@ use Rattle.dnr_top.specs.Answers.{PrintsOfFault}
 named : (a b : Bool) (x y : Result Command LineFault) (c : Command) → (if a then x else (if b then y else Err (BadCommand path.Cmd))) ≡ Ok c → (a ≡ true) ⊎ (b ≡ true)
 named true b x y c is = inl refl
 named false true x y c is = inr refl
-named false false x y c is = absurd (omega (arith, is))
+named false false x y c is = absurd (cc)
 
 is_that : (name other : List ℕ) → is_postponed_name other ≡ false → bytes_eq name other ≡ true → is_postponed_name name ≡ false
 is_that name other none same = subst (λ (l : List ℕ). is_postponed_name l ≡ false) (sym ((bytes_eq-Decides name other).0 same)) none
@@ -39,7 +39,7 @@ not_postponed_from : (number : ℕ) (d : Data) (field : Option Data) (c : Comman
 not_postponed_from number d None c is = refl
 not_postponed_from number d (Some null) c is = refl
 not_postponed_from number d (Some (boolean b)) c is = refl
-not_postponed_from number d (Some (number n)) c is = refl
+not_postponed_from number d (Some (numeral n)) c is = refl
 not_postponed_from number d (Some (string name)) c is = not_postponed_name number d name c is
 not_postponed_from number d (Some (array items)) c is = refl
 not_postponed_from number d (Some (object members)) c is = refl
@@ -49,14 +49,14 @@ named_so None = refl
 named_so (Some d) = refl
 
 not_postponed_members : (number : ℕ) (d : Data) (members : Option Members) (c : Command) → command_of_members number d members ≡ Ok c → names_postponed d ≡ false
-not_postponed_members number d None c is = absurd (omega (arith, is))
+not_postponed_members number d None c is = absurd (cc)
 not_postponed_members number d (Some members) c is = named_so (get (codes "cmd") d) ∙ not_postponed_from number d (field_at path.Cmd d) c is
 
 not_postponed_tree : (is_blank : Bool) (number : ℕ) (tree : Option Data) (c : Command) → (if is_blank then Ok blank else command_of_tree number tree) ≡ Ok c
     → not is_blank && option_map_or names_postponed tree false ≡ false
 unfolding command_in
 not_postponed_tree true number tree c is = refl
-not_postponed_tree false number None c is = absurd (omega (arith, is))
+not_postponed_tree false number None c is = absurd (cc)
 not_postponed_tree false number (Some d) c is = not_postponed_members number d (as_object d) c is
 
 -- a line that reads as a command asks for no update
