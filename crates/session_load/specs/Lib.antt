@@ -1,2 +1,5 @@
 pub mod Stops
+pub mod Files
 pub mod Loads
+pub mod Lists
+pub mod Extensions

@@ -4,6 +4,7 @@
 //! What is loaded stands in `session_spec`, `specs/Loading.antt`.
 #![tactic(auto)]
 
+mod files;
 mod installed;
 mod lists;
 mod loaded;

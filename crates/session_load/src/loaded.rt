@@ -1,5 +1,6 @@
-use generation::{Extension, SuffixList};
+use ruleset_store::Extension;
 use std::marker::Model;
+use suffix_list::SuffixList;
 
 /// What a session has read before its script: the suffix list by which parties are told, and the extensions in the
 /// order in which they are to be installed.

@@ -1,9 +1,11 @@
 //! The rules file of `match` and `check`.
-ghost use Rattle.std.specs.Prelude.{◌≡◌, ◌≤◌, [], ◌∷◌, IfOk, IfErr, IfSome, OnOk, string_bytes};
+ghost use Rattle.std.specs.Prelude.{◌≡◌, ◌≤◌, ◌++◌, IfOk, IfErr, IfSome, OnOk, string_bytes};
 ghost use Rattle.dnr_base.specs.Faults.{Rose, HasCauseOf};
 ghost use Rattle.load_spec.specs.Files.{HoldsRules};
+ghost use Rattle.rule_spec.specs.declared.rule_kind.RuleKind.TheVariants.{Static};
 ghost use Rattle.rules_file.specs.Answers.{refusal_seen};
 ghost use Rattle.session_load.specs.Loads.{StopsInRules};
+ghost use Rattle.session_load.specs.Stops.{Prints};
 ghost use Rattle.session_spec.specs.Out.{LoadsFor, loaded_with, of_rules};
 ghost use Rattle.session_spec.specs.Refusals.{refusal_line};
 
@@ -13,10 +15,10 @@ use dnr_base::{NoMemory, Text};
 use dnr_io::Shelf;
 use dnr_rules::Rule;
 use explain_report::{write_bad_json, write_refused_rule};
-use generation::{Extension, RuleSet};
 use regex_host::RegexHost;
 use rule_spec::RuleKind;
 use rules_file::{FileRefusal, LoadRefusal};
+use ruleset_store::{Extension, RuleSet};
 use std::alloc::Global;
 
 /// Reads the rules of a file, which are of this kind. The host checks their patterns.
@@ -60,7 +62,7 @@ pub fn load_local<F: Shelf, H: RegexHost>(
     host: &mut H,
 ) -> Result<Loaded, Stop>
     ensures loads { IfOk result (λ loaded. IfSome (F.Source.files shelf.old) (λ files. LoadsFor files (of_rules name.now) loaded)) }
-    ensures stops { IfErr result (StopsInRules (F.Source.files shelf.old) (Rose (H.faults host.old) (H.faults host.new)) RuleKind.Static name.now) }
+    ensures stops { IfErr result (StopsInRules (F.Source.files shelf.old) (Rose (H.faults host.old) (H.faults host.new)) Static name.now) }
     ensures files { F.Source.files shelf.new ≡ F.Source.files shelf.old }
     ensures later { H.faults host.old ≤ H.faults host.new }
     ensures cause { HasCauseOf Stop.ReadFault (F.Source.faults shelf.old) (F.Source.faults shelf.new) result }
@@ -91,7 +93,7 @@ fn local(alloc: Global, rules: Vec<Rule>) -> Result<Loaded, NoMemory>
 
 // What a refused rules file prints, unless memory runs out for it.
 fn refused(alloc: Global, name: &str, refusal: &FileRefusal) -> Stop
-    ensures { IsLineOrMemory (refusal_line name.now (refusal_seen refusal.now)) result }
+    ensures { Prints (refusal_line name.now (refusal_seen refusal.now)) result }
 {
     let mut line = String::new(alloc);
     match write_refusal(alloc, name, refusal, &mut line) {
@@ -100,7 +102,7 @@ fn refused(alloc: Global, name: &str, refusal: &FileRefusal) -> Stop
     }
 }
 
-pub(crate) fn write_refusal(
+fn write_refusal(
     alloc: Global,
     file: &str,
     refusal: &FileRefusal,

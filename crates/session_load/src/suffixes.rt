@@ -1,9 +1,13 @@
 //! The suffix list by which first and third party are told.
-ghost use Rattle.std.specs.Prelude.{◌≡◌, [], Ok, IfOk, IfErr, IfSome, option_copied};
+ghost use Rattle.std.specs.Prelude.{◌≡◌, ◌≢◌, ◌≤◌, [], length, Ok, Err, IfOk, IfErr, IfSome, option_copied};
 ghost use Rattle.dnr_base.specs.Faults.{HasCauseOf};
-ghost use Rattle.load_spec.specs.Files.{HoldsFile, HoldsSuffixes};
-ghost use Rattle.session_load.specs.Loads.{StopsInSuffixes};
-ghost use Rattle.session_spec.specs.Loading.{ReadsSuffixes};
+ghost use Rattle.dnr_spec.specs.Suffixes.{read_suffixes};
+ghost use Rattle.json_spec.specs.RulesFile.{max_file};
+ghost use Rattle.load_spec.specs.Files.{HoldsSuffixes, HoldsLongFile};
+ghost use Rattle.session_load.specs.Loads.{PrintsBadSuffixes, StopsInSuffixes};
+ghost use Rattle.session_load.specs.Stops.{Prints, StopsAs};
+ghost use Rattle.session_spec.specs.Loading.{ReadsSuffixes, PrintsRefusedSuffixes};
+ghost use Rattle.session_spec.specs.Refusals.{suffixes_line};
 
 use crate::Stop;
 use crate::files::fetch;
@@ -27,6 +31,58 @@ pub(crate) fn load_suffixes<F: Shelf>(
 {
     match name {
         Some(name) => load_file(alloc, name, shelf),
-        None => Ok(no_suffixes(alloc)?),
+        None => match no_suffixes(alloc) {
+            Ok(list) => Ok(list),
+            Err(NoMemory) => Err(Stop::NoMemory),
+        },
+    }
+}
+
+fn load_file<F: Shelf>(alloc: Global, name: &str, shelf: &mut F) -> Result<SuffixList, Stop>
+    ensures suffixes { IfOk result (λ list. IfSome (F.Source.files shelf.old) (λ files. HoldsSuffixes files name.now list)) }
+    ensures stops { IfErr result (λ stop. IfSome (F.Source.files shelf.old) (λ files.
+        StopsAs (PrintsRefusedSuffixes files name.now) (HoldsLongFile files name.now) stop)) }
+    ensures files { F.Source.files shelf.new ≡ F.Source.files shelf.old }
+    ensures cause { HasCauseOf Stop.ReadFault (F.Source.faults shelf.old) (F.Source.faults shelf.new) result }
+{
+    match fetch(alloc, name, shelf) {
+        Ok(bytes) => suffixes_in(alloc, name, &bytes),
+        Err(stop) => Err(stop),
+    }
+}
+
+// The list of these bytes, which are those of the file of this name.
+fn suffixes_in(alloc: Global, name: &str, bytes: &[u8]) -> Result<SuffixList, Stop>
+    requires { length bytes.now ≤ max_file }
+    ensures read { IfOk result (λ list. read_suffixes bytes.now ≡ Ok list) }
+    ensures stops { IfErr result (StopsAs (PrintsBadSuffixes name.now bytes.now) ⊥) }
+    ensures no_fault { result ≢ Err Stop.ReadFault }
+{
+    match SuffixList::read(alloc, bytes) {
+        Ok(list) => Ok(list),
+        Err(SuffixRefusal::NoMemory) => Err(Stop::NoMemory),
+        Err(refusal) => Err(refused(alloc, name, refusal)),
+    }
+}
+
+// The line that says why, unless memory runs out for it.
+fn refused(alloc: Global, name: &str, refusal: SuffixRefusal) -> Stop
+    ensures { Prints (suffixes_line name.now refusal) result }
+{
+    let mut line = String::new(alloc);
+    match write_suffix_refusal(alloc, name, refusal, &mut line) {
+        Ok(()) => Stop::Refused(line),
+        Err(NoMemory) => Stop::NoMemory,
+    }
+}
+
+// A list without rules.
+#[tactic(auto, using(crate::proofs::NoSuffixes::no_rules))]
+pub(crate) fn no_suffixes(alloc: Global) -> Result<SuffixList, NoMemory>
+    ensures { IfOk result (λ list. list ≡ []) }
+{
+    match SuffixList::read(alloc, b"") {
+        Ok(list) => Ok(list),
+        Err(_) => Err(NoMemory),
     }
 }

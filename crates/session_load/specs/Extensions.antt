@@ -1,0 +1,28 @@
+-- An extension of a folder that is not read, and one that is made of a filter list.
+use Rattle.std.specs.Prelude.{◌≡◌, ℕ, List, [], ◌∷◌, codes, true}
+use Rattle.json_spec.specs.RulesFile.{bad_json, bad_rules}
+use Rattle.load_spec.specs.Extensions.{bad_rules_file, bad_manifest, manifest_name, extension_of}
+use Rattle.manifest_read.specs.declared.refusal.ManifestRefusal.{ManifestRefusal}
+use Rattle.manifest_read.specs.declared.refusal.ManifestRefusal.TheVariants.{ReadFault, FileTooLong, BadJson, BadManifest, RuleRefused, NoMemory}
+use Rattle.rule_spec.specs.State.{Extension}
+use Rattle.session_load.specs.Stops.{Prints}
+use Rattle.session_load.specs.declared.lists.CompiledList.{CompiledList}
+use Rattle.session_load.specs.declared.stop.Stop.{Stop}
+use Rattle.session_load.specs.declared.stop.Stop.TheVariants as stop
+use Rattle.session_spec.specs.Refusals.{refused_file_line}
+
+-- what stops a command where the folder of this name is refused so
+abbrev pub StopsFor : List ℕ → ManifestRefusal → Stop → Type 0
+StopsFor name ReadFault stop = stop ≡ stop.ReadFault
+StopsFor name (FileTooLong file) stop = stop ≡ stop.FileTooLong
+StopsFor name (BadJson file) stop = Prints (refused_file_line (record { file = file; cause = bad_rules_file bad_json })) stop
+StopsFor name (BadManifest field) stop =
+    Prints (refused_file_line (record { file = manifest_name name; cause = bad_manifest field })) stop
+StopsFor name (RuleRefused file refusal) stop =
+    Prints (refused_file_line (record { file = file; cause = bad_rules_file (bad_rules refusal) })) stop
+StopsFor name NoMemory stop = stop ≡ stop.NoMemory
+
+-- the extension of this name whose one ruleset is the list
+abbrev pub extension_in : List ℕ → CompiledList → Extension
+extension_in name list =
+    extension_of name (record { id = codes "list"; enabled = true; rules = list.rules.items; origins = list.report.origins.items; disabled = [] } ∷ [])

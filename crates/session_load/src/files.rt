@@ -1,0 +1,39 @@
+//! The bytes of a file.
+ghost use Rattle.std.specs.Prelude.{◌≡◌, ◌≤◌, length, IfOk, IfErr, IfSome};
+ghost use Rattle.dnr_base.specs.Faults.{HasCauseOf};
+ghost use Rattle.json_spec.specs.RulesFile.{max_file};
+ghost use Rattle.load_spec.specs.Files.{HoldsFile, HoldsLongFile};
+ghost use Rattle.session_load.specs.Stops.{StopsAs};
+
+use crate::Stop;
+use dnr_io::{Shelf, ShelfRefusal};
+use rules_file::MAX_FILE;
+use std::alloc::Global;
+
+impl From<ShelfRefusal> for Stop {
+    ghost use Rattle.std.specs.Prelude.{◌≡◌};
+    ghost use Rattle.session_load.specs.Files.{stop_of};
+
+    ghost from_gives = { λ refusal stop. stop ≡ stop_of refusal };
+
+    fn from(refusal: ShelfRefusal) -> Stop {
+        match refusal {
+            ShelfRefusal::Failed => Stop::ReadFault,
+            ShelfRefusal::TooLong => Stop::FileTooLong,
+            ShelfRefusal::NoMemory => Stop::NoMemory,
+        }
+    }
+}
+
+// The bytes of the file of this name, which are not more than a file may have.
+pub(crate) fn fetch<F: Shelf>(alloc: Global, name: &str, shelf: &mut F) -> Result<Vec<u8>, Stop>
+    ensures held { IfOk result (λ bytes. IfSome (F.Source.files shelf.old) (λ files. HoldsFile files name.now bytes.items)) }
+    ensures short { IfOk result (λ bytes. length bytes.items ≤ max_file) }
+    ensures stops { IfErr result (λ stop. IfSome (F.Source.files shelf.old) (λ files. StopsAs (λ _. ⊥) (HoldsLongFile files name.now) stop)) }
+    ensures files { F.Source.files shelf.new ≡ F.Source.files shelf.old }
+    ensures cause { HasCauseOf Stop.ReadFault (F.Source.faults shelf.old) (F.Source.faults shelf.new) result }
+{
+    let mut bytes = Vec::new(alloc);
+    shelf.fetch(name, MAX_FILE, &mut bytes)?;
+    Ok(bytes)
+}

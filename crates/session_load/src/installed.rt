@@ -1,0 +1,150 @@
+//! One extension, as the words name it.
+ghost use Rattle.std.specs.Prelude.{◌≡◌, ◌≤◌, IfOk, IfErr, IfSome, string_bytes};
+ghost use Rattle.dnr_base.specs.Faults.{Rose, HasCauseOf};
+ghost use Rattle.dnr_words.specs.Seen.{installed_seen};
+ghost use Rattle.json_spec.specs.RulesFile.{bad_json, bad_rules};
+ghost use Rattle.load_spec.specs.Extensions as spec;
+ghost use Rattle.load_spec.specs.Extensions.{HoldsExtension};
+ghost use Rattle.session_load.specs.Extensions.{StopsFor, extension_in};
+ghost use Rattle.session_load.specs.Loads.{StopsInOne};
+ghost use Rattle.session_load.specs.Stops.{Prints};
+ghost use Rattle.session_spec.specs.Loading.{Reads, HoldsListExtension};
+ghost use Rattle.session_spec.specs.Refusals.{refused_file_line};
+ghost use Rattle.session_spec.specs.Words.{folder, list};
+
+use crate::Stop;
+use crate::lists::{CompiledList, load_list};
+use dnr_base::{NoMemory, Text};
+use dnr_io::Shelf;
+use dnr_words::Installed;
+use explain_report::{write_bad_json, write_bad_manifest, write_refused_rule};
+use load_spec::ManifestPath;
+use manifest_read::{ManifestRefusal, read_extension};
+use regex_host::RegexHost;
+use rule_spec::PlacedRefusal;
+use ruleset_store::{Extension, RuleSet};
+use std::alloc::Global;
+
+// Reads an extension of a folder, or a filter list as the extension of its name.
+pub(crate) fn load_one<F: Shelf, H: RegexHost>(
+    alloc: Global,
+    installed: &Installed<'_>,
+    shelf: &mut F,
+    host: &mut H,
+) -> Result<Extension, Stop>
+    ensures reads { IfOk result (λ extension. IfSome (F.Source.files shelf.old) (λ files. Reads files (installed_seen installed.now) extension)) }
+    ensures stops { IfErr result (StopsInOne (F.Source.files shelf.old) (Rose (H.faults host.old) (H.faults host.new)) (installed_seen installed.now)) }
+    ensures files { F.Source.files shelf.new ≡ F.Source.files shelf.old }
+    ensures later { H.faults host.old ≤ H.faults host.new }
+    ensures cause { HasCauseOf Stop.ReadFault (F.Source.faults shelf.old) (F.Source.faults shelf.new) result }
+{
+    match installed {
+        Installed::Folder(name) => load_folder(alloc, name, shelf, host),
+        Installed::List(name, file) => load_as_list(alloc, name, file, shelf, host),
+    }
+}
+
+fn load_folder<F: Shelf, H: RegexHost>(
+    alloc: Global,
+    name: &str,
+    shelf: &mut F,
+    host: &mut H,
+) -> Result<Extension, Stop>
+    ensures reads { IfOk result (λ extension. IfSome (F.Source.files shelf.old) (λ files. HoldsExtension files name.now extension)) }
+    ensures stops { IfErr result (StopsInOne (F.Source.files shelf.old) (Rose (H.faults host.old) (H.faults host.new)) (folder name.now)) }
+    ensures files { F.Source.files shelf.new ≡ F.Source.files shelf.old }
+    ensures later { H.faults host.old ≤ H.faults host.new }
+    ensures cause { HasCauseOf Stop.ReadFault (F.Source.faults shelf.old) (F.Source.faults shelf.new) result }
+{
+    match read_extension(alloc, shelf, name, host) {
+        Ok(extension) => Ok(extension),
+        Err(refusal) => Err(stop_of(alloc, name, &refusal)),
+    }
+}
+
+fn stop_of(alloc: Global, name: &str, refusal: &ManifestRefusal) -> Stop
+    ensures { StopsFor name.now refusal.now result }
+{
+    match refusal {
+        ManifestRefusal::ReadFault => Stop::ReadFault,
+        ManifestRefusal::FileTooLong(_) => Stop::FileTooLong,
+        ManifestRefusal::BadJson(file) => bad_json(alloc, file.as_str()),
+        ManifestRefusal::BadManifest(field) => bad_manifest(alloc, name, *field),
+        ManifestRefusal::RuleRefused(file, refusal) => bad_rule(alloc, file.as_str(), refusal),
+        ManifestRefusal::NoMemory => Stop::NoMemory,
+    }
+}
+
+fn bad_json(alloc: Global, file: &str) -> Stop
+    ensures { Prints (refused_file_line (record { file = file.now; cause = spec.bad_rules_file bad_json })) result }
+{
+    let mut line = String::new(alloc);
+    match write_bad_json(alloc, file, &mut line) {
+        Ok(()) => Stop::Refused(line),
+        Err(NoMemory) => Stop::NoMemory,
+    }
+}
+
+fn bad_rule(alloc: Global, file: &str, refusal: &PlacedRefusal) -> Stop
+    ensures { Prints (refused_file_line (record { file = file.now; cause = spec.bad_rules_file (bad_rules refusal.now) })) result }
+{
+    let mut line = String::new(alloc);
+    match write_refused_rule(alloc, file, refusal, &mut line) {
+        Ok(()) => Stop::Refused(line),
+        Err(NoMemory) => Stop::NoMemory,
+    }
+}
+
+fn bad_manifest(alloc: Global, extension: &str, field: ManifestPath) -> Stop
+    ensures { Prints (refused_file_line (record { file = spec.manifest_name extension.now; cause = spec.bad_manifest field })) result }
+{
+    match write_manifest(alloc, extension, field) {
+        Ok(line) => Stop::Refused(line),
+        Err(NoMemory) => Stop::NoMemory,
+    }
+}
+
+// What the manifest of an extension prints that has a field at fault.
+fn write_manifest(alloc: Global, extension: &str, field: ManifestPath) -> Result<String, NoMemory>
+    ensures { IfOk result (λ line. string_bytes line ≡ refused_file_line (record { file = spec.manifest_name extension.now; cause = spec.bad_manifest field })) }
+{
+    let mut file = String::from_str(alloc, extension)?;
+    file.push_str("/manifest.json")?;
+    let mut line = String::new(alloc);
+    write_bad_manifest(alloc, file.as_str(), field, &mut line)?;
+    Ok(line)
+}
+
+fn load_as_list<F: Shelf, H: RegexHost>(
+    alloc: Global,
+    name: &str,
+    file: &str,
+    shelf: &mut F,
+    host: &mut H,
+) -> Result<Extension, Stop>
+    ensures reads { IfOk result (λ extension. IfSome (F.Source.files shelf.old) (λ files. HoldsListExtension files name.now file.now extension)) }
+    ensures stops { IfErr result (StopsInOne (F.Source.files shelf.old) (Rose (H.faults host.old) (H.faults host.new)) (list name.now file.now)) }
+    ensures files { F.Source.files shelf.new ≡ F.Source.files shelf.old }
+    ensures later { H.faults host.old ≤ H.faults host.new }
+    ensures cause { HasCauseOf Stop.ReadFault (F.Source.faults shelf.old) (F.Source.faults shelf.new) result }
+{
+    match load_list(alloc, file, shelf, host) {
+        Ok(list) => match extension_of(alloc, name, list) {
+            Ok(extension) => Ok(extension),
+            Err(NoMemory) => Err(Stop::NoMemory),
+        },
+        Err(stop) => Err(stop),
+    }
+}
+
+// The list as the extension of this name, whose one ruleset is `list`.
+fn extension_of(alloc: Global, name: &str, list: CompiledList) -> Result<Extension, NoMemory>
+    ensures { IfOk result (λ extension. extension ≡ extension_in name.now list) }
+{
+    let id = Text::build(String::from_str(alloc, "list")?);
+    let set = RuleSet::build(id, true, list.rules, list.report.origins, Vec::new(alloc));
+    let mut sets = Vec::new(alloc);
+    sets.push(set)?;
+    let name = Text::build(String::from_str(alloc, name)?);
+    Ok(Extension::build(name, sets, Vec::new(alloc), Vec::new(alloc)))
+}
