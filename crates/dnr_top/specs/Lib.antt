@@ -1,5 +1,2 @@
-pub mod Output
-pub mod Words
 pub mod Answers
-pub mod Load
 pub mod Run

@@ -1,31 +1,38 @@
 -- What a run does.
-use Rattle.std.specs.Prelude.{◌≡◌, ℕ, List, [], ◌∷◌, slice_get, Option}
+use Rattle.std.specs.Prelude.{◌≡◌, ◌⊎◌, ℕ, List, [], ◌∷◌, ◌++◌, codes, length, slice_get, Bool, Option, Ok, Err, string_bytes}
 use Rattle.std.specs.Io.KnownBytes.{Appends}
 use Rattle.dnr_base.specs.Faults.{Rose, Count}
 use Rattle.dnr_io.specs.Sink.{AppendsPart}
-use Rattle.generation.specs.Basis.{Basis}
-use Rattle.rule_spec.specs.Rule.{Rule}
-use Rattle.session_spec.specs.Out.{Counts, HasRisen, opening}
-use Rattle.session_spec.specs.Refusals.{refusal_line}
 use Rattle.dnr_spec.specs.declared.status.Status.{Status}
 use Rattle.dnr_spec.specs.declared.status.Status.TheVariants as status
-use Rattle.rules_file.specs.Answers.{refusal_seen}
-use Rattle.dnr_top.specs.declared.load.LoadRefusal.{LoadRefusal}
-use Rattle.dnr_top.specs.declared.load.LoadRefusal.TheVariants.{BadFile, ReadFault, FileTooLong, NoMemory}
+use Rattle.generation.specs.Basis.{Basis}
+use Rattle.json_spec.specs.Written.{written as json_text}
+use Rattle.load_spec.specs.Files.{Files}
+use Rattle.load_spec.specs.Installing.{RefusedInstall, opening}
+use Rattle.rule_spec.specs.State.{State}
+use Rattle.session_load.specs.declared.lists.CompiledList.{CompiledList}
+use Rattle.session_load.specs.declared.stop.Stop.{Stop}
+use Rattle.session_load.specs.declared.stop.Stop.TheVariants as stop
+use Rattle.session_spec.specs.Answers.{Setting}
+use Rattle.session_spec.specs.Loading.{Loaded}
+use Rattle.session_spec.specs.Out.{Counts, HasRisen, HostRose, HoldsTooMuch, Session, LoadsFor, postpones, SessionWrites, SessionHasTooMuch, EndsBy}
+use Rattle.session_spec.specs.Refusals.{install_line, count_line, unsupported_lines}
+use Rattle.dnr_top.specs.Answers.{WritesAnswers, WritesAnswersInPart}
 
 -- what was written is as it may be
 abbrev pub IsRun : Option (List ℕ) → Option (List ℕ) → (List ℕ → Type 0) → Type 0
 IsRun before now may_be = (written : List ℕ) × Appends before now written × may_be written
 
--- what these rules decide by: the extension `local` with them alone, and no suffix list
-abbrev pub opening_basis : List Rule → Basis
-opening_basis rules = record { suffixes = []; state = opening rules }
+-- ---- counts of faults
+
+abbrev pub count : ℕ → ℕ → Count
+count before now = record { before = before; now = now }
 
 -- the counts of hosts, each before the call and after it
 abbrev pub host_counts : {H : Type 0} → (H → ℕ) → List H → List H → List Count
 host_counts faults [] now = []
 host_counts faults (host ∷ hosts) [] = []
-host_counts faults (host ∷ hosts) (other ∷ now) = record { before = faults host; now = faults other } ∷ host_counts faults hosts now
+host_counts faults (host ∷ hosts) (other ∷ now) = count (faults host) (faults other) ∷ host_counts faults hosts now
 
 -- the count of the host at a place rose
 abbrev pub RoseAt : {H : Type 0} → (H → ℕ) → List H → List H → ℕ → Type 0
@@ -34,41 +41,74 @@ RoseAt faults hosts now place = HasRisen (slice_get (host_counts faults hosts no
 -- the counts of the shelf and of the sink, each before the call and after it, and those of the hosts
 abbrev pub counts : ℕ → ℕ → ℕ → ℕ → List Count → Counts
 counts shelf_before shelf_now sink_before sink_now hosts = record {
-  shelf = record { before = shelf_before; now = shelf_now };
-  sink = record { before = sink_before; now = sink_now };
+  shelf = count shelf_before shelf_now;
+  sink = count sink_before sink_now;
   hosts = hosts;
 }
 
--- a file was refused, and that was written or could not be
-abbrev pub IsRefusalStatus : Status → Type 0
-IsRefusalStatus status.Done = ⊥
-IsRefusalStatus status.Refused = Unit {0}
-IsRefusalStatus status.Usage = ⊥
-IsRefusalStatus status.ReadFault = ⊥
-IsRefusalStatus status.WriteFault = Unit {0}
-IsRefusalStatus status.NoMemory = Unit {0}
-IsRefusalStatus status.FileTooLong = ⊥
+-- ---- how a run ends that writes one text
 
--- a file was counted, and that was written or could not be
-abbrev pub IsCountStatus : Status → Type 0
-IsCountStatus status.Done = Unit {0}
-IsCountStatus status.Refused = ⊥
-IsCountStatus status.Usage = ⊥
-IsCountStatus status.ReadFault = ⊥
-IsCountStatus status.WriteFault = Unit {0}
-IsCountStatus status.NoMemory = Unit {0}
-IsCountStatus status.FileTooLong = ⊥
+-- all of it was written and the run ends so, or the sink failed and has taken some first bytes of it
+abbrev pub EndsText : Option (List ℕ) → Option (List ℕ) → Count → List ℕ → Status → Status → Type 0
+EndsText before now sink text all ended =
+    ((ended ≡ all) × Appends before now text)
+    ⊎ ((ended ≡ status.WriteFault) × Rose sink.before sink.now × AppendsPart before now text)
 
--- all of a line was written where the run ends so, and some first bytes of it otherwise; `sink` is the sink's count
-pub record WritesLine (before now : Option (List ℕ)) (sink : Count) (line : List ℕ) (all ended : Status) : Type 0 where
-  pub written : ended ≡ all → Appends before now line
-  pub part : AppendsPart before now line
-  pub write_fault : ended ≡ status.WriteFault → Rose sink.before sink.now
+-- how a run ends that stops before it answers, and what it writes
+abbrev pub EndsStop : Option (List ℕ) → Option (List ℕ) → Count → Stop → Status → Type 0
+EndsStop before now sink (stop.Refused line) ended = EndsText before now sink (string_bytes line) status.Refused ended
+EndsStop before now sink stop.ReadFault ended = (ended ≡ status.ReadFault) × (now ≡ before)
+EndsStop before now sink stop.FileTooLong ended = (ended ≡ status.FileTooLong) × (now ≡ before)
+EndsStop before now sink stop.NoMemory ended = (ended ≡ status.NoMemory) × (now ≡ before)
 
--- how a run ends whose rules file was not loaded, and what it writes
-abbrev pub StopsFor : LoadRefusal → List ℕ → Option (List ℕ) → Option (List ℕ) → Count → Status → Type 0
-StopsFor (BadFile refusal) name before now sink ended =
-    IsRefusalStatus ended × WritesLine before now sink (refusal_line name (refusal_seen refusal)) status.Refused ended
-StopsFor ReadFault name before now sink ended = (ended ≡ status.ReadFault) × (now ≡ before)
-StopsFor FileTooLong name before now sink ended = (ended ≡ status.FileTooLong) × (now ≡ before)
-StopsFor NoMemory name before now sink ended = (ended ≡ status.NoMemory) × (now ≡ before)
+-- the text was written as the end of a run, or memory ran out for it
+abbrev pub EndsWith : Option (List ℕ) → Option (List ℕ) → Count → List ℕ → Status → Type 0
+EndsWith before now sink text ended =
+    EndsText before now sink text status.Done ended ⊎ ((ended ≡ status.NoMemory) × (now ≡ before))
+
+-- what `compile` prints of a list
+abbrev pub text_of : CompiledList → List ℕ
+text_of list =
+    unsupported_lines list.report.lines ++ count_line (length list.rules.items) ++ json_text list.rules.items ++ codes "\n"
+
+-- ---- sessions
+
+-- what was loaded is in force
+pub record IsOpened (loaded : Loaded) (basis : Basis) : Type 0 where
+  pub suffixes : basis.suffixes ≡ loaded.suffixes
+  pub installed : opening loaded.extensions ≡ Ok basis.state
+
+-- an extension is not installed, and this line says so
+pub record PrintsInstall (loaded : Loaded) (line : List ℕ) : Type 0 where
+  pub refused : RefusedInstall
+  pub judged : opening loaded.extensions ≡ Err refused
+  pub same : line ≡ install_line refused
+
+-- all is installed, and the script is too long
+pub record HasLongLines (files : Files) (loaded : Loaded) (script : List ℕ) : Type 0 where
+  pub first : State
+  pub installed : opening loaded.extensions ≡ Ok first
+  pub script : HoldsTooMuch files script
+
+-- how a session ends that was answered, and what it wrote
+abbrev pub EndsAnswers : Option (List ℕ) → Option (List ℕ) → Count → Setting → State → List (List ℕ) → Status → Type 0
+EndsAnswers before now sink setting first lines ended =
+    ((ended ≡ status.Done) × WritesAnswers before now setting first lines)
+    ⊎ ((ended ≡ status.WriteFault) × Rose sink.before sink.now × WritesAnswersInPart before now setting first lines)
+    ⊎ ((ended ≡ status.NoMemory) × WritesAnswersInPart before now setting first lines)
+
+abbrev pub SessionEnds : Files → Counts → Session → List ℕ → Status → List ℕ → Type 0
+SessionEnds files counts session script = EndsBy counts (SessionWrites files counts session script) (SessionHasTooMuch files session script)
+
+-- The counts of a whole run say no less than what was seen of its last part: of the shelf, of the sink, and of the host
+-- that decides.
+pub record SaysNoLess (counts : Counts) (shelf sink : Count) (rose : Type 0) : Type 0 where
+  pub shelf : Rose shelf.before shelf.now → Rose counts.shelf.before counts.shelf.now
+  pub sink : counts.sink ≡ sink
+  pub host : rose → HostRose counts 1
+
+-- whichever session this was loaded for, its run may end so
+abbrev pub Serves : Files → Loaded → Bool → List ℕ → Option (List ℕ) → Option (List ℕ) → Count → Count → Type 0 → Status → Type 0
+Serves files loaded postponed script before now shelf sink rose ended =
+    (session : Session) (counts : Counts) → LoadsFor files session loaded → postpones session ≡ postponed → SaysNoLess counts shelf sink rose
+    → IsRun before now (SessionEnds files counts session script ended)
