@@ -1,24 +1,24 @@
 -- How a run may end, by what was read and written on the way.
-use Rattle.std.proofs.Common.{◌≡◌, ℕ, List, [], ◌++◌, length, Option, Some, None, refl, sym, inl, inr, append-nil, subst, ⊎_elim}
+use Rattle.std.proofs.Common.{◌≡◌, ◌≢◌, ◌⊎◌, ℕ, List, [], ◌++◌, Bool, Option, Some, None, refl, sym, inl, inr, append-nil, subst, string_bytes}
 use Rattle.std.specs.Prelude.{IfSome}
 use Rattle.std.specs.Io.KnownBytes.{Appends}
-use Rattle.dnr_base.specs.Faults.{Rose}
+use Rattle.dnr_base.specs.Faults.{Rose, Count}
 use Rattle.dnr_io.specs.Sink.{AppendsPart}
 use Rattle.dnr_spec.specs.declared.status.Status.{Status}
 use Rattle.dnr_spec.specs.declared.status.Status.TheVariants as status
-use Rattle.rule_spec.specs.declared.rule_kind.RuleKind.{RuleKind}
-use Rattle.rule_spec.specs.declared.rule_kind.RuleKind.TheVariants.{Static}
-use Rattle.rule_spec.specs.Rule.{Rule}
+use Rattle.dnr_spec.specs.Suffixes.{SuffixRule}
 use Rattle.generation.specs.Basis.{Basis}
-use Rattle.rules_file.specs.Answers.{refusal_seen}
-use Rattle.session_spec.specs.Words.{Task, match_files, check_file}
-use Rattle.session_spec.specs.Refusals.{refusal_line, count_line}
-use Rattle.session_spec.specs.Out.{Files, Counts, HostRose, Writes, Ends, HasTooMuch, HoldsRules, HoldsLongFile, HoldsLines, HoldsTooMuch, IsRefused, IsBeginning, opening}
-use Rattle.dnr_top.specs.declared.load.LoadRefusal.{LoadRefusal}
-use Rattle.dnr_top.specs.declared.load.LoadRefusal.TheVariants.{BadFile, ReadFault, FileTooLong, NoMemory}
+use Rattle.load_spec.specs.Files.{Files}
+use Rattle.rule_spec.specs.State.{State}
+use Rattle.session_load.specs.declared.stop.Stop.{Stop}
+use Rattle.session_load.specs.declared.stop.Stop.TheVariants as stop
+use Rattle.session_load.specs.Stops.{StopsAs}
+use Rattle.session_load.proofs.Stopped.{stops_map}
+use Rattle.session_spec.specs.Answers.{Setting, Answers}
+use Rattle.session_spec.specs.Loading.{Loaded}
+use Rattle.session_spec.specs.Out.{Counts, HostRose, HoldsLines, HoldsTooMuch, Session, LoadsFor, postpones, setting_for, IsServed, SaysAll, RefusesSession, SessionWrites, IsBeginning, SessionHasTooMuch, EndsBy}
 use Rattle.dnr_top.specs.Answers.{setting_by, WritesAnswers, WritesAnswersInPart}
-use Rattle.dnr_top.specs.Load.{Refuses}
-use Rattle.dnr_top.specs.Run.{IsRun, IsRefusalStatus, IsCountStatus, WritesLine, StopsFor, opening_basis}
+use Rattle.dnr_top.specs.Run.{IsRun, EndsText, EndsStop, EndsWith, EndsAnswers, IsOpened, PrintsInstall, HasLongLines, SessionEnds, SaysNoLess, Serves}
 use Rattle.dnr_top.proofs.Answered.{answers_wider}
 
 -- ---- what was written
@@ -30,177 +30,134 @@ nothing_written (Some bytes) = sym (append-nil bytes)
 still_nothing : (before now : Option (List ℕ)) → now ≡ before → Appends before now []
 still_nothing before now same = subst (λ (taken : Option (List ℕ)). Appends before taken []) (sym same) (nothing_written before)
 
--- all of these bytes are the first of them
-pub whole_in_part : (before now : Option (List ℕ)) (bytes : List ℕ) → Appends before now bytes → AppendsPart before now bytes
-whole_in_part before now bytes taken = record { sent = bytes; rest = []; split = sym (append-nil bytes); taken = taken }
+-- some first bytes were written of a text that says all
+begins : (Writes : Status → List ℕ → Type 0) (all : Status) (before now : Option (List ℕ)) (text : List ℕ)
+    → Writes all text → (part : AppendsPart before now text) → IsBeginning Writes part.sent
+begins Writes all before now text whole part =
+    record { rest = part.rest; ended = all; whole = subst (λ (l : List ℕ). Writes all l) part.split whole }
 
--- some first bytes were written of a line that says all
-line_begins : (files : Files) (counts : Counts) (task : Task) (before now : Option (List ℕ)) (line : List ℕ) (ended : Status)
-    → Writes files counts task ended line → (part : AppendsPart before now line) → IsBeginning files counts task part.sent
-line_begins files counts task before now line ended whole part =
-    record { rest = part.rest; ended = ended; whole = subst (λ (l : List ℕ). Writes files counts task ended l) part.split whole }
+-- ---- a text
 
--- ---- a rules file that is refused, or counted
+done_ends : (counts : Counts) (Writes : Status → List ℕ → Type 0) (TooMuch : Type 0) (before now : Option (List ℕ)) (text : List ℕ) (ended : Status)
+    → Writes status.Done text → EndsText before now counts.sink text status.Done ended → IsRun before now (EndsBy counts Writes TooMuch ended)
+done_ends counts Writes TooMuch before now text ended whole (inl (is, taken)) =
+    subst (λ (s : Status). IsRun before now (EndsBy counts Writes TooMuch s)) (sym is) (text, taken, whole)
+done_ends counts Writes TooMuch before now text ended whole (inr (is, rose, part)) =
+    subst (λ (s : Status). IsRun before now (EndsBy counts Writes TooMuch s)) (sym is)
+    (part.sent, part.taken, (rose, begins Writes status.Done before now text whole part))
 
-refused_ends : (files : Files) (counts : Counts) (task : Task) (before now : Option (List ℕ)) (line : List ℕ) (ended : Status)
-    → Writes files counts task status.Refused line → IsRefusalStatus ended → WritesLine before now counts.sink line status.Refused ended
-    → IsRun before now (Ends files counts task ended)
-refused_ends files counts task before now line status.Done whole only end = absurd only
-refused_ends files counts task before now line status.Refused whole only end = (line, end.written refl, whole)
-refused_ends files counts task before now line status.Usage whole only end = absurd only
-refused_ends files counts task before now line status.ReadFault whole only end = absurd only
-refused_ends files counts task before now line status.WriteFault whole only end =
-    (end.part.sent, end.part.taken, (end.write_fault refl, line_begins files counts task before now line status.Refused whole end.part))
-refused_ends files counts task before now line status.NoMemory whole only end =
-    (end.part.sent, end.part.taken, inr (line_begins files counts task before now line status.Refused whole end.part))
-refused_ends files counts task before now line status.FileTooLong whole only end = absurd only
+refused_ends : (counts : Counts) (Writes : Status → List ℕ → Type 0) (TooMuch : Type 0) (before now : Option (List ℕ)) (text : List ℕ) (ended : Status)
+    → Writes status.Refused text → EndsText before now counts.sink text status.Refused ended → IsRun before now (EndsBy counts Writes TooMuch ended)
+refused_ends counts Writes TooMuch before now text ended whole (inl (is, taken)) =
+    subst (λ (s : Status). IsRun before now (EndsBy counts Writes TooMuch s)) (sym is) (text, taken, whole)
+refused_ends counts Writes TooMuch before now text ended whole (inr (is, rose, part)) =
+    subst (λ (s : Status). IsRun before now (EndsBy counts Writes TooMuch s)) (sym is)
+    (part.sent, part.taken, (rose, begins Writes status.Refused before now text whole part))
 
-counted_ends : (files : Files) (counts : Counts) (task : Task) (before now : Option (List ℕ)) (line : List ℕ) (ended : Status)
-    → Writes files counts task status.Done line → IsCountStatus ended → WritesLine before now counts.sink line status.Done ended
-    → IsRun before now (Ends files counts task ended)
-counted_ends files counts task before now line status.Done whole only end = (line, end.written refl, whole)
-counted_ends files counts task before now line status.Refused whole only end = absurd only
-counted_ends files counts task before now line status.Usage whole only end = absurd only
-counted_ends files counts task before now line status.ReadFault whole only end = absurd only
-counted_ends files counts task before now line status.WriteFault whole only end =
-    (end.part.sent, end.part.taken, (end.write_fault refl, line_begins files counts task before now line status.Done whole end.part))
-counted_ends files counts task before now line status.NoMemory whole only end =
-    (end.part.sent, end.part.taken, inr (line_begins files counts task before now line status.Done whole end.part))
-counted_ends files counts task before now line status.FileTooLong whole only end = absurd only
+silent_memory : (counts : Counts) (Writes : Status → List ℕ → Type 0) (TooMuch : Type 0) (before now : Option (List ℕ)) (ended : Status)
+    → ended ≡ status.NoMemory → now ≡ before → IsRun before now (EndsBy counts Writes TooMuch ended)
+silent_memory counts Writes TooMuch before now ended is same =
+    subst (λ (s : Status). IsRun before now (EndsBy counts Writes TooMuch s)) (sym is) ([], still_nothing before now same, inl refl)
 
--- what a refused file writes, and a file that is too long, are of this task
-pub record IsTaskOf (files : Files) (counts : Counts) (kind : RuleKind) (name : List ℕ) (task : Task) : Type 0 where
-  pub refused : (written : List ℕ) → IsRefused files counts kind name written → Writes files counts task status.Refused written
-  pub too_long : HoldsLongFile files name → HasTooMuch files task
+-- the text is what the command writes to the last byte
+pub text_ends : (counts : Counts) (Writes : Status → List ℕ → Type 0) (TooMuch : Type 0) (before now : Option (List ℕ)) (text : List ℕ) (ended : Status)
+    → Writes status.Done text → EndsWith before now counts.sink text ended → IsRun before now (EndsBy counts Writes TooMuch ended)
+text_ends counts Writes TooMuch before now text ended whole (inl written) = done_ends counts Writes TooMuch before now text ended whole written
+text_ends counts Writes TooMuch before now text ended whole (inr (is, same)) = silent_memory counts Writes TooMuch before now ended is same
 
-match_is_of : (files : Files) (counts : Counts) (rules script : List ℕ) → IsTaskOf files counts Static rules (match_files rules script)
-match_is_of files counts rules script = record { refused = λ written refused. refused; too_long = λ long. inl long }
+-- ---- a stop
 
-check_is_of : (files : Files) (counts : Counts) (kind : RuleKind) (rules : List ℕ) → IsTaskOf files counts kind rules (check_file kind rules)
-check_is_of files counts kind rules = record { refused = λ written refused. refused; too_long = λ long. long }
+pub stop_ends : (counts : Counts) (Done Refused : List ℕ → Type 0) (TooMuch : Type 0) (before now : Option (List ℕ)) (s : Stop) (ended : Status)
+    → StopsAs Refused TooMuch s → (s ≡ stop.ReadFault → Rose counts.shelf.before counts.shelf.now) → EndsStop before now counts.sink s ended
+    → IsRun before now (EndsBy counts (SaysAll Done Refused) TooMuch ended)
+stop_ends counts Done Refused TooMuch before now (stop.Refused line) ended why fault ends =
+    refused_ends counts (SaysAll Done Refused) TooMuch before now (string_bytes line) ended why ends
+stop_ends counts Done Refused TooMuch before now stop.ReadFault ended why fault (is, same) =
+    subst (λ (e : Status). IsRun before now (EndsBy counts (SaysAll Done Refused) TooMuch e)) (sym is)
+    ([], still_nothing before now same, (fault refl, refl))
+stop_ends counts Done Refused TooMuch before now stop.FileTooLong ended why fault (is, same) =
+    subst (λ (e : Status). IsRun before now (EndsBy counts (SaysAll Done Refused) TooMuch e)) (sym is)
+    ([], still_nothing before now same, (why, refl))
+stop_ends counts Done Refused TooMuch before now stop.NoMemory ended why fault (is, same) =
+    silent_memory counts (SaysAll Done Refused) TooMuch before now ended is same
 
-stopped_ends : (files : Files) (counts : Counts) (kind : RuleKind) (name : List ℕ) (task : Task) (before now : Option (List ℕ)) (rose : Type 0) (refusal : LoadRefusal) (ended : Status)
-    → IsTaskOf files counts kind name task → (rose → HostRose counts 0) → Refuses files kind name rose refusal
-    → (refusal ≡ ReadFault → Rose counts.shelf.before counts.shelf.now) → StopsFor refusal name before now counts.sink ended
-    → IsRun before now (Ends files counts task ended)
-stopped_ends files counts kind name task before now rose (BadFile refusal) ended of host why fault stops =
-    refused_ends files counts task before now (refusal_line name (refusal_seen refusal)) ended
-    (of.refused (refusal_line name (refusal_seen refusal)) (record {
-      refusal = refusal_seen refusal;
-      broken = ⊎_elim (λ broken. inl broken) (λ stopped. inr (host stopped.0, stopped.1)) why;
-      output = refl;
-    })) stops.0 stops.1
-stopped_ends files counts kind name task before now rose ReadFault ended of host why fault stops =
-    subst (λ (s : Status). IsRun before now (Ends files counts task s)) (sym stops.0)
-    ([], still_nothing before now stops.1, (fault refl, refl))
-stopped_ends files counts kind name task before now rose FileTooLong ended of host why fault stops =
-    subst (λ (s : Status). IsRun before now (Ends files counts task s)) (sym stops.0)
-    ([], still_nothing before now stops.1, (of.too_long why, refl))
-stopped_ends files counts kind name task before now rose NoMemory ended of host why fault stops =
-    subst (λ (s : Status). IsRun before now (Ends files counts task s)) (sym stops.0)
-    ([], still_nothing before now stops.1, inl refl)
+-- ---- a session
 
--- ---- the same for a shelf that may tell what its files hold
+sink_of : (before now : Option (List ℕ)) (s : Stop) (ended : Status) (a b : Count) → a ≡ b → EndsStop before now b s ended → EndsStop before now a s ended
+sink_of before now s ended a b same ends = subst (λ (sink : Count). EndsStop before now sink s ended) (sym same) ends
 
-pub match_stopped : (known : Option Files) (counts : Counts) (rules_name script_name : List ℕ) (before now : Option (List ℕ)) (rose : Type 0) (refusal : LoadRefusal) (ended : Status)
-    → (rose → HostRose counts 0) → IfSome known (λ files. Refuses files Static rules_name rose refusal)
-    → (refusal ≡ ReadFault → Rose counts.shelf.before counts.shelf.now) → StopsFor refusal rules_name before now counts.sink ended
-    → IfSome known (λ files. IsRun before now (Ends files counts (match_files rules_name script_name) ended))
-match_stopped None counts rules_name script_name before now rose refusal ended host why fault stops = tt
-match_stopped (Some files) counts rules_name script_name before now rose refusal ended host why fault stops =
-    stopped_ends files counts Static rules_name (match_files rules_name script_name) before now rose refusal ended
-    (match_is_of files counts rules_name script_name) host why fault stops
+-- an extension is not installed
+pub not_installed : (known : Option Files) (loaded : Loaded) (postponed : Bool) (script : List ℕ) (before now : Option (List ℕ)) (shelf sink : Count) (rose : Type 0) (s : Stop) (ended : Status)
+    → StopsAs (PrintsInstall loaded) ⊥ s → (s ≡ stop.ReadFault → ⊥) → EndsStop before now sink s ended
+    → IfSome known (λ files. Serves files loaded postponed script before now shelf sink rose ended)
+not_installed None loaded postponed script before now shelf sink rose s ended why no_fault ends = tt
+not_installed (Some files) loaded postponed script before now shelf sink rose s ended why no_fault ends = λ session counts loads post less.
+    stop_ends counts (IsServed files counts session script) (RefusesSession files counts session) (SessionHasTooMuch files session script) before now s ended
+    (stops_map (PrintsInstall loaded) (RefusesSession files counts session) ⊥ (SessionHasTooMuch files session script) s
+    (λ line install. inr (record { loaded = loaded; read = loads; refused = install.refused; judged = install.judged; output = install.same })) (λ none. absurd none) why)
+    (λ is. absurd (no_fault is)) (sink_of before now s ended counts.sink sink less.sink ends)
 
-pub check_stopped : (known : Option Files) (counts : Counts) (kind : RuleKind) (name : List ℕ) (before now : Option (List ℕ)) (rose : Type 0) (refusal : LoadRefusal) (ended : Status)
-    → (rose → HostRose counts 0) → IfSome known (λ files. Refuses files kind name rose refusal)
-    → (refusal ≡ ReadFault → Rose counts.shelf.before counts.shelf.now) → StopsFor refusal name before now counts.sink ended
-    → IfSome known (λ files. IsRun before now (Ends files counts (check_file kind name) ended))
-check_stopped None counts kind name before now rose refusal ended host why fault stops = tt
-check_stopped (Some files) counts kind name before now rose refusal ended host why fault stops =
-    stopped_ends files counts kind name (check_file kind name) before now rose refusal ended
-    (check_is_of files counts kind name) host why fault stops
+-- the script is not read
+pub not_started : (known : Option Files) (loaded : Loaded) (basis : Basis) (postponed : Bool) (script : List ℕ) (before now : Option (List ℕ)) (shelf sink : Count) (rose : Type 0) (s : Stop) (ended : Status)
+    → IsOpened loaded basis → IfSome known (λ files. StopsAs (λ line. ⊥) (HoldsTooMuch files script) s) → (s ≡ stop.ReadFault → Rose shelf.before shelf.now) → EndsStop before now sink s ended
+    → IfSome known (λ files. Serves files loaded postponed script before now shelf sink rose ended)
+not_started None loaded basis postponed script before now shelf sink rose s ended opened why fault ends = tt
+not_started (Some files) loaded basis postponed script before now shelf sink rose s ended opened why fault ends = λ session counts loads post less.
+    stop_ends counts (IsServed files counts session script) (RefusesSession files counts session) (SessionHasTooMuch files session script) before now s ended
+    (stops_map (λ line. ⊥) (RefusesSession files counts session) (HoldsTooMuch files script) (SessionHasTooMuch files session script) s
+    (λ line none. absurd none)
+    (λ long. inr (record { loaded = loaded; first = basis.state; opens = record { read = loads; installed = opened.installed }; script = long })) why)
+    (λ is. less.shelf (fault is)) (sink_of before now s ended counts.sink sink less.sink ends)
 
-pub counted_run : (known : Option Files) (counts : Counts) (kind : RuleKind) (name : List ℕ) (before now : Option (List ℕ)) (rules : List Rule) (count : ℕ) (ended : Status)
-    → IfSome known (λ files. HoldsRules files kind name rules) → count ≡ length rules → IsCountStatus ended
-    → (ended ≡ status.Done → Appends before now (count_line count)) → AppendsPart before now (count_line count)
-    → (ended ≡ status.WriteFault → Rose counts.sink.before counts.sink.now)
-    → IfSome known (λ files. IsRun before now (Ends files counts (check_file kind name) ended))
-counted_run None counts kind name before now rules count ended loaded same only line part fault = tt
-counted_run (Some files) counts kind name before now rules count ended loaded same only line part fault =
-    counted_ends files counts (check_file kind name) before now (count_line (length rules)) ended
-    (record { rules = rules; loaded = loaded; output = refl }) only
-    (subst (λ (n : ℕ). WritesLine before now counts.sink (count_line n) status.Done ended) same (record { written = line; part = part; write_fault = fault }))
+-- answers by what was seen are answers by what the counts of the run say
+answers_for : (counts : Counts) (session : Session) (loaded : Loaded) (basis : Basis) (postponed : Bool) (rose : Type 0) (first : State) (lines : List (List ℕ)) (written : List ℕ) (last : State)
+    → IsOpened loaded basis → postpones session ≡ postponed → (rose → HostRose counts 1) → Answers (setting_by basis rose postponed) first 1 lines written last
+    → Answers (setting_for counts session loaded.suffixes) first 1 lines written last
+answers_for counts session loaded basis postponed rose first lines written last opened post host answers =
+    subst (λ (updates : Bool). Answers (record { suffixes = loaded.suffixes; rose = HostRose counts 1; postpones = updates }) first 1 lines written last) (sym post)
+    (subst (λ (suffixes : List SuffixRule). Answers (record { suffixes = suffixes; rose = HostRose counts 1; postpones = postponed }) first 1 lines written last) opened.suffixes
+    (answers_wider basis.suffixes postponed rose (HostRose counts 1) host first 1 lines written last answers))
 
--- ---- a script
+served : (files : Files) (counts : Counts) (session : Session) (loaded : Loaded) (basis : Basis) (postponed : Bool) (rose : Type 0) (script : List ℕ) (lines : List (List ℕ)) (written : List ℕ) (last : State)
+    → LoadsFor files session loaded → IsOpened loaded basis → HoldsLines files script lines → postpones session ≡ postponed → (rose → HostRose counts 1)
+    → Answers (setting_by basis rose postponed) basis.state 1 lines written last → IsServed files counts session script written
+served files counts session loaded basis postponed rose script lines written last loads opened held post host answers = record {
+  loaded = loaded;
+  first = basis.state;
+  opens = record { read = loads; installed = opened.installed };
+  lines = lines;
+  script = held;
+  last = last;
+  output = answers_for counts session loaded basis postponed rose basis.state lines written last opened post host answers;
+}
 
--- the script of a shelf that still tells what it told
-held_lines : (files : Files) (after : Option Files) (script_name : List ℕ) (lines : List (List ℕ))
-    → after ≡ Some files → IfSome after (λ held. HoldsLines held script_name lines) → HoldsLines files script_name lines
-held_lines files after script_name lines same script =
-    subst (λ (known : Option Files). IfSome known (λ held. HoldsLines held script_name lines)) same script
+begun : (files : Files) (counts : Counts) (session : Session) (loaded : Loaded) (basis : Basis) (postponed : Bool) (rose : Type 0) (script : List ℕ) (lines : List (List ℕ)) (before now : Option (List ℕ))
+    → LoadsFor files session loaded → IsOpened loaded basis → HoldsLines files script lines → postpones session ≡ postponed → (rose → HostRose counts 1)
+    → (part : WritesAnswersInPart before now (setting_by basis rose postponed) basis.state lines) → IsBeginning (SessionWrites files counts session script) part.sent
+begun files counts session loaded basis postponed rose script lines before now loads opened held post host part = record {
+  rest = part.rest;
+  ended = status.Done;
+  whole = served files counts session loaded basis postponed rose script lines (part.sent ++ part.rest) part.last loads opened held post host part.answers;
+}
 
--- a line that is too long ends the run before anything is written
-pub long_line_run : (known after : Option Files) (counts : Counts) (rules_name script_name : List ℕ) (taken : Option (List ℕ)) (rules : List Rule)
-    → after ≡ known → IfSome known (λ files. HoldsRules files Static rules_name rules) → IfSome after (λ files. HoldsTooMuch files script_name)
-    → IfSome known (λ files. IsRun taken taken (Ends files counts (match_files rules_name script_name) status.FileTooLong))
-long_line_run None after counts rules_name script_name taken rules same loaded script = tt
-long_line_run (Some files) after counts rules_name script_name taken rules same loaded script =
-    ([], nothing_written taken, (inr (rules, loaded, subst (λ (known : Option Files). IfSome known (λ held. HoldsTooMuch held script_name)) same script), refl))
+-- the lines were answered, or some of them
+answered_ends : (files : Files) (counts : Counts) (session : Session) (loaded : Loaded) (basis : Basis) (postponed : Bool) (rose : Type 0) (script : List ℕ) (lines : List (List ℕ)) (before now : Option (List ℕ)) (ended : Status)
+    → LoadsFor files session loaded → IsOpened loaded basis → HoldsLines files script lines → postpones session ≡ postponed → (rose → HostRose counts 1)
+    → EndsAnswers before now counts.sink (setting_by basis rose postponed) basis.state lines ended → IsRun before now (SessionEnds files counts session script ended)
+answered_ends files counts session loaded basis postponed rose script lines before now ended loads opened held post host (inl (is, all)) =
+    subst (λ (e : Status). IsRun before now (SessionEnds files counts session script e)) (sym is)
+    (all.written, all.taken, served files counts session loaded basis postponed rose script lines all.written all.last loads opened held post host all.answers)
+answered_ends files counts session loaded basis postponed rose script lines before now ended loads opened held post host (inr (inl (is, fault, part))) =
+    subst (λ (e : Status). IsRun before now (SessionEnds files counts session script e)) (sym is)
+    (part.sent, part.taken, (fault, begun files counts session loaded basis postponed rose script lines before now loads opened held post host part))
+answered_ends files counts session loaded basis postponed rose script lines before now ended loads opened held post host (inr (inr (is, part))) =
+    subst (λ (e : Status). IsRun before now (SessionEnds files counts session script e)) (sym is)
+    (part.sent, part.taken, inr (begun files counts session loaded basis postponed rose script lines before now loads opened held post host part))
 
--- all lines were answered
-pub served_run : (known after : Option Files) (counts : Counts) (rules_name script_name : List ℕ) (before now : Option (List ℕ)) (rules : List Rule) (lines : List (List ℕ)) (basis : Basis) (rose : Type 0)
-    → after ≡ known → IfSome known (λ files. HoldsRules files Static rules_name rules) → IfSome after (λ files. HoldsLines files script_name lines)
-    → basis ≡ opening_basis rules → (rose → HostRose counts 1) → WritesAnswers before now (setting_by basis rose) basis.state lines
-    → IfSome known (λ files. IsRun before now (Ends files counts (match_files rules_name script_name) status.Done))
-served_run None after counts rules_name script_name before now rules lines basis rose same loaded script begins host all = tt
-served_run (Some files) after counts rules_name script_name before now rules lines basis rose same loaded script begins host all =
-    let these = subst (λ (b : Basis). WritesAnswers before now (setting_by b rose) b.state lines) begins all in (
-      these.written,
-      these.taken,
-      record {
-        rules = rules;
-        loaded = loaded;
-        lines = lines;
-        script = held_lines files after script_name lines same script;
-        last = these.last;
-        output = answers_wider [] rose (HostRose counts 1) host (opening rules) 1 lines these.written these.last these.answers;
-      },
-    )
-
--- the answers were written in part, since the sink failed or memory ran out
-stops_at : (files : Files) (after : Option Files) (counts : Counts) (rules_name script_name : List ℕ) (before now : Option (List ℕ)) (rules : List Rule) (lines : List (List ℕ)) (rose : Type 0)
-    → after ≡ Some files → HoldsRules files Static rules_name rules → IfSome after (λ files. HoldsLines files script_name lines)
-    → (rose → HostRose counts 1) → (part : WritesAnswersInPart before now (setting_by (opening_basis rules) rose) (opening rules) lines)
-    → IsBeginning files counts (match_files rules_name script_name) part.sent
-stops_at files after counts rules_name script_name before now rules lines rose same loaded script host part =
-    record {
-      rest = part.rest;
-      ended = status.Done;
-      whole = record {
-        rules = rules;
-        loaded = loaded;
-        lines = lines;
-        script = held_lines files after script_name lines same script;
-        last = part.last;
-        output = answers_wider [] rose (HostRose counts 1) host (opening rules) 1 lines (part.sent ++ part.rest) part.last part.answers;
-      };
-    }
-
-pub unwritten_run : (known after : Option Files) (counts : Counts) (rules_name script_name : List ℕ) (before now : Option (List ℕ)) (rules : List Rule) (lines : List (List ℕ)) (basis : Basis) (rose : Type 0)
-    → after ≡ known → IfSome known (λ files. HoldsRules files Static rules_name rules) → IfSome after (λ files. HoldsLines files script_name lines)
-    → basis ≡ opening_basis rules → (rose → HostRose counts 1) → WritesAnswersInPart before now (setting_by basis rose) basis.state lines
-    → Rose counts.sink.before counts.sink.now
-    → IfSome known (λ files. IsRun before now (Ends files counts (match_files rules_name script_name) status.WriteFault))
-unwritten_run None after counts rules_name script_name before now rules lines basis rose same loaded script begins host part sink = tt
-unwritten_run (Some files) after counts rules_name script_name before now rules lines basis rose same loaded script begins host part sink =
-    let these = subst (λ (b : Basis). WritesAnswersInPart before now (setting_by b rose) b.state lines) begins part in
-    (these.sent, these.taken, (sink, stops_at files after counts rules_name script_name before now rules lines rose same loaded script host these))
-
-pub unfinished_run : (known after : Option Files) (counts : Counts) (rules_name script_name : List ℕ) (before now : Option (List ℕ)) (rules : List Rule) (lines : List (List ℕ)) (basis : Basis) (rose : Type 0)
-    → after ≡ known → IfSome known (λ files. HoldsRules files Static rules_name rules) → IfSome after (λ files. HoldsLines files script_name lines)
-    → basis ≡ opening_basis rules → (rose → HostRose counts 1) → WritesAnswersInPart before now (setting_by basis rose) basis.state lines
-    → IfSome known (λ files. IsRun before now (Ends files counts (match_files rules_name script_name) status.NoMemory))
-unfinished_run None after counts rules_name script_name before now rules lines basis rose same loaded script begins host part = tt
-unfinished_run (Some files) after counts rules_name script_name before now rules lines basis rose same loaded script begins host part =
-    let these = subst (λ (b : Basis). WritesAnswersInPart before now (setting_by b rose) b.state lines) begins part in
-    (these.sent, these.taken, inr (stops_at files after counts rules_name script_name before now rules lines rose same loaded script host these))
+pub session_ends : (known : Option Files) (loaded : Loaded) (basis : Basis) (postponed : Bool) (script : List ℕ) (lines : List (List ℕ)) (before now : Option (List ℕ)) (shelf sink : Count) (rose : Type 0) (ended : Status)
+    → IsOpened loaded basis → IfSome known (λ files. HoldsLines files script lines) → EndsAnswers before now sink (setting_by basis rose postponed) basis.state lines ended
+    → IfSome known (λ files. Serves files loaded postponed script before now shelf sink rose ended)
+session_ends None loaded basis postponed script lines before now shelf sink rose ended opened held ends = tt
+session_ends (Some files) loaded basis postponed script lines before now shelf sink rose ended opened held ends = λ session counts loads post less.
+    answered_ends files counts session loaded basis postponed rose script lines before now ended loads opened held post less.host
+    (subst (λ (s : Count). EndsAnswers before now s (setting_by basis rose postponed) basis.state lines ended) (sym less.sink) ends)

@@ -1,1 +1,3 @@
 pub mod NoSuffixes
+pub mod Stopped
+pub mod Read
