@@ -1,3 +1,6 @@
 pub mod Lists
 pub mod Supported
+pub mod Covered
+pub mod Among
+pub mod Meant
 pub mod Rules

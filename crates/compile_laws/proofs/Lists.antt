@@ -149,3 +149,48 @@ module _ {X Y : Type 0} where
   has_flat P f [] h = h
   has_flat P f (x ∷ xs) (inl h) = has_left P (f x) (flat_map f xs) h
   has_flat P f (x ∷ xs) (inr h) = has_right P (f x) (flat_map f xs) (has_flat P f xs h)
+
+-- ---- elements
+
+-- x is an element of the list
+abbrev pub In : {X : Type 0} → X → List X → Type 0
+In x xs = Has (λ y. y ≡ x) xs
+
+module _ {X : Type 0} where
+  pub in_has : (P : X → Type 0) (x : X) (xs : List X) → In x xs → P x → Has P xs
+  in_has P x xs i p = has_weaker (λ y. y ≡ x) P (λ y e. subst P (sym e) p) xs i
+
+  pub has_in : (P : X → Type 0) (xs : List X) → Has P xs → (x : X) × In x xs × P x
+  has_in P [] h = absurd h
+  has_in P (x ∷ xs) (inl h) = (x, inl refl, h)
+  has_in P (x ∷ xs) (inr h) = let r = has_in P xs h in (r.0, inr r.1, r.2)
+
+  pub each_in : (P : X → Type 0) (x : X) (xs : List X) → In x xs → AllByRecursion P xs → P x
+  each_in P x [] i h = absurd i
+  each_in P x (y ∷ ys) (inl e) h = subst P e h.0
+  each_in P x (y ∷ ys) (inr i) h = each_in P x ys i h.1
+
+  pub in_each : (P : X → Type 0) (xs : List X) → ((x : X) → In x xs → P x) → AllByRecursion P xs
+  in_each P [] f = tt
+  in_each P (x ∷ xs) f = (f x (inl refl), in_each P xs (λ y i. f y (inr i)))
+
+  pub any_in : (test : X → Bool) (x : X) (xs : List X) → In x xs → test x ≡ true → list_any test xs ≡ true
+  any_in test x xs i h = any_passes test xs (in_has (λ y. test y ≡ true) x xs i h)
+
+  pub any_out : (test : X → Bool) (xs : List X) → list_any test xs ≡ true → (x : X) × In x xs × (test x ≡ true)
+  any_out test xs h = has_in (λ y. test y ≡ true) xs (has_passing test xs h)
+
+  pub none_in : (test : X → Bool) (x : X) (xs : List X) → list_any test xs ≡ false → In x xs → test x ≡ false
+  none_in test x xs h i = each_in (λ y. test y ≡ false) x xs i (each_fails test xs h)
+
+  pub none_out : (test : X → Bool) (xs : List X) → ((x : X) → In x xs → test x ≡ false) → list_any test xs ≡ false
+  none_out test xs f = none_passes test xs (in_each (λ y. test y ≡ false) xs f)
+
+  pub in_filtered : (test : X → Bool) (x : X) (xs : List X) → In x xs → test x ≡ true → In x (filter test xs)
+  in_filtered test x xs i h = has_filtered (λ y. y ≡ x) test xs (has_weaker (λ y. y ≡ x) (λ y. (test y ≡ true) × (y ≡ x)) (λ y e. (ap test e ∙ h, e)) xs i)
+
+  pub in_unfiltered : (test : X → Bool) (x : X) (xs : List X) → In x (filter test xs) → In x xs × (test x ≡ true)
+  in_unfiltered test x xs i =
+      let h = has_unfiltered (λ y. y ≡ x) test xs i in
+      let r = has_in (λ y. (test y ≡ true) × (y ≡ x)) xs h in
+      (has_weaker (λ y. (test y ≡ true) × (y ≡ x)) (λ y. y ≡ x) (λ y e. e.1) xs h, sym (ap test r.2.1) ∙ r.2.0)
