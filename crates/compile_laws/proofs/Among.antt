@@ -225,7 +225,7 @@ module _ (listed excluded : List (List ℕ)) (host : List ℕ) (are : AreApart l
       let q = in_unfiltered (lies_under meant.domain) other excluded i in
       let p = and_parts (not (bytes_eq other meant.domain)) (covers meant.domain other) q.1 in
       let longer = is_longer meant.domain other (reads_covers meant.domain other p.1)
-          (λ same. true≢false (sym ((bytes_eq-Decides other meant.domain).1 (sym same)) ∙ not-true (bytes_eq other meant.domain) p.0)) in
+      (λ same. true≢false (sym ((bytes_eq-Decides other meant.domain).1 (sym same)) ∙ not-true (bytes_eq other meant.domain) p.0)) in
       let no_longer = meant.longest other q.0 o in
       omega arith))
 

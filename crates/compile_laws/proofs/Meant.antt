@@ -88,6 +88,7 @@ module _ (entries : List DomainEntry) (are : AreEntries entries) (host : List �
           let equal : length longest.entry.domain ≡ length meant.domain = omega arith in
           let same = same_length longest.entry.domain meant.domain host (reads_covers longest.entry.domain host q.1) (reads_covers meant.domain host meant.covered) equal in
           (are_apart entries are).apart meant.domain meant.there (subst (λ (d : List ℕ). In d (excluded_in entries)) same x))
+
       go : (l : List DomainEntry) → covering entries host ≡ l → (names : Names entries false meant.domain) → In names.entry l → longest_is_listed entries l ≡ true
       go [] is names inside = absurd inside
       go (first ∷ others) is names inside =
@@ -151,10 +152,9 @@ both_same entries are (domain ∷ domains) some (Some host) =
     same_from_decides {P = IsMeant (domain ∷ domains) (excluded_in entries) host}
     (list_any (admits_host host) (in_several (excluded_in entries) (domain ∷ domains) (nested (excluded_in entries) (domain ∷ domains))))
     (longest_is_listed entries (covering entries host))
-    (rules_mean (domain ∷ domains) (excluded_in entries) host apart (omega arith), meant_rules (domain ∷ domains) (excluded_in entries) host apart)
-    (
+    (rules_mean (domain ∷ domains) (excluded_in entries) host apart (omega arith), meant_rules (domain ∷ domains) (excluded_in entries) host apart) (
       λ h. subst (λ (l : List (List ℕ)). IsMeant l (excluded_in entries) host) some (by_longest entries are host (covering entries host) refl (some_listed entries domain domains some) h),
-      λ m. is_longest_listed entries are host (covering entries host) refl (subst (λ (l : List (List ℕ)). IsMeant l (excluded_in entries) host) (sym some) m)
+      λ m. is_longest_listed entries are host (covering entries host) refl (subst (λ (l : List (List ℕ)). IsMeant l (excluded_in entries) host) (sym some) m),
     )
 
 -- one of the rules holds for the initiator exactly where the filter is for it
