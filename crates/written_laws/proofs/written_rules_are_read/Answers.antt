@@ -1,0 +1,5 @@
+use Rattle.written_laws.proofs.written_rules_are_read.Goals as goal
+use Rattle.written_laws.proofs.Objects.{IsBack}
+
+pub returns : goal.returns
+returns c = ?

@@ -1,0 +1,28 @@
+-- Rules that are written and read again.
+use Rattle.std.specs.Prelude.{◌≡◌, List, [], ◌∷◌, map, false, IsTrue, IsUtf8, All, not, Ok}
+use Rattle.std.specs.List.{list_all}
+use Rattle.rule_spec.specs.declared.rule_kind.RuleKind.{RuleKind}
+use Rattle.rule_spec.specs.declared.rule_kind.RuleKind.TheVariants.{Session}
+use Rattle.rule_spec.specs.Rule.{Rule}
+use Rattle.rule_spec.specs.IsRule.{IsRule}
+use Rattle.json_spec.specs.ReadRule.{has_id}
+use Rattle.json_spec.specs.RulesFile.{rules_of}
+use Rattle.json_spec.specs.Written.{written}
+use Rattle.written_laws.specs.Normal.{normal, names_tabs}
+
+-- no two of the rules have one id
+abbrev pub IdsDiffer : List Rule → Type 0
+IdsDiffer [] = Unit {0}
+IdsDiffer (rule ∷ rules) = (has_id rules rule.id ≡ false) × IdsDiffer rules
+
+-- ---- laws
+
+-- the text of rules of different ids reads, as session rules, as the same rules in their normal form
+abbrev pub WrittenRulesAreRead : Type 0
+WrittenRulesAreRead = (rules : List Rule) → All IsRule rules → IdsDiffer rules → IsUtf8 (written rules) → rules_of Session (written rules) ≡ Ok (map normal rules)
+
+-- and as rules of any kind where none of them names tabs
+abbrev pub TablessRulesAreRead : Type 0
+TablessRulesAreRead =
+    (kind : RuleKind) (rules : List Rule) → All IsRule rules → IdsDiffer rules → IsTrue (list_all (λ rule. not (names_tabs rule)) rules)
+    → IsUtf8 (written rules) → rules_of kind (written rules) ≡ Ok (map normal rules)
