@@ -1,5 +1,5 @@
 use Rattle.written_laws.proofs.written_rules_are_read.Goals as goal
-use Rattle.written_laws.proofs.Objects.{IsBack}
+use Rattle.written_laws.proofs.Values.{rules_back}
 
 pub returns : goal.returns
 returns c = ?
