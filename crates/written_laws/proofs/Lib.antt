@@ -1,3 +1,5 @@
 pub mod Objects
 pub mod Sets
 pub mod Values
+pub mod TypeSets
+pub mod Fields
