@@ -3,3 +3,4 @@ pub mod Sets
 pub mod Values
 pub mod TypeSets
 pub mod Fields
+pub mod Domains
