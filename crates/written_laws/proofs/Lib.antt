@@ -4,3 +4,4 @@ pub mod Values
 pub mod TypeSets
 pub mod Fields
 pub mod Domains
+pub mod Conditions

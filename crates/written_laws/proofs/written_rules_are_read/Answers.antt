@@ -1,5 +1,5 @@
 use Rattle.written_laws.proofs.written_rules_are_read.Goals as goal
-use Rattle.written_laws.proofs.Domains.{domains_read}
+use Rattle.written_laws.proofs.Conditions.{condition_made}
 
 pub returns : goal.returns
 returns c = ?
