@@ -5,3 +5,5 @@ pub mod TypeSets
 pub mod Fields
 pub mod Domains
 pub mod Conditions
+pub mod Transforms
+pub mod Actions

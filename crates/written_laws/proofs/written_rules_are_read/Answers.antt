@@ -1,5 +1,5 @@
 use Rattle.written_laws.proofs.written_rules_are_read.Goals as goal
-use Rattle.written_laws.proofs.Conditions.{condition_made}
+use Rattle.written_laws.proofs.Actions.{action_read}
 
 pub returns : goal.returns
 returns c = ?
