@@ -7,3 +7,5 @@ pub mod Domains
 pub mod Conditions
 pub mod Transforms
 pub mod Actions
+pub mod Frames
+pub mod Rules

@@ -62,8 +62,25 @@ at_place kind.WebTransport = refl
 at_place kind.WebBundle = refl
 at_place kind.Other = refl
 
-one_kind : (a b : Kind) → same_kind a b ≡ true → a ≡ b
+pub one_kind : (a b : Kind) → same_kind a b ≡ true → a ≡ b
 one_kind a b h = sym (at_place a) ∙ ap kind_at (eqb-true (place_of a) (place_of b) h) ∙ at_place b
+
+pub same_kind-itself : (k : Kind) → same_kind k k ≡ true
+same_kind-itself kind.MainFrame = refl
+same_kind-itself kind.SubFrame = refl
+same_kind-itself kind.Stylesheet = refl
+same_kind-itself kind.Script = refl
+same_kind-itself kind.Image = refl
+same_kind-itself kind.Font = refl
+same_kind-itself kind.Object = refl
+same_kind-itself kind.XmlHttpRequest = refl
+same_kind-itself kind.Ping = refl
+same_kind-itself kind.CspReport = refl
+same_kind-itself kind.Media = refl
+same_kind-itself kind.WebSocket = refl
+same_kind-itself kind.WebTransport = refl
+same_kind-itself kind.WebBundle = refl
+same_kind-itself kind.Other = refl
 
 and_true : (b : Bool) → (b && true) ≡ b
 and_true true = refl
