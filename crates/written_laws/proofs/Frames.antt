@@ -36,7 +36,7 @@ filtered-all test passes p (x ∷ list) = by (test x) refl (filtered-all test pa
 
 some_there : (list : List Kind) (k : Kind) → has_kind list k ≡ true → 0 < length list
 some_there [] k h = cc
-some_there (other ∷ list) k h = omega arith
+some_there (first ∷ list) k h = omega arith
 
 set_some : (kinds : List Kind) → nat_le 1 (length kinds) ≡ true → 0 < length (kind_set kinds)
 set_some [] h = cc

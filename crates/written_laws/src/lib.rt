@@ -1,10 +1,18 @@
 //! What the text of rules reads as: laws over the definitions of `json_spec`.
+//!
+//! The text of rules stands in `json_spec`, `specs/Written.antt`, and how it is read in `specs/RulesFile.antt`. What
+//! a rule's normal form is stands in `specs/Normal.antt`.
 #![tactic(auto)]
 
-ghost use Rattle.written_laws.specs.Read.{WrittenRulesAreRead};
+ghost use Rattle.written_laws.specs.Read.{TablessRulesAreRead, WrittenRulesAreRead};
+
+use header_actions::changes_read_again;
 
 /// Rules that are written as JSON text and read again as session rules are the same rules, with what they list as
-/// sets in one order.
+/// sets in one order; where no rule names tabs, they are so as rules of any kind.
 pub fn written_rules_are_read()
-    ensures { WrittenRulesAreRead }
-{}
+    ensures session { WrittenRulesAreRead }
+    ensures any_kind { TablessRulesAreRead }
+{
+    changes_read_again();
+}
