@@ -4,10 +4,14 @@ use Rattle.std.specs.List.{AllByRecursion, list_all, list_any}
 use Rattle.std.specs.Ordering.{match_ordering, ordering_reverse, is_eq, int_cmp, int_eq}
 use Rattle.std.specs.Cmp.{IsTotalOrder}
 use Rattle.std.specs.BTreeSet.{insert_key}
-use Rattle.std.proofs.lemmas.Cmp.{int_cmp_total}
+use Rattle.std.specs.Cmp.Lexicographic.{slice_cmp}
+use Rattle.std.proofs.lemmas.Cmp.{int_cmp_total, nat_list_cmp_total}
+use Rattle.std.proofs.lemmas.Bool.Decides.{Decides-int_eq}
+use Rattle.std.proofs.lemmas.Map.Text.{is_eq-slice_cmp}
+use Rattle.std.proofs.lemmas.Slice.Eq.{bytes_eq-Decides}
 use Rattle.rule_spec.specs.Holds.{has_tab}
 use Rattle.json_spec.specs.RuleFields.{with_tab, tab_set}
-use Rattle.json_spec.specs.Written.{with_tab_in_place, ascending_tabs}
+use Rattle.json_spec.specs.Written.{with_tab_in_place, ascending_domains, ascending_tabs}
 
 -- ---- what an insertion keeps
 
@@ -91,45 +95,123 @@ module _ {X : Type 0} (cmp : X → X → Ordering) (order : IsTotalOrder cmp) wh
   set_ascends [] start a = a
   set_ascends (x ∷ list) start a = set_ascends list (insert_key cmp start x) (inserted-ascends start x a)
 
+-- each of these is below this one
+abbrev AreBelow : {X : Type 0} → (X → X → Ordering) → List X → X → Type 0
+AreBelow cmp done x = AllByRecursion (λ y. cmp y x ≡ Less) done
+
+-- each of the first is below each of the second
+abbrev AllBelow : {X : Type 0} → (X → X → Ordering) → List X → List X → Type 0
+AllBelow cmp done list = AllByRecursion (λ x. AreBelow cmp done x) list
+
+module _ {X : Type 0} (cmp : X → X → Ordering) where
+  below-more : (done : List X) (x y : X) → AreBelow cmp done y → cmp x y ≡ Less → AreBelow cmp (done ++ x ∷ []) y
+  below-more [] x y a h = (h, tt)
+  below-more (z ∷ done) x y a h = (a.0, below-more done x y a.1 h)
+
+  all-below-more : (done : List X) (x : X) (list : List X) → AllBelow cmp done list → IsAbove cmp x list → AllBelow cmp (done ++ x ∷ []) list
+  all-below-more done x [] a h = tt
+  all-below-more done x (y ∷ list) a h = (below-more done x y a.0 h.0, all-below-more done x list a.1 h.1)
+
+  all-behind-nothing : (list : List X) → AllBelow cmp [] list
+  all-behind-nothing [] = tt
+  all-behind-nothing (x ∷ list) = (tt, all-behind-nothing list)
+
+module _ {X : Type 0} (cmp : X → X → Ordering) (order : IsTotalOrder cmp) where
+  inserted-last : (done : List X) (x : X) → AreBelow cmp done x → insert_key cmp done x ≡ done ++ x ∷ []
+  inserted-last [] x a = refl
+  inserted-last (y ∷ done) x a =
+      ap (λ o. match_ordering o (x ∷ y ∷ done) (y ∷ done) (y ∷ insert_key cmp done x)) (order.antisymm x y ∙ ap ordering_reverse a.0)
+      ∙ ap (λ l. y ∷ l) (inserted-last done x a.1)
+
+  set-kept : (list done : List X) → Ascends cmp list → AllBelow cmp done list → fold (insert_key cmp) done list ≡ done ++ list
+  set-kept [] done a b = sym (append-nil done)
+  set-kept (x ∷ list) done a b =
+      ap (λ l. fold (insert_key cmp) l list) (inserted-last done x b.0) ∙ set-kept list (done ++ x ∷ []) a.1 (all-below-more cmp done x list b.1 a.0)
+      ∙ append_assoc done (x ∷ []) list
+
+  -- a set is no other when it is taken as a set
+  pub set_again : (list : List X) → fold (insert_key cmp) [] (fold (insert_key cmp) [] list) ≡ fold (insert_key cmp) [] list
+  set_again list = let set = fold (insert_key cmp) [] list in set-kept set [] (set_ascends cmp order list [] tt) (all-behind-nothing cmp set)
+
+-- ---- members of sets
+
+or_twice : (b c : Bool) → (b || c) ≡ (b || (b || c))
+or_twice true c = refl
+or_twice false c = refl
+
+or_turned : (a b c : Bool) → (b || (a || c)) ≡ (a || (b || c))
+or_turned true true c = refl
+or_turned true false c = refl
+or_turned false b c = refl
+
+or_moved : (a b c : Bool) → ((a || b) || c) ≡ (b || (a || c))
+or_moved true true c = refl
+or_moved true false c = refl
+or_moved false b c = refl
+
+module _ {X : Type 0} (cmp : X → X → Ordering) (exact : (x y : X) → cmp x y ≡ Equal → x ≡ y) (test : X → Bool) where
+  inserted-any : (list : List X) (x : X) → list_any test (insert_key cmp list x) ≡ (test x || list_any test list)
+  inserted-any [] x = refl
+  inserted-any (y ∷ list) x = by (cmp x y) refl (inserted-any list x)
+    where
+      by : (o : Ordering) → cmp x y ≡ o → list_any test (insert_key cmp list x) ≡ (test x || list_any test list)
+          → list_any test (match_ordering o (x ∷ y ∷ list) (y ∷ list) (y ∷ insert_key cmp list x)) ≡ (test x || (test y || list_any test list))
+      by Less is rest = refl
+      by Equal is rest = or_twice (test y) (list_any test list) ∙ ap (λ z. test z || (test y || list_any test list)) (sym (exact x y is))
+      by Greater is rest = ap (λ b. test y || b) rest ∙ or_turned (test x) (test y) (list_any test list)
+
+  -- a set has what its list has
+  pub set_any : (list start : List X) → list_any test (fold (insert_key cmp) start list) ≡ (list_any test start || list_any test list)
+  set_any [] start = by (list_any test start)
+    where
+      by : (b : Bool) → b ≡ (b || false)
+      by true = refl
+      by false = refl
+  set_any (x ∷ list) start =
+      set_any list (insert_key cmp start x) ∙ ap (λ b. b || list_any test list) (inserted-any start x) ∙ or_moved (test x) (list_any test start) (list_any test list)
+
+-- ---- domains
+
+same_domain : (one other : List ℕ) → slice_cmp nat_cmp one other ≡ Equal → one ≡ other
+same_domain one other is = (bytes_eq-Decides one other).0 (sym (is_eq-slice_cmp one other) ∙ ap is_eq is)
+
+pub domains_any : (test : List ℕ → Bool) (domains : List (List ℕ)) → list_any test (ascending_domains domains) ≡ list_any test domains
+domains_any test domains = set_any (slice_cmp nat_cmp) same_domain test domains []
+
+pub domains_again : (domains : List (List ℕ)) → ascending_domains (ascending_domains domains) ≡ ascending_domains domains
+domains_again domains = set_again (slice_cmp nat_cmp) nat_list_cmp_total domains
+
 -- ---- tabs
 
 apart : (a b : ℤ) → int_cmp a b ≡ Less → int_eq b a ≡ false
 apart a b h = ap is_eq (int_cmp_total.antisymm b a ∙ ap ordering_reverse h)
 
--- the tab is above each of these
-abbrev AreBelow : List ℤ → ℤ → Type 0
-AreBelow done tab = AllByRecursion (λ other. int_cmp other tab ≡ Less) done
+same_tab : (one other : ℤ) → int_cmp one other ≡ Equal → one ≡ other
+same_tab one other is = (Decides-int_eq one other).0 (ap is_eq is)
 
-lacks : (done : List ℤ) (tab : ℤ) → AreBelow done tab → has_tab done tab ≡ false
+pub tabs_any : (test : ℤ → Bool) (tabs : List ℤ) → list_any test (ascending_tabs tabs) ≡ list_any test tabs
+unfolding with_tab_in_place
+tabs_any test tabs = set_any int_cmp same_tab test tabs []
+
+pub tabs_again : (tabs : List ℤ) → ascending_tabs (ascending_tabs tabs) ≡ ascending_tabs tabs
+unfolding with_tab_in_place
+tabs_again tabs = set_again int_cmp int_cmp_total tabs
+
+lacks : (done : List ℤ) (tab : ℤ) → AreBelow int_cmp done tab → has_tab done tab ≡ false
 lacks [] tab a = refl
 lacks (other ∷ done) tab a = rw (apart other tab a.0, lacks done tab a.1)
 
-abbrev AllBelow : List ℤ → List ℤ → Type 0
-AllBelow done tabs = AllByRecursion (λ tab. AreBelow done tab) tabs
-
-below-more : (done : List ℤ) (tab other : ℤ) → AreBelow done other → int_cmp tab other ≡ Less → AreBelow (done ++ tab ∷ []) other
-below-more [] tab other a h = (h, tt)
-below-more (x ∷ done) tab other a h = (a.0, below-more done tab other a.1 h)
-
-all-below-more : (done : List ℤ) (tab : ℤ) (tabs : List ℤ) → AllBelow done tabs → IsAbove int_cmp tab tabs → AllBelow (done ++ tab ∷ []) tabs
-all-below-more done tab [] a h = tt
-all-below-more done tab (other ∷ tabs) a h = (below-more done tab other a.0 h.0, all-below-more done tab tabs a.1 h.1)
-
-tabs-kept : (tabs done : List ℤ) → Ascends int_cmp tabs → AllBelow done tabs → fold with_tab done tabs ≡ done ++ tabs
+tabs-kept : (tabs done : List ℤ) → Ascends int_cmp tabs → AllBelow int_cmp done tabs → fold with_tab done tabs ≡ done ++ tabs
 tabs-kept [] done a b = sym (append-nil done)
 tabs-kept (tab ∷ tabs) done a b =
     ap (λ found. fold with_tab (cond found done (done ++ tab ∷ [])) tabs) (lacks done tab b.0)
-    ∙ tabs-kept tabs (done ++ tab ∷ []) a.1 (all-below-more done tab tabs b.1 a.0)
+    ∙ tabs-kept tabs (done ++ tab ∷ []) a.1 (all-below-more int_cmp done tab tabs b.1 a.0)
     ∙ append_assoc done (tab ∷ []) tabs
-
-all-behind-nothing : (tabs : List ℤ) → AllBelow [] tabs
-all-behind-nothing [] = tt
-all-behind-nothing (tab ∷ tabs) = (tt, all-behind-nothing tabs)
 
 -- tabs in their order are no others when they are taken as a set
 pub tab_set-ascending : (tabs : List ℤ) → tab_set (ascending_tabs tabs) ≡ ascending_tabs tabs
 unfolding with_tab_in_place
-tab_set-ascending tabs = tabs-kept (ascending_tabs tabs) [] (set_ascends int_cmp int_cmp_total tabs [] tt) (all-behind-nothing (ascending_tabs tabs))
+tab_set-ascending tabs = tabs-kept (ascending_tabs tabs) [] (set_ascends int_cmp int_cmp_total tabs [] tt) (all-behind-nothing int_cmp (ascending_tabs tabs))
 
 pub tabs_all : (test : ℤ → Bool) (tabs : List ℤ) → list_all test tabs ≡ true → list_all test (ascending_tabs tabs) ≡ true
 unfolding with_tab_in_place
