@@ -9,3 +9,4 @@ pub mod Transforms
 pub mod Actions
 pub mod Frames
 pub mod Rules
+pub mod Alike

@@ -94,7 +94,7 @@ module _ (rule : Rule) where
       )) (record { id = rule.id; priority = rule.priority }))
 
   -- a written rule is read as its normal form
-  rule_read : ReadsAgain → (kind : RuleKind) (is_taken : ℕ → Bool) → IsRule rule → MayName kind rule → is_taken rule.id ≡ false → rule_in kind is_taken (rule_written rule) ≡ Ok (normal rule)
+  pub rule_read : ReadsAgain → (kind : RuleKind) (is_taken : ℕ → Bool) → IsRule rule → MayName kind rule → is_taken rule.id ≡ false → rule_in kind is_taken (rule_written rule) ≡ Ok (normal rule)
   unfolding rule_in
   rule_read again kind is_taken is may free =
       let c = rule.condition in

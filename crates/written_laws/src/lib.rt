@@ -4,9 +4,11 @@
 //! a rule's normal form is stands in `specs/Normal.antt`.
 #![tactic(auto)]
 
+ghost use Rattle.written_laws.specs.Alike.{NormalRulesAreRules, NormalRulesAreWrittenAlike, NormalRulesHoldAlike, NormalRulesStay};
 ghost use Rattle.written_laws.specs.Read.{TablessRulesAreRead, WrittenRulesAreRead};
 
 use header_actions::changes_read_again;
+use rule_laws::rules_keep_their_form;
 
 /// Rules that are written as JSON text and read again as session rules are the same rules, with what they list as
 /// sets in one order; where no rule names tabs, they are so as rules of any kind.
@@ -15,4 +17,16 @@ pub fn written_rules_are_read()
     ensures any_kind { TablessRulesAreRead }
 {
     changes_read_again();
+}
+
+/// A rule whose sets stand in one order is a rule that holds on the same parts, has the same text, and stays as it
+/// is when it is put in order again.
+pub fn normal_rules_are_the_same()
+    ensures holds { NormalRulesHoldAlike }
+    ensures rules { NormalRulesAreRules }
+    ensures text { NormalRulesAreWrittenAlike }
+    ensures stays { NormalRulesStay }
+{
+    changes_read_again();
+    rules_keep_their_form();
 }

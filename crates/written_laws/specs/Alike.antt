@@ -1,0 +1,27 @@
+-- A rule and its normal form are the same rule but for the order in which it lists what it takes as sets.
+use Rattle.std.specs.Prelude.{◌≡◌, List, map}
+use Rattle.dnr_base.specs.Request.{Part}
+use Rattle.dnr_spec.specs.Suffixes.{SuffixRule}
+use Rattle.rule_spec.specs.Rule.{Rule}
+use Rattle.rule_spec.specs.Holds.{holds}
+use Rattle.rule_spec.specs.IsRule.{IsRule}
+use Rattle.json_spec.specs.Written.{written}
+use Rattle.written_laws.specs.Normal.{normal}
+
+-- ---- laws
+
+-- they hold on the same parts
+abbrev pub NormalRulesHoldAlike : Type 0
+NormalRulesHoldAlike = (suffixes : List SuffixRule) (rule : Rule) (part : Part) → holds suffixes (normal rule) part ≡ holds suffixes rule part
+
+-- the normal form keeps what every rule keeps
+abbrev pub NormalRulesAreRules : Type 0
+NormalRulesAreRules = (rule : Rule) → IsRule rule → IsRule (normal rule)
+
+-- they are written alike
+abbrev pub NormalRulesAreWrittenAlike : Type 0
+NormalRulesAreWrittenAlike = (rules : List Rule) → written (map normal rules) ≡ written rules
+
+-- the normal form of a normal form is itself
+abbrev pub NormalRulesStay : Type 0
+NormalRulesStay = (rule : Rule) → normal (normal rule) ≡ normal rule
