@@ -10,3 +10,5 @@ pub mod Actions
 pub mod Frames
 pub mod Rules
 pub mod Alike
+pub mod Utf8
+pub mod TextsWritten

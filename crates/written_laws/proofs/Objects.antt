@@ -177,10 +177,9 @@ read-print j numbers shallow =
     ap (λ ts. whole (json.value 127 ts)) (tokens-print (json_tokens j) (ArePrintable-json_tokens j numbers) ∙ sym (append-nil (json_tokens j)))
     ∙ ap whole (value-json_tokens j 127 [] shallow)
 
--- the text of such a value is its tree
-pub text_back : (d : Data) → IsBack 127 d → IsUtf8 (compact_text d) → tree_of (compact_text d) ≡ Some d
-text_back d b utf8 =
-    sym (tree_of_read (compact_text d) d utf8 (ap read (sym (print-outline d)) ∙ read-print (outline d) b.numbers b.shallow ∙ b.value))
+-- the text of such a value reads as it
+pub text_back : (d : Data) → IsBack 127 d → read (compact_text d) ≡ Some d
+text_back d b = ap read (sym (print-outline d)) ∙ read-print (outline d) b.numbers b.shallow ∙ b.value
 
 -- ---- what is found in an object
 

@@ -25,8 +25,9 @@ use Rattle.json_spec.specs.RuleAction.{action_in}
 use Rattle.json_spec.specs.Written.{condition_written, action_written, rule_written, rules_written, written}
 use Rattle.json_spec.specs.ReadRule.{filters_in, domain_lists_in, lists_in, condition_of, in_range, as_id, id_of, priority_from, priority_of, condition_at, no_fields, no_lists, may_name_tabs, Numbers, numbers_in, no_numbers, frames_in, tabs_in, rule_in, has_id, read_next, read_from, read_items, read_rules}
 use Rattle.json_spec.specs.RulesFile.{rules_or_refusal, rules_in_tree, rules_of}
+use Rattle.json_spec.proofs.Trees.{tree_of_read}
 use Rattle.written_laws.specs.Normal.{normal_condition, normal, names_tabs}
-use Rattle.written_laws.specs.Read.{IdsDiffer, WrittenRulesAreRead, TablessRulesAreRead}
+use Rattle.written_laws.specs.Read.{IdsDiffer, WrittenTextsAreTrees, WrittenRulesAreRead, TablessRulesAreRead}
 use Rattle.written_laws.proofs.Objects.{found, text_back}
 use Rattle.written_laws.proofs.Sets.{both}
 use Rattle.written_laws.proofs.Values.{rule_fields, rules_back}
@@ -190,9 +191,12 @@ tree-read : ReadsAgain → (kind : RuleKind) (rules : List Rule) → All IsRule 
 unfolding read_rules
 tree-read again kind rules are may differ = list_read again kind rules [] are may differ (all-free rules)
 
+pub written_texts_are_trees : WrittenTextsAreTrees
+written_texts_are_trees rules are = text_back (rules_written rules) (rules_back rules (each-rule rules are))
+
 text-read : ReadsAgain → (kind : RuleKind) (rules : List Rule) → All IsRule rules → AllByRecursion (MayName kind) rules → IdsDiffer rules → IsUtf8 (written rules) → rules_of kind (written rules) ≡ Ok (map normal rules)
 text-read again kind rules are may differ utf8 =
-    ap (rules_in_tree kind) (text_back (rules_written rules) (rules_back rules (each-rule rules are)) utf8) ∙ ap rules_or_refusal (tree-read again kind rules are may differ)
+    ap (rules_in_tree kind) (sym (tree_of_read (written rules) (rules_written rules) utf8 (written_texts_are_trees rules are))) ∙ ap rules_or_refusal (tree-read again kind rules are may differ)
 
 -- ---- the laws
 

@@ -1,14 +1,16 @@
 -- Rules that are written and read again.
-use Rattle.std.specs.Prelude.{◌≡◌, List, [], ◌∷◌, map, false, IsTrue, IsUtf8, All, not, Ok}
+use Rattle.std.specs.Prelude.{◌≡◌, List, [], ◌∷◌, map, false, IsTrue, IsUtf8, All, not, Some, Ok}
 use Rattle.std.specs.List.{list_all}
+use Rattle.serde_json.specs.Read.{read}
 use Rattle.rule_spec.specs.declared.rule_kind.RuleKind.{RuleKind}
 use Rattle.rule_spec.specs.declared.rule_kind.RuleKind.TheVariants.{Session}
 use Rattle.rule_spec.specs.Rule.{Rule}
 use Rattle.rule_spec.specs.IsRule.{IsRule}
 use Rattle.json_spec.specs.ReadRule.{has_id}
 use Rattle.json_spec.specs.RulesFile.{rules_of}
-use Rattle.json_spec.specs.Written.{written}
+use Rattle.json_spec.specs.Written.{rules_written, written}
 use Rattle.written_laws.specs.Normal.{normal, names_tabs}
+use Rattle.written_laws.specs.Texts.{texts_of}
 
 -- no two of the rules have one id
 abbrev pub IdsDiffer : List Rule → Type 0
@@ -16,6 +18,14 @@ IdsDiffer [] = Unit {0}
 IdsDiffer (rule ∷ rules) = (has_id rules rule.id ≡ false) × IdsDiffer rules
 
 -- ---- laws
+
+-- the text of rules is read as the tree that it was made of
+abbrev pub WrittenTextsAreTrees : Type 0
+WrittenTextsAreTrees = (rules : List Rule) → All IsRule rules → read (written rules) ≡ Some (rules_written rules)
+
+-- it is UTF-8 where each text of the rules is
+abbrev pub WrittenTextsAreUtf8 : Type 0
+WrittenTextsAreUtf8 = (rules : List Rule) → All IsRule rules → All (λ rule. All IsUtf8 (texts_of rule)) rules → IsUtf8 (written rules)
 
 -- the text of rules of different ids reads, as session rules, as the same rules in their normal form
 abbrev pub WrittenRulesAreRead : Type 0

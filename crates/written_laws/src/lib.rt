@@ -5,7 +5,7 @@
 #![tactic(auto)]
 
 ghost use Rattle.written_laws.specs.Alike.{NormalRulesAreRules, NormalRulesAreWrittenAlike, NormalRulesHoldAlike, NormalRulesStay};
-ghost use Rattle.written_laws.specs.Read.{TablessRulesAreRead, WrittenRulesAreRead};
+ghost use Rattle.written_laws.specs.Read.{TablessRulesAreRead, WrittenRulesAreRead, WrittenTextsAreTrees, WrittenTextsAreUtf8};
 
 use header_actions::changes_read_again;
 use rule_laws::rules_keep_their_form;
@@ -13,6 +13,8 @@ use rule_laws::rules_keep_their_form;
 /// Rules that are written as JSON text and read again as session rules are the same rules, with what they list as
 /// sets in one order; where no rule names tabs, they are so as rules of any kind.
 pub fn written_rules_are_read()
+    ensures tree { WrittenTextsAreTrees }
+    ensures utf8 { WrittenTextsAreUtf8 }
     ensures session { WrittenRulesAreRead }
     ensures any_kind { TablessRulesAreRead }
 {

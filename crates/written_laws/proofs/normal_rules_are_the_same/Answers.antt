@@ -2,6 +2,7 @@ use Rattle.written_laws.proofs.normal_rules_are_the_same.Goals as goal
 use Rattle.written_laws.proofs.Alike as proof
 
 -- src/lib.rt
+
 pub returns : goal.returns
 returns c = record {
   holds = proof.normal_rules_hold_alike;
