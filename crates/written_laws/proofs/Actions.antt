@@ -1,8 +1,7 @@
 -- Written actions are read as they are.
-use Rattle.std.proofs.Common.{◌≡◌, ℕ, ◌+◌, ◌<◌, List, [], ◌∷◌, length, map, Bool, true, false, cond, not, ◌&&◌, Option, Some, None, Result, Ok, Err, refl, sym, ap, ◌∙◌, arith}
+use Rattle.std.proofs.Common.{◌≡◌, ℕ, ◌+◌, ◌<◌, List, [], ◌∷◌, length, map, false, ◌&&◌, Option, Some, None, Ok, Err, refl, ap, ◌∙◌, arith}
 use Rattle.std.specs.Prelude.{codes, option_map, option_and_then, if◌then◌else◌}
-use Rattle.std.specs.List.{AllByRecursion}
-use Rattle.serde_json.specs.Data.{Data, string}
+use Rattle.serde_json.specs.Data.{string}
 use Rattle.serde_json.specs.Find.{get, as_str}
 use Rattle.serde_json.specs.View.{items_of}
 use Rattle.dnr_base.specs.declared.direction.Direction.{Direction}
@@ -10,22 +9,18 @@ use Rattle.dnr_base.specs.declared.direction.Direction.TheVariants as direction
 use Rattle.dnr_base.specs.declared.operation.Operation.{Operation}
 use Rattle.dnr_base.specs.declared.operation.Operation.TheVariants.{Append, Set, Remove}
 use Rattle.dnr_base.specs.declared.redirect.Redirect.{Redirect}
-use Rattle.dnr_spec.specs.declared.header_refusal.HeaderRefusal.{HeaderRefusal}
-use Rattle.dnr_spec.specs.Headers.{HeaderOp, header_op_of}
+use Rattle.dnr_spec.specs.Headers.{HeaderOp}
 use Rattle.header_actions.specs.Again.{ReadsAgain}
-use Rattle.rule_spec.specs.declared.rule_refusal.RuleRefusal.{RuleRefusal}
 use Rattle.rule_spec.specs.declared.rule_refusal.RuleRefusal.TheVariants.{BadHeader}
 use Rattle.rule_spec.specs.declared.rule_refusal.HeaderCause.TheVariants.{NoHeaders}
 use Rattle.rule_spec.specs.Rule.{Condition, Action, block, redirect, allow, upgrade_scheme, modify_headers, allow_all_requests}
 use Rattle.rule_spec.specs.Redirects.{IsRedirect}
-use Rattle.rule_spec.specs.IsRule.{IsOperation, AreOperations, filter_groups, IsAction}
-use Rattle.json_spec.specs.Json.{text_at}
+use Rattle.rule_spec.specs.IsRule.{AreOperations, filter_groups, IsAction}
 use Rattle.json_spec.specs.RuleFields.{each}
-use Rattle.json_spec.specs.RuleAction.{redirecting, redirect_at, redirect_in, Change, operation_named, value_from, change_from, as_change, list_from, changes_at, with_op, ops_of, or_bad_op, ops_in, is_empty_list, modify_from, modifying, modify_in, action_named, or_bad_action, type_of, action_in}
-use Rattle.json_spec.specs.Written.{written_list, unless_empty, redirect_written, operation_name, op_written, type_name, action_written}
+use Rattle.json_spec.specs.RuleAction.{redirecting, redirect_at, redirect_in, Change, operation_named, value_from, change_from, as_change, changes_at, with_op, ops_of, or_bad_op, ops_in, is_empty_list, modify_from, modifying, modify_in, action_named, or_bad_action, type_of, action_in}
+use Rattle.json_spec.specs.Written.{unless_empty, redirect_written, operation_name, op_written, type_name, action_written}
 use Rattle.written_laws.proofs.Objects.{found}
 use Rattle.written_laws.proofs.Values.{op_fields, action_fields}
-use Rattle.written_laws.proofs.Fields.{list_read}
 use Rattle.written_laws.proofs.Transforms.{redirect_read}
 
 -- ---- header changes
@@ -46,7 +41,7 @@ change-read : (op : HeaderOp) → as_change (op_written op) ≡ Some (change_of 
 change-read op =
     let header = ap (option_and_then as_str) (found (codes "header") (op_fields op) (Some (string op.name)) refl) in
     let operation = ap (λ o. option_and_then operation_named (option_and_then as_str o)) (found (codes "operation") (op_fields op) (Some (string (operation_name op.operation))) refl)
-        ∙ operation-read op.operation in
+    ∙ operation-read op.operation in
     let value = ap value_from (found (codes "value") (op_fields op) (option_map string op.value) refl) ∙ value-read op.value in
     λ i. change_from (header i) (operation i) (value i)
 

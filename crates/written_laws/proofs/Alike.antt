@@ -1,17 +1,16 @@
 -- A rule and its normal form.
-use Rattle.std.proofs.Common.{◌≡◌, ℕ, ℤ, List, [], ◌∷◌, map, Bool, true, false, cond, not, ◌&&◌, ◌||◌, Option, Some, None, Ok, refl, sym, ap, ◌∙◌}
-use Rattle.std.specs.Prelude.{codes, option_map, is_some, if◌then◌else◌}
-use Rattle.std.specs.List.{list_all, list_any}
+use Rattle.std.proofs.Common.{◌≡◌, ℕ, ℤ, List, [], ◌∷◌, map, false, not, ◌&&◌, ◌||◌, Option, Some, None, refl, ap}
+use Rattle.std.specs.Prelude.{codes, option_map, if◌then◌else◌}
+use Rattle.std.specs.List.{list_all}
 use Rattle.serde_json.specs.Data.{Data, number, unsigned, string, array}
 use Rattle.serde_json.specs.View.{items_of}
 use Rattle.serde_json.specs.Written.{compact_text}
 use Rattle.dnr_base.specs.declared.kind.Kind.{Kind}
 use Rattle.dnr_base.specs.declared.kind.Kind.TheVariants.{MainFrame}
-use Rattle.dnr_base.specs.Kind.{default_kinds, has_kind}
+use Rattle.dnr_base.specs.Kind.{default_kinds}
 use Rattle.dnr_base.specs.declared.method.Method.{Method}
 use Rattle.dnr_base.specs.declared.scheme.Scheme.{Scheme}
-use Rattle.dnr_base.specs.Method.{has_method}
-use Rattle.dnr_base.specs.View.{View, host_of}
+use Rattle.dnr_base.specs.View.{host_of}
 use Rattle.dnr_base.specs.Request.{Part}
 use Rattle.dnr_spec.specs.Suffixes.{SuffixRule}
 use Rattle.dnr_spec.specs.Domains.{covers, covers_some}
@@ -20,15 +19,13 @@ use Rattle.header_actions.specs.Again.{ReadsAgain}
 use Rattle.rule_spec.specs.declared.rule_kind.RuleKind.TheVariants.{Session}
 use Rattle.rule_spec.specs.Rule.{Condition, Rule}
 use Rattle.rule_spec.specs.Holds.{fits_url, has_match, is_among, is_from, is_not_from, is_party, has_methods, is_by, is_not_by, has_tab, is_in, holds_on}
-use Rattle.rule_spec.specs.IsRule.{IsRule}
 use Rattle.json_spec.specs.ReadRule.{RulesKeepTheirForm}
 use Rattle.json_spec.specs.RuleFields.{kind_set, method_set}
-use Rattle.json_spec.specs.Written.{Field, with_fields, object_of, written_list, unless_empty, if_true, ascending_domains, ascending_tabs, domains_written, tab_written, tabs_written, kind_written, are_default, kinds_written, exclusion_of, exclusion_written, method_written, methods_written, party_written, condition_written, action_written, rule_written, rules_written}
+use Rattle.json_spec.specs.Written.{object_of, written_list, unless_empty, if_true, ascending_domains, ascending_tabs, domains_written, tab_written, tabs_written, kind_written, are_default, kinds_written, exclusion_of, exclusion_written, method_written, methods_written, party_written, condition_written, action_written, rule_written}
 use Rattle.written_laws.specs.Normal.{normal_condition, normal}
 use Rattle.written_laws.specs.Alike.{NormalRulesHoldAlike, NormalRulesAreRules, NormalRulesAreWrittenAlike, NormalRulesStay}
 use Rattle.written_laws.proofs.Sets.{domains_any, domains_again, tabs_any, tabs_again}
 use Rattle.written_laws.proofs.TypeSets.{has_kind-set, kind_set-set, has_method-set, method_set-set}
-use Rattle.written_laws.proofs.Values.{condition_fields, rule_fields}
 use Rattle.written_laws.proofs.Rules.{rule_read}
 
 -- ---- the parts that a rule holds on

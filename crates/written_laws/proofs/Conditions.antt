@@ -1,26 +1,23 @@
 -- What is tested of the fields of a written condition, and the condition that is made of them.
-use Rattle.std.proofs.Common.{◌≡◌, ℕ, ℤ, suc, ◌<◌, List, [], ◌∷◌, length, map, fold, filter, Bool, true, false, cond, not, ◌&&◌, ◌||◌, ◌==◌, Option, Some, None, Result, Ok, Err, refl, sym, ap, ◌∙◌, subst, arith}
-use Rattle.std.specs.Prelude.{IfSome, IsTrue, nat_le, nat_lt, is_some, is_none, unwrap_or, option_map, if◌then◌else◌}
-use Rattle.std.specs.List.{list_all}
+use Rattle.std.proofs.Common.{◌≡◌, ℕ, ℤ, suc, ◌<◌, List, [], ◌∷◌, length, Bool, true, false, cond, not, ◌&&◌, ◌||◌, ◌==◌, Option, Some, None, Ok, refl, sym, ap, ◌∙◌, arith}
+use Rattle.std.specs.Prelude.{IfSome, IsTrue, nat_lt, is_some, is_none, unwrap_or, option_map}
 use Rattle.std.specs.Result.{result_err}
 use Rattle.std.specs.Ordering.{nat_cmp}
 use Rattle.std.specs.Cmp.Lexicographic.{slice_cmp}
-use Rattle.std.proofs.lemmas.Bool.{true≢false, false≢true}
+use Rattle.std.proofs.lemmas.Bool.{true≢false}
 use Rattle.std.proofs.lemmas.Bool.Decides.{nat_tests}
 use Rattle.dnr_base.specs.declared.kind.Kind.{Kind}
-use Rattle.dnr_base.specs.Kind.{all_kinds, default_kinds, has_kind}
-use Rattle.dnr_base.specs.declared.method.Method.{Method}
+use Rattle.dnr_base.specs.Kind.{default_kinds}
 use Rattle.dnr_spec.specs.UrlFilter.{pattern_of}
 use Rattle.dnr_spec.specs.Patterns.{groups_of}
 use Rattle.dnr_spec.specs.Domains.{domains_of}
 use Rattle.rule_spec.specs.declared.rule_kind.RuleKind.{RuleKind}
 use Rattle.rule_spec.specs.declared.rule_path.RulePath.{RulePath}
 use Rattle.rule_spec.specs.declared.rule_path.RulePath.TheVariants as path
-use Rattle.rule_spec.specs.declared.rule_refusal.RuleRefusal.{RuleRefusal}
 use Rattle.rule_spec.specs.declared.rule_refusal.RuleRefusal.TheVariants.{BothFilters, BadUrlFilter, BadRegex, EmptyList, BothTypeLists, TabsNotSession}
 use Rattle.rule_spec.specs.Rule.{Condition}
 use Rattle.rule_spec.specs.IsRule.{is_regex_text, is_regex_filter, AreDomains, IsGivenWhole, IsCondition}
-use Rattle.json_spec.specs.RuleFields.{first_refusal, refused_if, refusal_in, unless_refused, kind_set, method_set, Fields}
+use Rattle.json_spec.specs.RuleFields.{first_refusal, refused_if, refusal_in, unless_refused, kind_set, method_set}
 use Rattle.json_spec.specs.Written.{are_default, ascending_domains, ascending_tabs}
 use Rattle.json_spec.specs.ReadRule.{url_filter_test, regex_text_test, pattern_test, filters_in, given_domains, domains_in, list_of, either, DomainLists, domain_lists_in, empty_test, lists_in, kinds_from, condition_of, may_name_tabs, tabs_in}
 use Rattle.written_laws.specs.Normal.{normal_condition}
@@ -104,13 +101,13 @@ lists_are_read c is =
     let hosts = domains-read path.RequestDomains c.hosts is.hosts.1 in
     let not_hosts = given-domains path.ExcludedRequestDomains (ascending_domains c.not_hosts) (domains_read c.not_hosts is.not_hosts) in
     (λ i. unless_refused (first_refusal (
-      refusal_in (initiators i)
-      ∷ refusal_in (not_initiators i)
-      ∷ refusal_in (old_initiators i)
-      ∷ refusal_in (old_not_initiators i)
-      ∷ refusal_in (hosts i)
-      ∷ refusal_in (not_hosts i)
-      ∷ []
+    refusal_in (initiators i)
+    ∷ refusal_in (not_initiators i)
+    ∷ refusal_in (old_initiators i)
+    ∷ refusal_in (old_not_initiators i)
+    ∷ refusal_in (hosts i)
+    ∷ refusal_in (not_hosts i)
+    ∷ []
     )) (record {
       initiators = either (list_of (initiators i)) (list_of (old_initiators i));
       not_initiators = unwrap_or (either (list_of (not_initiators i)) (list_of (old_not_initiators i))) [];

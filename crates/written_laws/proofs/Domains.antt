@@ -1,18 +1,17 @@
 -- Lists of domains as they are kept, and hosts as they are kept, are read as they are.
-use Rattle.std.proofs.Common.{◌≡◌, ℕ, suc, ◌+◌, ◌-◌, ◌<◌, ◌≤◌, List, [], ◌∷◌, length, map, take, drop, get_or, Bool, true, false, cond, not, ◌&&◌, ◌||◌, ◌==◌, nat_lt, Option, Some, None, Result, Ok, Err, refl, sym, ap, ◌∙◌, subst, arith}
+use Rattle.std.proofs.Common.{◌≡◌, ℕ, suc, ◌+◌, ◌-◌, List, [], ◌∷◌, length, map, take, drop, get_or, Bool, true, false, cond, not, ◌&&◌, ◌||◌, ◌==◌, nat_lt, Option, Some, None, Ok, refl, sym, ap, ◌∙◌, subst, arith}
 use Rattle.std.specs.Prelude.{nat_le, position, slice_range, bytes_eq}
-use Rattle.std.specs.List.{list_all, position_or_len, prefix_len}
+use Rattle.std.specs.List.{list_all, position_or_len}
 use Rattle.std.specs.Char.{to_ascii_lowercase}
 use Rattle.std.proofs.Math.ListN.{get_or-map}
 use Rattle.std.proofs.lemmas.List.{length-map, take-map, drop-map}
-use Rattle.std.proofs.lemmas.Bool.{cases_Bool, true≢false, false≢true}
+use Rattle.std.proofs.lemmas.Bool.{true≢false}
 use Rattle.std.proofs.lemmas.Bool.Decides.{nat_tests}
 use Rattle.std.proofs.lemmas.Slice.Eq.{bytes_eq-Decides}
-use Rattle.dnr_spec.specs.declared.domain_refusal.DomainRefusal.{DomainRefusal}
 use Rattle.dnr_spec.specs.Domains.{is_label_byte, is_address_byte, is_address, is_domain, lower_case, unless_bad, domains_of}
 use Rattle.domain_set.proofs.Lowered.{domains_of-lower}
 use Rattle.rule_spec.specs.IsRule.{AreDomains}
-use Rattle.rule_spec.specs.Redirects.{is_short, is_new_host, IsKeptHost}
+use Rattle.rule_spec.specs.Redirects.{is_short, is_new_host}
 use Rattle.json_spec.specs.Written.{ascending_domains}
 use Rattle.std.specs.Ordering.{nat_cmp}
 use Rattle.std.specs.Cmp.Lexicographic.{slice_cmp}

@@ -1,11 +1,10 @@
 -- The fields of a written condition, as they are read.
-use Rattle.std.proofs.Common.{◌≡◌, ℕ, ℤ, pos, negsuc, ◌^◌, ◌<◌, List, [], ◌∷◌, length, map, filter, Bool, true, false, cond, Option, Some, None, Result, Ok, Err, refl, sym, ap, ◌∙◌, arith}
+use Rattle.std.proofs.Common.{◌≡◌, ℕ, ℤ, pos, negsuc, ◌^◌, List, [], ◌∷◌, map, Bool, true, false, cond, Option, Some, None, Ok, refl, ap, ◌∙◌, arith}
 use Rattle.std.specs.Prelude.{IfSome, codes, option_map, option_and_then, nat_lt, if◌then◌else◌}
 use Rattle.std.specs.List.{AllByRecursion, list_all}
-use Rattle.std.proofs.lemmas.Bool.{cases_Bool}
 use Rattle.std.proofs.lemmas.Bool.Decides.{nat_tests}
 use Rattle.serde_json.specs.Data.{Data, string}
-use Rattle.serde_json.specs.Find.{get, as_str, as_bool, as_number, as_i64}
+use Rattle.serde_json.specs.Find.{get, as_str, as_bool}
 use Rattle.serde_json.specs.View.{items_of}
 use Rattle.dnr_base.specs.declared.kind.Kind.{Kind}
 use Rattle.dnr_base.specs.declared.kind.Kind.TheVariants as kind
@@ -14,12 +13,11 @@ use Rattle.dnr_base.specs.declared.method.Method.{Method}
 use Rattle.dnr_base.specs.declared.method.Method.TheVariants as method
 use Rattle.rule_spec.specs.declared.rule_path.RulePath.{RulePath}
 use Rattle.rule_spec.specs.declared.rule_path.RulePath.TheVariants as path
-use Rattle.rule_spec.specs.declared.rule_refusal.RuleRefusal.{RuleRefusal}
 use Rattle.rule_spec.specs.RulePath.{key_of}
 use Rattle.rule_spec.specs.Rule.{Condition}
 use Rattle.rule_spec.specs.IsRule.{is_tab, AreTabs, IsCondition}
 use Rattle.json_spec.specs.RuleFields.{each, list_of, as_texts, as_party, as_kind, as_kinds, kind_set, as_method, as_methods, method_set, as_tab, tab_in_range, tab_set, as_tabs, field_from, field_in, unless_given, absent_in, unless_beside, old_list_in, Fields, refusal_in, field_of, fields_in, first_refusal, unless_refused}
-use Rattle.json_spec.specs.Written.{Field, written_list, unless_empty, if_true, ascending_domains, ascending_tabs, domains_written, tab_written, tabs_written, kind_written, are_default, kinds_written, exclusion_of, exclusion_written, method_written, methods_written, party_written, condition_written}
+use Rattle.json_spec.specs.Written.{written_list, unless_empty, if_true, ascending_domains, ascending_tabs, domains_written, tab_written, tabs_written, kind_written, are_default, kinds_written, exclusion_of, exclusion_written, method_written, methods_written, party_written, condition_written}
 use Rattle.written_laws.proofs.Objects.{found, missing}
 use Rattle.written_laws.proofs.Sets.{both, tabs_all, tab_set-ascending}
 use Rattle.written_laws.proofs.Values.{condition_fields}
@@ -350,27 +348,27 @@ fields_read c is =
     let old_initiators = old-absent path.InitiatorDomains path.Domains c (no-old_initiators c) in
     let old_not_initiators = old-absent path.ExcludedInitiatorDomains path.ExcludedDomains c (no-old_not_initiators c) in
     λ i. unless_refused (first_refusal (
-      refusal_in (top_domains i)
-      ∷ refusal_in (not_top_domains i)
-      ∷ refusal_in (response_headers i)
-      ∷ refusal_in (not_response_headers i)
-      ∷ refusal_in (url_filter-read c i)
-      ∷ refusal_in (regex_filter-read c i)
-      ∷ refusal_in (case_sensitive-read c i)
-      ∷ refusal_in (initiators-read c i)
-      ∷ refusal_in (not_initiators-read c i)
-      ∷ refusal_in (old_initiators i)
-      ∷ refusal_in (old_not_initiators i)
-      ∷ refusal_in (hosts-read c i)
-      ∷ refusal_in (not_hosts-read c i)
-      ∷ refusal_in (third_party-read c i)
-      ∷ refusal_in (kinds-read-at c i)
-      ∷ refusal_in (not_kinds-read c i)
-      ∷ refusal_in (methods-read-at c i)
-      ∷ refusal_in (not_methods-read c i)
-      ∷ refusal_in (tabs-read-at c is i)
-      ∷ refusal_in (not_tabs-read c is i)
-      ∷ []
+    refusal_in (top_domains i)
+    ∷ refusal_in (not_top_domains i)
+    ∷ refusal_in (response_headers i)
+    ∷ refusal_in (not_response_headers i)
+    ∷ refusal_in (url_filter-read c i)
+    ∷ refusal_in (regex_filter-read c i)
+    ∷ refusal_in (case_sensitive-read c i)
+    ∷ refusal_in (initiators-read c i)
+    ∷ refusal_in (not_initiators-read c i)
+    ∷ refusal_in (old_initiators i)
+    ∷ refusal_in (old_not_initiators i)
+    ∷ refusal_in (hosts-read c i)
+    ∷ refusal_in (not_hosts-read c i)
+    ∷ refusal_in (third_party-read c i)
+    ∷ refusal_in (kinds-read-at c i)
+    ∷ refusal_in (not_kinds-read c i)
+    ∷ refusal_in (methods-read-at c i)
+    ∷ refusal_in (not_methods-read c i)
+    ∷ refusal_in (tabs-read-at c is i)
+    ∷ refusal_in (not_tabs-read c is i)
+    ∷ []
     )) (record {
       url_filter = field_of (url_filter-read c i);
       regex_filter = field_of (regex_filter-read c i);

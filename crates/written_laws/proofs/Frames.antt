@@ -1,12 +1,10 @@
 -- Rules that allow all requests list frames when they are written.
-use Rattle.std.proofs.Common.{◌≡◌, ℕ, suc, ◌<◌, List, [], ◌∷◌, length, filter, Bool, true, false, cond, not, ◌&&◌, ◌||◌, Option, Some, None, Result, Ok, refl, sym, ap, ◌∙◌, subst, arith}
-use Rattle.std.specs.Prelude.{codes, nat_le}
+use Rattle.std.proofs.Common.{◌≡◌, ◌<◌, List, [], ◌∷◌, length, filter, Bool, true, false, cond, not, ◌&&◌, ◌||◌, Some, None, Ok, refl, sym, ap, ◌∙◌, arith}
+use Rattle.std.specs.Prelude.{nat_le}
 use Rattle.std.specs.List.{list_all}
-use Rattle.std.proofs.lemmas.Bool.{true≢false, false≢true}
-use Rattle.std.proofs.lemmas.Bool.Decides.{nat_tests}
+use Rattle.std.proofs.lemmas.Bool.{false≢true}
 use Rattle.dnr_base.specs.declared.kind.Kind.{Kind}
-use Rattle.dnr_base.specs.Kind.{all_kinds, default_kinds, has_kind, same_kind}
-use Rattle.rule_spec.specs.declared.rule_refusal.RuleRefusal.{RuleRefusal}
+use Rattle.dnr_base.specs.Kind.{all_kinds, has_kind, same_kind}
 use Rattle.rule_spec.specs.declared.rule_refusal.RuleRefusal.TheVariants.{AllowAllTypes}
 use Rattle.rule_spec.specs.Rule.{Condition, Action, block, redirect, allow, upgrade_scheme, modify_headers, allow_all_requests}
 use Rattle.rule_spec.specs.IsRule.{is_frame_kind, are_frame_kinds, IsAction}

@@ -1,6 +1,6 @@
 -- Objects and lists that are written and read again, and what is found in them.
-use Rattle.std.proofs.Common.{◌≡◌, ℕ, zero, suc, ◌≤◌, max, List, [], ◌∷◌, map, Bool, true, false, cond, Option, Some, None, option_map, option_and_then, Ordering, Less, Equal, Greater, nat_cmp, bytes_eq, IsUtf8, refl, sym, ap, ◌∙◌, subst, arith, append-nil}
-use Rattle.std.specs.Prelude.{IfSome, codes}
+use Rattle.std.proofs.Common.{◌≡◌, ℕ, suc, ◌≤◌, List, [], ◌∷◌, map, Bool, true, false, cond, Option, Some, None, option_map, option_and_then, Ordering, Less, Equal, Greater, nat_cmp, bytes_eq, refl, sym, ap, ◌∙◌, subst, arith, append-nil}
+use Rattle.std.specs.Prelude.{IfSome}
 use Rattle.std.specs.List.{AllByRecursion}
 use Rattle.std.specs.Ordering.{match_ordering, ordering_reverse}
 use Rattle.std.specs.Cmp.Lexicographic.{slice_cmp}
@@ -20,9 +20,7 @@ use Rattle.serde_json.specs.View.{items_of}
 use Rattle.serde_json.specs.Written.{outline, items_outline, members_outline, compact_text}
 use Rattle.serde_json.proofs.Texts.{print-outline}
 use Rattle.serde_json.proofs.Views.{get_member-put, get_member-put_other}
-use Rattle.json_spec.specs.Json.{tree_of}
 use Rattle.json_spec.specs.Written.{Field, with_field, with_fields, object_of, written_list}
-use Rattle.json_spec.proofs.Trees.{tree_of_read}
 
 -- ---- keys that ascend
 

@@ -1,38 +1,35 @@
 -- Written rules are read as the same rules in their normal form.
-use Rattle.std.proofs.Common.{◌≡◌, ℕ, suc, ◌^◌, ◌<◌, List, [], ◌∷◌, ◌++◌, length, map, Bool, true, false, cond, not, ◌&&◌, ◌||◌, ◌==◌, Option, Some, None, Result, Ok, Err, refl, sym, ap, ◌∙◌, subst, arith, append-nil, append_assoc, IsUtf8}
-use Rattle.std.specs.Prelude.{codes, IsTrue, All, nat_le, nat_lt, is_some, is_none, unwrap_or, option_map, option_and_then}
+use Rattle.std.proofs.Common.{◌≡◌, ℕ, List, [], ◌∷◌, ◌++◌, length, map, Bool, true, false, cond, not, ◌&&◌, ◌||◌, ◌==◌, Some, None, Ok, refl, sym, ap, ◌∙◌, arith, append-nil, append_assoc, IsUtf8}
+use Rattle.std.specs.Prelude.{codes, All, is_none, unwrap_or, option_and_then}
 use Rattle.std.specs.Option.{option_map_or}
 use Rattle.std.specs.Result.{result_unwrap_or}
-use Rattle.std.specs.List.{AllByRecursion, list_all, list_any}
+use Rattle.std.specs.List.{AllByRecursion, list_all}
 use Rattle.std.proofs.lemmas.Bool.Decides.{nat_tests}
 use Rattle.std.proofs.lemmas.List.Elements.{All-head, All-tail}
-use Rattle.serde_json.specs.Data.{Data, number, unsigned, null}
-use Rattle.serde_json.specs.Find.{get, as_object, as_array}
+use Rattle.serde_json.specs.Data.{number, unsigned, null}
+use Rattle.serde_json.specs.Find.{get, as_object}
 use Rattle.serde_json.specs.View.{items_of}
-use Rattle.serde_json.specs.Written.{compact_text}
 use Rattle.dnr_spec.specs.Patterns.{groups_of}
 use Rattle.header_actions.specs.Again.{ReadsAgain}
 use Rattle.rule_spec.specs.declared.rule_kind.RuleKind.{RuleKind}
 use Rattle.rule_spec.specs.declared.rule_kind.RuleKind.TheVariants.{Session}
 use Rattle.rule_spec.specs.declared.rule_path.RulePath.TheVariants as path
-use Rattle.rule_spec.specs.declared.rule_refusal.RuleRefusal.{RuleRefusal}
 use Rattle.rule_spec.specs.declared.rule_refusal.RuleRefusal.TheVariants.{NotObject, BadId, DuplicateId, BadPriority, BadField}
-use Rattle.rule_spec.specs.Rule.{Condition, Action, block, Rule}
+use Rattle.rule_spec.specs.Rule.{block, Rule}
 use Rattle.rule_spec.specs.IsRule.{is_number, IsRule}
-use Rattle.json_spec.specs.Json.{tree_of}
-use Rattle.json_spec.specs.RuleFields.{first_refusal, refused_if, refusal_in, unless_refused, Fields, fields_in}
+use Rattle.json_spec.specs.RuleFields.{first_refusal, refused_if, refusal_in, unless_refused, fields_in}
 use Rattle.json_spec.specs.RuleAction.{action_in}
 use Rattle.json_spec.specs.Written.{condition_written, action_written, rule_written, rules_written, written}
-use Rattle.json_spec.specs.ReadRule.{filters_in, domain_lists_in, lists_in, condition_of, in_range, as_id, id_of, priority_from, priority_of, condition_at, no_fields, no_lists, may_name_tabs, Numbers, numbers_in, no_numbers, frames_in, tabs_in, rule_in, has_id, read_next, read_from, read_items, read_rules}
+use Rattle.json_spec.specs.ReadRule.{filters_in, domain_lists_in, lists_in, condition_of, as_id, id_of, priority_from, priority_of, condition_at, no_fields, no_lists, may_name_tabs, numbers_in, no_numbers, frames_in, tabs_in, rule_in, has_id, read_next, read_from, read_rules}
 use Rattle.json_spec.specs.RulesFile.{rules_or_refusal, rules_in_tree, rules_of}
 use Rattle.json_spec.proofs.Trees.{tree_of_read}
-use Rattle.written_laws.specs.Normal.{normal_condition, normal, names_tabs}
+use Rattle.written_laws.specs.Normal.{normal, names_tabs}
 use Rattle.written_laws.specs.Read.{IdsDiffer, WrittenTextsAreTrees, WrittenRulesAreRead, TablessRulesAreRead}
 use Rattle.written_laws.proofs.Objects.{found, text_back}
 use Rattle.written_laws.proofs.Sets.{both}
 use Rattle.written_laws.proofs.Values.{rule_fields, rules_back}
 use Rattle.written_laws.proofs.Fields.{fields_kept, fields_read}
-use Rattle.written_laws.proofs.Conditions.{filters_pass, lists_kept, lists_are_read, lists_pass, tabs_pass, condition_made}
+use Rattle.written_laws.proofs.Conditions.{filters_pass, lists_are_read, lists_pass, tabs_pass, condition_made}
 use Rattle.written_laws.proofs.Actions.{action_read}
 use Rattle.written_laws.proofs.Frames.{frames_pass}
 
@@ -83,15 +80,15 @@ module _ (rule : Rule) where
       let id = id-read id_is in
       let priority = priority-read priority_is in
       (λ i. unless_refused (first_refusal (
-        refused_if (is-object i) NotObject
-        ∷ refused_if (is_none (id i)) BadId
-        ∷ refused_if (option_map_or is_taken (id i) false) DuplicateId
-        ∷ refused_if (is_none (priority i)) BadPriority
-        ∷ refused_if (is_none (as_object (condition-at i))) (BadField path.Condition)
-        ∷ []
+      refused_if (is-object i) NotObject
+      ∷ refused_if (is_none (id i)) BadId
+      ∷ refused_if (option_map_or is_taken (id i) false) DuplicateId
+      ∷ refused_if (is_none (priority i)) BadPriority
+      ∷ refused_if (is_none (as_object (condition-at i))) (BadField path.Condition)
+      ∷ []
       )) (record { id = unwrap_or (id i) 0; priority = unwrap_or (priority i) 0 }))
       ∙ (λ i. unless_refused (first_refusal (
-        None ∷ None ∷ refused_if (free i) DuplicateId ∷ None ∷ refused_if (has-condition i) (BadField path.Condition) ∷ []
+      None ∷ None ∷ refused_if (free i) DuplicateId ∷ None ∷ refused_if (has-condition i) (BadField path.Condition) ∷ []
       )) (record { id = rule.id; priority = rule.priority }))
 
   -- a written rule is read as its normal form
@@ -110,15 +107,15 @@ module _ (rule : Rule) where
       let tabs = tabs_pass kind c may in
       let acts = action_read again c rule.action is.action in
       (λ i. unless_refused (first_refusal (
-        refusal_in (numbers i)
-        ∷ refusal_in (fields i)
-        ∷ refusal_in (filters_in (result_unwrap_or (fields i) no_fields))
-        ∷ refusal_in (domain_lists_in (result_unwrap_or (fields i) no_fields))
-        ∷ refusal_in (lists_in (result_unwrap_or (fields i) no_fields))
-        ∷ refusal_in (frames_in (action i) (result_unwrap_or (fields i) no_fields))
-        ∷ refusal_in (tabs_in kind (result_unwrap_or (fields i) no_fields))
-        ∷ refusal_in (action_in (option_map_or groups_of (result_unwrap_or (fields i) no_fields).regex_filter None) (action i))
-        ∷ []
+      refusal_in (numbers i)
+      ∷ refusal_in (fields i)
+      ∷ refusal_in (filters_in (result_unwrap_or (fields i) no_fields))
+      ∷ refusal_in (domain_lists_in (result_unwrap_or (fields i) no_fields))
+      ∷ refusal_in (lists_in (result_unwrap_or (fields i) no_fields))
+      ∷ refusal_in (frames_in (action i) (result_unwrap_or (fields i) no_fields))
+      ∷ refusal_in (tabs_in kind (result_unwrap_or (fields i) no_fields))
+      ∷ refusal_in (action_in (option_map_or groups_of (result_unwrap_or (fields i) no_fields).regex_filter None) (action i))
+      ∷ []
       )) (record {
         id = (result_unwrap_or (numbers i) no_numbers).id;
         priority = (result_unwrap_or (numbers i) no_numbers).priority;
@@ -126,15 +123,15 @@ module _ (rule : Rule) where
         action = result_unwrap_or (action_in (option_map_or groups_of (result_unwrap_or (fields i) no_fields).regex_filter None) (action i)) block;
       }))
       ∙ (λ i. unless_refused (first_refusal (
-        None
-        ∷ None
-        ∷ refusal_in (filters i)
-        ∷ refusal_in (lists i)
-        ∷ refusal_in (given i)
-        ∷ refusal_in (frames i)
-        ∷ refusal_in (tabs i)
-        ∷ refusal_in (acts i)
-        ∷ []
+      None
+      ∷ None
+      ∷ refusal_in (filters i)
+      ∷ refusal_in (lists i)
+      ∷ refusal_in (given i)
+      ∷ refusal_in (frames i)
+      ∷ refusal_in (tabs i)
+      ∷ refusal_in (acts i)
+      ∷ []
       )) (record {
         id = rule.id;
         priority = rule.priority;
@@ -167,6 +164,7 @@ free-more earlier rule (next ∷ rules) free apart =
     neither : (a b : Bool) → (a || b) ≡ false → (a ≡ false) × (b ≡ false)
     neither true b e = cc
     neither false b e = (refl, e)
+
     turned : (m n : ℕ) → (m == n) ≡ false → (n == m) ≡ false
     turned m n e = grind (arith, nat_tests)
 

@@ -1,5 +1,5 @@
 -- Lists that are taken as sets and stand in one order.
-use Rattle.std.proofs.Common.{◌≡◌, ℕ, ℤ, ◌+◌, ◌<◌, List, [], ◌∷◌, ◌++◌, length, fold, Bool, true, false, cond, ◌&&◌, ◌||◌, Ordering, Less, Equal, Greater, nat_cmp, refl, sym, ap, ◌∙◌, subst, arith, append-nil, append_assoc}
+use Rattle.std.proofs.Common.{◌≡◌, ℕ, ℤ, ◌<◌, List, [], ◌∷◌, ◌++◌, length, fold, Bool, true, false, cond, ◌&&◌, ◌||◌, Ordering, Less, Equal, Greater, nat_cmp, refl, sym, ap, ◌∙◌, arith, append-nil, append_assoc}
 use Rattle.std.specs.List.{AllByRecursion, list_all, list_any}
 use Rattle.std.specs.Ordering.{match_ordering, ordering_reverse, is_eq, int_cmp, int_eq}
 use Rattle.std.specs.Cmp.{IsTotalOrder}

@@ -1,6 +1,6 @@
 -- What is written of a rule is UTF-8 where the rule's texts are.
-use Rattle.std.proofs.Common.{◌≡◌, ℕ, ℤ, pos, negsuc, suc, ◌^◌, ◌<◌, List, [], ◌∷◌, ◌++◌, map, flat_map, Bool, true, false, cond, ◌&&◌, Option, Some, None, nat_cmp, IsUtf8, refl, sym, ap, ◌∙◌, arith}
-use Rattle.std.specs.Prelude.{IfSome, IsTrue, All, codes, nat_le, unwrap_or, option_map, option_to_list}
+use Rattle.std.proofs.Common.{◌≡◌, ℕ, ℤ, pos, negsuc, ◌^◌, ◌<◌, List, [], ◌∷◌, ◌++◌, map, flat_map, Bool, true, false, cond, ◌&&◌, Option, Some, None, nat_cmp, IsUtf8, refl, sym, ◌∙◌, arith}
+use Rattle.std.specs.Prelude.{IfSome, All, codes, nat_le, unwrap_or, option_map, option_to_list}
 use Rattle.std.specs.List.{AllByRecursion, list_all}
 use Rattle.std.specs.Str.{is_utf8}
 use Rattle.std.specs.Cmp.Lexicographic.{slice_cmp}
@@ -31,7 +31,7 @@ use Rattle.dnr_spec.specs.Headers.{HeaderOp}
 use Rattle.rule_spec.specs.Rule.{Condition, Action, block, redirect, allow, upgrade_scheme, modify_headers, allow_all_requests, Rule}
 use Rattle.rule_spec.specs.IsRule.{is_number, is_tab, AreTabs, IsCondition, IsRule}
 use Rattle.json_spec.specs.RuleFields.{kind_set, method_set}
-use Rattle.json_spec.specs.Written.{Field, written_list, unless_empty, ascending_domains, ascending_tabs, domains_written, tab_written, tabs_written, kind_written, are_default, kinds_written, exclusion_of, exclusion_written, method_written, methods_written, party_written, condition_written, pair_written, changes_written, scheme_written, transform_written, redirect_written, operation_name, op_written, type_name, target_fields, action_written, rule_written, rules_written, written}
+use Rattle.json_spec.specs.Written.{written_list, unless_empty, ascending_domains, ascending_tabs, domains_written, tab_written, tabs_written, kind_written, are_default, kinds_written, exclusion_of, exclusion_written, method_written, methods_written, party_written, condition_written, pair_written, changes_written, scheme_written, transform_written, redirect_written, operation_name, op_written, type_name, target_fields, action_written, rule_written}
 use Rattle.written_laws.specs.Texts.{condition_texts, pair_texts, changes_texts, transform_texts, redirect_texts, op_texts, action_texts, texts_of}
 use Rattle.written_laws.specs.Read.{WrittenTextsAreUtf8}
 use Rattle.written_laws.proofs.Sets.{both, set_all, tabs_all}
@@ -170,21 +170,62 @@ condition-is c is h =
     let not_initiators = two c.not_initiators _ initiators.1 in
     let hosts = two (unwrap_or c.hosts []) _ not_initiators.1 in
     object_text (condition_fields c) (
-      refl, option-is c.url_filter url.0,
-      (refl, option-is c.regex_filter regex.0,
-      (refl, flag_text c.case_sensitive,
-      (refl, given-is party_written party-is c.third_party,
-      (refl, domains-is c.initiators initiators.0,
-      (refl, texts-is (ascending_domains c.not_initiators) (ordered c.not_initiators not_initiators.0),
-      (refl, domains-is c.hosts hosts.0,
-      (refl, texts-is (ascending_domains c.not_hosts) (ordered c.not_hosts hosts.1),
-      (refl, kinds-is c.kinds,
-      (refl, excluded-is c.kinds,
-      (refl, given-is methods_written (λ list. method_list-is (method_set list)) c.methods,
-      (refl, some-is method_written (method_set c.not_methods) (method_list-is (method_set c.not_methods)),
-      (refl, tabs-is c.tabs is.tabs.1,
-      (refl, some-is tab_written (ascending_tabs c.not_tabs) (tab_list-is c.not_tabs is.not_tabs),
-      tt))))))))))))))
+      refl,
+      option-is c.url_filter url.0,
+      (
+        refl,
+        option-is c.regex_filter regex.0,
+        (
+          refl,
+          flag_text c.case_sensitive,
+          (
+            refl,
+            given-is party_written party-is c.third_party,
+            (
+              refl,
+              domains-is c.initiators initiators.0,
+              (
+                refl,
+                texts-is (ascending_domains c.not_initiators) (ordered c.not_initiators not_initiators.0),
+                (
+                  refl,
+                  domains-is c.hosts hosts.0,
+                  (
+                    refl,
+                    texts-is (ascending_domains c.not_hosts) (ordered c.not_hosts hosts.1),
+                    (
+                      refl,
+                      kinds-is c.kinds,
+                      (
+                        refl,
+                        excluded-is c.kinds,
+                        (
+                          refl,
+                          given-is methods_written (λ list. method_list-is (method_set list)) c.methods,
+                          (
+                            refl,
+                            some-is method_written (method_set c.not_methods) (method_list-is (method_set c.not_methods)),
+                            (
+                              refl,
+                              tabs-is c.tabs is.tabs.1,
+                              (
+                                refl,
+                                some-is tab_written (ascending_tabs c.not_tabs) (tab_list-is c.not_tabs is.not_tabs),
+                                tt,
+                              ),
+                            ),
+                          ),
+                        ),
+                      ),
+                    ),
+                  ),
+                ),
+              ),
+            ),
+          ),
+        ),
+      ),
+    )
 
 -- ---- the action
 
@@ -228,15 +269,38 @@ transform-is t h =
     let fragment = two (option_to_list t.fragment) _ changes.1 in
     let username = two (option_to_list t.username) _ fragment.1 in
     object_text (transform_fields t) (
-      refl, given-is scheme_written (λ s. word-is (scheme_text s) (scheme-word s)) t.scheme,
-      (refl, option-is t.host host.0,
-      (refl, option-is t.port port.0,
-      (refl, option-is t.path path.0,
-      (refl, option-is t.query query.0,
-      (refl, changes-is t.query_transform changes.0,
-      (refl, option-is t.fragment fragment.0,
-      (refl, option-is t.username username.0,
-      (refl, option-is t.password username.1, tt)))))))))
+      refl,
+      given-is scheme_written (λ s. word-is (scheme_text s) (scheme-word s)) t.scheme,
+      (
+        refl,
+        option-is t.host host.0,
+        (
+          refl,
+          option-is t.port port.0,
+          (
+            refl,
+            option-is t.path path.0,
+            (
+              refl,
+              option-is t.query query.0,
+              (
+                refl,
+                changes-is t.query_transform changes.0,
+                (
+                  refl,
+                  option-is t.fragment fragment.0,
+                  (
+                    refl,
+                    option-is t.username username.0,
+                    (refl, option-is t.password username.1, tt),
+                  ),
+                ),
+              ),
+            ),
+          ),
+        ),
+      ),
+    )
 
 one-is : (text : List ℕ) → Are (text ∷ []) → IsText (string text)
 one-is text h = text-is text (both (is_utf8 text) true h).0
@@ -289,10 +353,18 @@ unfolding rule_written
 rule-is rule is h =
     let p = two (condition_texts rule.condition) (action_texts rule.action) h in
     object_text (rule_fields rule) (
-      refl, number_text rule.id (id-is rule.id is.id),
-      (refl, number_text rule.priority (id-is rule.priority is.priority),
-      (refl, condition-is rule.condition is.condition p.0,
-      (refl, action-is rule.action p.1, tt))))
+      refl,
+      number_text rule.id (id-is rule.id is.id),
+      (
+        refl,
+        number_text rule.priority (id-is rule.priority is.priority),
+        (
+          refl,
+          condition-is rule.condition is.condition p.0,
+          (refl, action-is rule.action p.1, tt),
+        ),
+      ),
+    )
 
 each-rule : (rules : List Rule) → All IsRule rules → All (λ rule. All IsUtf8 (texts_of rule)) rules → AllByRecursion (λ rule. IsText (rule_written rule)) rules
 each-rule [] are texts = tt

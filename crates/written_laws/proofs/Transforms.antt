@@ -1,12 +1,11 @@
 -- Written redirects are read as they are.
-use Rattle.std.proofs.Common.{◌≡◌, ℕ, ◌+◌, ◌≤◌, List, [], ◌∷◌, length, map, Bool, true, false, cond, ◌&&◌, ◌||◌, Option, Some, None, Result, Ok, Err, refl, sym, ap, ◌∙◌, subst, arith}
+use Rattle.std.proofs.Common.{◌≡◌, ℕ, ◌+◌, ◌≤◌, List, [], ◌∷◌, length, map, Bool, true, false, cond, ◌&&◌, ◌||◌, Option, Some, None, Ok, refl, sym, ap, ◌∙◌, subst, arith}
 use Rattle.std.specs.Prelude.{IfSome, IsTrue, codes, nat_le, is_some, is_none, option_map, option_and_then}
 use Rattle.std.specs.List.{AllByRecursion, list_all}
 use Rattle.std.specs.Str.{str_to_ascii_lowercase}
 use Rattle.std.proofs.lemmas.Bool.Decides.{nat_tests}
 use Rattle.serde_json.specs.Data.{Data, string}
 use Rattle.serde_json.specs.Find.{get, as_object}
-use Rattle.serde_json.specs.View.{items_of}
 use Rattle.dnr_base.specs.declared.scheme.Scheme.{Scheme}
 use Rattle.dnr_base.specs.declared.scheme.Scheme.TheVariants as scheme
 use Rattle.dnr_base.specs.declared.redirect.Redirect.{Redirect}
@@ -14,10 +13,9 @@ use Rattle.dnr_base.specs.declared.redirect.Redirect.TheVariants as redirect
 use Rattle.dnr_base.specs.declared.transform.Transform.{Transform}
 use Rattle.dnr_base.specs.declared.query_transform.QueryTransform.{QueryTransform}
 use Rattle.dnr_base.specs.declared.query_pair.QueryPair.{QueryPair}
-use Rattle.rule_spec.specs.declared.rule_refusal.RuleRefusal.{RuleRefusal}
 use Rattle.rule_spec.specs.declared.rule_refusal.RuleRefusal.TheVariants.{BadTransform}
 use Rattle.rule_spec.specs.Redirects.{is_short, is_short_pair, is_new_host, is_new_port, is_new_path, is_new_query, is_new_fragment, is_new_scheme, is_extension_path, is_redirect_url, is_substitution, max_entries, IsPart, IsKeptHost, AreChanges, IsTransform, IsRedirect}
-use Rattle.json_spec.specs.RuleFields.{each, list_of, first_refusal, refused_if, refusal_in, unless_refused}
+use Rattle.json_spec.specs.RuleFields.{list_of, first_refusal, refused_if, refusal_in, unless_refused}
 use Rattle.json_spec.specs.RuleAction.{tested_text, short_text, as_new_scheme, list_from, flag_from, pair_from, as_pair, changes_from, as_changes, given_part, part_from, part_in, part_of, transform_in, extension_in, url_in, substitution_in, or_bad_redirect, transformed_by, redirect_of}
 use Rattle.json_spec.specs.Written.{written_list, unless_empty, if_true, pair_written, changes_written, scheme_written, transform_written, redirect_written}
 use Rattle.written_laws.proofs.Objects.{found}
@@ -71,9 +69,9 @@ few-passes n h = grind (arith, nat_tests)
 changes-read : (changes : QueryTransform) → AreChanges changes → as_changes (changes_written changes) ≡ Some changes
 changes-read changes are =
     let remove = ap (list_from short_text) (found (codes "removeParams") (changes_fields changes) (unless_empty (map string changes.remove)) refl)
-        ∙ tested-read string short_text is_short short-read changes.remove are.keys in
+    ∙ tested-read string short_text is_short short-read changes.remove are.keys in
     let add = ap (list_from as_pair) (found (codes "addOrReplaceParams") (changes_fields changes) (unless_empty (map pair_written changes.add)) refl)
-        ∙ tested-read pair_written as_pair is_short_pair pair-read changes.add are.pairs in
+    ∙ tested-read pair_written as_pair is_short_pair pair-read changes.add are.pairs in
     (λ i. changes_from (remove i) (add i)) ∙ ap (λ b. cond b (Some changes) None) (few-passes (length changes.remove + length changes.add) are.few)
 
 -- ---- the parts of a transform
@@ -163,31 +161,31 @@ module _ (t : Transform) where
   unfolding transform_in
   transform_read is =
       let scheme = part_at as_new_scheme (codes "scheme") t scheme_written t.scheme at-scheme
-          (if_some (λ s. IsTrue (is_new_scheme s)) (λ s. as_new_scheme (scheme_written s) ≡ Some s) t.scheme scheme-read is.scheme) in
+      (if_some (λ s. IsTrue (is_new_scheme s)) (λ s. as_new_scheme (scheme_written s) ≡ Some s) t.scheme scheme-read is.scheme) in
       let host = part_at (tested_text is_new_host) (codes "host") t string t.host at-host
-          (if_some IsKeptHost (λ text. tested_text is_new_host (string text) ≡ Some text) t.host host-read is.host) in
+      (if_some IsKeptHost (λ text. tested_text is_new_host (string text) ≡ Some text) t.host host-read is.host) in
       let port = tested-part is_new_port (codes "port") t t.port at-port is.port in
       let path = tested-part is_new_path (codes "path") t t.path at-path is.path in
       let query = tested-part is_new_query (codes "query") t t.query at-query is.query in
       let changes = part_at as_changes (codes "queryTransform") t changes_written t.query_transform at-changes
-          (if_some AreChanges (λ changes. as_changes (changes_written changes) ≡ Some changes) t.query_transform changes-read is.changes) in
+      (if_some AreChanges (λ changes. as_changes (changes_written changes) ≡ Some changes) t.query_transform changes-read is.changes) in
       let one_query = (λ i. is_some (at-query i) && is_some (at-changes i)) ∙ one_given t.query t.query_transform string changes_written is.one_query in
       let fragment = tested-part is_new_fragment (codes "fragment") t t.fragment at-fragment is.fragment in
       let username = tested-part (λ text. true) (codes "username") t t.username at-username is.username in
       let password = tested-part (λ text. true) (codes "password") t t.password at-password is.password in
       (λ i. unless_refused (first_refusal (
-        refused_if (is-object i) BadTransform
-        ∷ refusal_in (scheme i)
-        ∷ refusal_in (host i)
-        ∷ refusal_in (port i)
-        ∷ refusal_in (path i)
-        ∷ refusal_in (query i)
-        ∷ refusal_in (changes i)
-        ∷ refused_if (one_query i) BadTransform
-        ∷ refusal_in (fragment i)
-        ∷ refusal_in (username i)
-        ∷ refusal_in (password i)
-        ∷ []
+      refused_if (is-object i) BadTransform
+      ∷ refusal_in (scheme i)
+      ∷ refusal_in (host i)
+      ∷ refusal_in (port i)
+      ∷ refusal_in (path i)
+      ∷ refusal_in (query i)
+      ∷ refusal_in (changes i)
+      ∷ refused_if (one_query i) BadTransform
+      ∷ refusal_in (fragment i)
+      ∷ refusal_in (username i)
+      ∷ refusal_in (password i)
+      ∷ []
       )) (record {
         scheme = part_of (scheme i);
         host = option_map str_to_ascii_lowercase (part_of (host i));

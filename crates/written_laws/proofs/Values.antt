@@ -1,11 +1,10 @@
 -- What is written of a rule is read back from its text.
-use Rattle.std.proofs.Common.{◌≡◌, ℕ, ℤ, pos, negsuc, suc, ◌+◌, ◌^◌, ◌<◌, ◌≤◌, List, [], ◌∷◌, ◌++◌, map, Bool, true, false, cond, Option, Some, None, option_map, refl, ap, ◌∙◌, arith}
-use Rattle.std.specs.Prelude.{IfSome, IsTrue, codes, nat_le}
+use Rattle.std.proofs.Common.{◌≡◌, ℕ, ℤ, pos, negsuc, suc, ◌^◌, ◌<◌, ◌≤◌, List, [], ◌∷◌, ◌++◌, map, Bool, true, false, cond, Option, Some, None, option_map, refl, ap, arith}
+use Rattle.std.specs.Prelude.{IfSome, codes, nat_le}
 use Rattle.std.specs.List.{AllByRecursion, list_all}
 use Rattle.std.proofs.lemmas.Bool.Decides.{nat_tests}
-use Rattle.json.specs.Json as json
 use Rattle.json.proofs.Printed.Decimals.{IsNumber-decimal, IsNumber-signed_decimal}
-use Rattle.serde_json.specs.Data.{Data, boolean, number, unsigned, string}
+use Rattle.serde_json.specs.Data.{Data, number, unsigned, string}
 use Rattle.serde_json.proofs.Numbers.{number_of-decimal, number_of-negative}
 use Rattle.dnr_base.specs.Kind.{all_kinds}
 use Rattle.dnr_base.specs.declared.kind.Kind.{Kind}
@@ -17,14 +16,13 @@ use Rattle.dnr_base.specs.declared.query_transform.QueryTransform.{QueryTransfor
 use Rattle.dnr_base.specs.declared.query_pair.QueryPair.{QueryPair}
 use Rattle.dnr_spec.specs.Headers.{HeaderOp}
 use Rattle.rule_spec.specs.Rule.{Condition, Action, block, redirect, allow, upgrade_scheme, modify_headers, allow_all_requests, Rule}
-use Rattle.rule_spec.specs.IsRule.{is_number, is_tab, AreTabs, IsGivenWhole, IsCondition, IsRule}
+use Rattle.rule_spec.specs.IsRule.{is_number, is_tab, AreTabs, IsCondition, IsRule}
 use Rattle.json_spec.specs.RuleFields.{kind_set, method_set}
-use Rattle.json_spec.specs.Written.{Field, with_fields, object_of, written_list, unless_empty, if_true, ascending_domains, ascending_tabs, domains_written, tab_written, tabs_written, kind_written, are_default, kinds_written, exclusion_of, exclusion_written, method_written, methods_written, party_written, filter_fields, domain_fields, kind_fields, method_fields, tab_fields, condition_written, pair_written, changes_written, scheme_written, place_fields, query_fields, end_fields, transform_written, redirect_written, operation_name, op_written, type_name, target_fields, action_written, rule_written, rules_written}
+use Rattle.json_spec.specs.Written.{Field, written_list, unless_empty, if_true, ascending_domains, ascending_tabs, domains_written, tab_written, tabs_written, kind_written, are_default, kinds_written, exclusion_of, exclusion_written, method_written, methods_written, party_written, filter_fields, domain_fields, kind_fields, method_fields, tab_fields, condition_written, pair_written, changes_written, scheme_written, place_fields, query_fields, end_fields, transform_written, redirect_written, operation_name, op_written, type_name, target_fields, action_written, rule_written, rules_written}
 use Rattle.written_laws.proofs.Objects.{IsBack, FieldsBack, object_back, list_back}
 use Rattle.written_laws.proofs.Sets.{both, tabs_all}
 
 -- ---- the fields of objects
-
 
 abbrev pub condition_fields : Condition → List Field
 condition_fields c = filter_fields c ++ (domain_fields c ++ (kind_fields c ++ (method_fields c ++ tab_fields c)))
@@ -139,19 +137,44 @@ condition_back c is =
     let method_list_back = λ (list : List Method). each_back 0 method_written (λ method. text_back 0 _) list in
     object_back 1 (condition_fields c) (
       given_text_back 1 c.url_filter,
-      (given_text_back 1 c.regex_filter,
-      (flag_back 1 c.case_sensitive,
-      (given_back 1 party_written (party_back 1) c.third_party,
-      (domains_back 0 c.initiators,
-      (texts_back 0 (ascending_domains c.not_initiators),
-      (domains_back 0 c.hosts,
-      (texts_back 0 (ascending_domains c.not_hosts),
-      (kinds_back 0 c.kinds,
-      (excluded_back 0 c.kinds,
-      (given_back 1 methods_written (λ list. method_list_back (method_set list)) c.methods,
-      (some_back 0 method_written (method_set c.not_methods) (method_list_back (method_set c.not_methods)),
-      (tabs_back 0 c.tabs is.tabs.1,
-      (some_back 0 tab_written (ascending_tabs c.not_tabs) (tab_list_back 0 c.not_tabs is.not_tabs), tt))))))))))))))
+      (
+        given_text_back 1 c.regex_filter,
+        (
+          flag_back 1 c.case_sensitive,
+          (
+            given_back 1 party_written (party_back 1) c.third_party,
+            (
+              domains_back 0 c.initiators,
+              (
+                texts_back 0 (ascending_domains c.not_initiators),
+                (
+                  domains_back 0 c.hosts,
+                  (
+                    texts_back 0 (ascending_domains c.not_hosts),
+                    (
+                      kinds_back 0 c.kinds,
+                      (
+                        excluded_back 0 c.kinds,
+                        (
+                          given_back 1 methods_written (λ list. method_list_back (method_set list)) c.methods,
+                          (
+                            some_back 0 method_written (method_set c.not_methods) (method_list_back (method_set c.not_methods)),
+                            (
+                              tabs_back 0 c.tabs is.tabs.1,
+                              (some_back 0 tab_written (ascending_tabs c.not_tabs) (tab_list_back 0 c.not_tabs is.not_tabs), tt),
+                            ),
+                          ),
+                        ),
+                      ),
+                    ),
+                  ),
+                ),
+              ),
+            ),
+          ),
+        ),
+      ),
+    )
 
 -- ---- the action
 
@@ -168,14 +191,29 @@ unfolding transform_written
 transform_back t =
     object_back 3 (transform_fields t) (
       given_back 3 scheme_written (λ scheme. text_back 3 _) t.scheme,
-      (given_text_back 3 t.host,
-      (given_text_back 3 t.port,
-      (given_text_back 3 t.path,
-      (given_text_back 3 t.query,
-      (given_back 3 changes_written changes_back t.query_transform,
-      (given_text_back 3 t.fragment,
-      (given_text_back 3 t.username,
-      (given_text_back 3 t.password, tt)))))))))
+      (
+        given_text_back 3 t.host,
+        (
+          given_text_back 3 t.port,
+          (
+            given_text_back 3 t.path,
+            (
+              given_text_back 3 t.query,
+              (
+                given_back 3 changes_written changes_back t.query_transform,
+                (
+                  given_text_back 3 t.fragment,
+                  (
+                    given_text_back 3 t.username,
+                    (given_text_back 3 t.password, tt),
+                  ),
+                ),
+              ),
+            ),
+          ),
+        ),
+      ),
+    )
 
 redirect_back : (target : Redirect) → IsBack 5 (redirect_written target)
 redirect_back (ExtensionPath path) = object_back 4 ((codes "extensionPath", Some (string path)) ∷ []) (text_back 4 path, tt)
@@ -210,9 +248,14 @@ unfolding rule_written
 rule_back rule is =
     object_back 6 (rule_fields rule) (
       number_back 6 rule.id (small rule.id is.id),
-      (number_back 6 rule.priority (small rule.priority is.priority),
-      (deeper 2 6 (condition_written rule.condition) (omega arith) (condition_back rule.condition is.condition),
-      (action_back rule.action, tt))))
+      (
+        number_back 6 rule.priority (small rule.priority is.priority),
+        (
+          deeper 2 6 (condition_written rule.condition) (omega arith) (condition_back rule.condition is.condition),
+          (action_back rule.action, tt),
+        ),
+      ),
+    )
   where
     small : (m : ℕ) → is_number m ≡ true → m < 2 ^ 64
     small m h = let p = both (nat_le 1 m) _ h in let q : nat_le m 2147483647 ≡ true = p.1 in grind (arith, nat_tests)
