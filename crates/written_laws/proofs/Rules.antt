@@ -1,5 +1,5 @@
 -- Written rules are read as the same rules in their normal form.
-use Rattle.std.proofs.Common.{◌≡◌, ℕ, List, [], ◌∷◌, ◌++◌, length, map, Bool, true, false, cond, not, ◌&&◌, ◌||◌, ◌==◌, Some, None, Ok, refl, sym, ap, ◌∙◌, arith, append-nil, append_assoc, IsUtf8}
+use Rattle.std.proofs.Common.{Result, ◌≡◌, ℕ, List, [], ◌∷◌, ◌++◌, length, map, Bool, true, false, cond, not, ◌&&◌, ◌||◌, ◌==◌, Some, None, Ok, refl, sym, ap, ◌∙◌, arith, append-nil, append_assoc, IsUtf8}
 use Rattle.std.specs.Prelude.{codes, All, is_none, unwrap_or, option_and_then}
 use Rattle.std.specs.Option.{option_map_or}
 use Rattle.std.specs.Result.{result_unwrap_or}
@@ -8,6 +8,7 @@ use Rattle.std.proofs.lemmas.Bool.Decides.{nat_tests}
 use Rattle.std.proofs.lemmas.List.Elements.{All-head, All-tail}
 use Rattle.serde_json.specs.Data.{number, unsigned, null}
 use Rattle.serde_json.specs.Find.{get, as_object}
+use Rattle.serde_json.specs.Read.{read}
 use Rattle.serde_json.specs.View.{items_of}
 use Rattle.dnr_spec.specs.Patterns.{groups_of}
 use Rattle.header_actions.specs.Again.{ReadsAgain}
@@ -24,7 +25,7 @@ use Rattle.json_spec.specs.ReadRule.{filters_in, domain_lists_in, lists_in, cond
 use Rattle.json_spec.specs.RulesFile.{rules_or_refusal, rules_in_tree, rules_of}
 use Rattle.json_spec.proofs.Trees.{tree_of_read}
 use Rattle.written_laws.specs.Normal.{normal, names_tabs}
-use Rattle.written_laws.specs.Read.{IdsDiffer, WrittenTextsAreTrees, WrittenRulesAreRead, TablessRulesAreRead}
+use Rattle.written_laws.specs.Read.{IdsDiffer, may_be, WrittenTextsAreTrees, WrittenTreesAreRead, TextsTellRulesApart, WrittenRulesAreRead, TablessRulesAreRead}
 use Rattle.written_laws.proofs.Objects.{found, text_back}
 use Rattle.written_laws.proofs.Sets.{both}
 use Rattle.written_laws.proofs.Values.{rule_fields, rules_back}
@@ -218,3 +219,26 @@ without_tabs kind (rule ∷ rules) h =
 
 pub tabless_rules_are_read : ReadsAgain → TablessRulesAreRead
 tabless_rules_are_read again kind rules are differ none utf8 = text-read again kind rules are (without_tabs kind rules none) differ utf8
+
+either_way : (kind : RuleKind) (rules : List Rule) (may : Bool) → may_name_tabs kind ≡ may → may_be kind rules ≡ true → AllByRecursion (MayName kind) rules
+either_way kind rules true is h = any_rules rules
+  where
+    any_rules : (list : List Rule) → AllByRecursion (MayName kind) list
+    any_rules [] = tt
+    any_rules (rule ∷ list) = (ap (λ b. not b && names_tabs rule) is, any_rules list)
+either_way kind rules false is h = without_tabs kind rules (ap (λ b. b || list_all (λ rule. not (names_tabs rule)) rules) (sym is) ∙ h)
+
+pub written_trees_are_read : ReadsAgain → WrittenTreesAreRead
+written_trees_are_read again kind rules are differ may = tree-read again kind rules are (either_way kind rules (may_name_tabs kind) refl may) differ
+
+same_some : {X : Type 0} (x y : X) → Some x ≡ Some y → x ≡ y
+same_some x y h = cc
+
+same_ok : {X E : Type 0} (one other : Result X E) (x y : X) → one ≡ Ok x → other ≡ Ok y → one ≡ other → x ≡ y
+same_ok one other x y is also h = cc
+
+pub texts_tell_rules_apart : ReadsAgain → TextsTellRulesApart
+texts_tell_rules_apart again rules others are also differ apart h =
+    let tree = same_some (rules_written rules) (rules_written others) (sym (written_texts_are_trees rules are) ∙ ap read h ∙ written_texts_are_trees others also) in
+    same_ok (read_rules Session (rules_written rules)) (read_rules Session (rules_written others)) (map normal rules) (map normal others)
+    (tree-read again Session rules are (session_rules rules) differ) (tree-read again Session others also (session_rules others) apart) (ap (read_rules Session) tree)

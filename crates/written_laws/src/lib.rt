@@ -5,18 +5,21 @@
 #![tactic(auto)]
 
 ghost use Rattle.written_laws.specs.Alike.{NormalRulesAreRules, NormalRulesAreWrittenAlike, NormalRulesHoldAlike, NormalRulesStay};
-ghost use Rattle.written_laws.specs.Read.{TablessRulesAreRead, WrittenRulesAreRead, WrittenTextsAreTrees, WrittenTextsAreUtf8};
+ghost use Rattle.written_laws.specs.Read.{TablessRulesAreRead, TextsTellRulesApart, WrittenRulesAreRead, WrittenTextsAreTrees, WrittenTextsAreUtf8, WrittenTreesAreRead};
 
 use header_actions::changes_read_again;
 use rule_laws::rules_keep_their_form;
 
 /// Rules that are written as JSON text and read again as session rules are the same rules, with what they list as
-/// sets in one order; where no rule names tabs, they are so as rules of any kind.
+/// sets in one order; where no rule names tabs, they are so as rules of any kind. The text is UTF-8 where the texts
+/// of the rules are, and rules of one text are the same rules.
 pub fn written_rules_are_read()
-    ensures tree { WrittenTextsAreTrees }
-    ensures utf8 { WrittenTextsAreUtf8 }
+    ensures text { WrittenTextsAreTrees }
+    ensures tree { WrittenTreesAreRead }
     ensures session { WrittenRulesAreRead }
     ensures any_kind { TablessRulesAreRead }
+    ensures utf8 { WrittenTextsAreUtf8 }
+    ensures apart { TextsTellRulesApart }
 {
     changes_read_again();
 }
