@@ -12,3 +12,4 @@ pub mod Rules
 pub mod Alike
 pub mod Utf8
 pub mod TextsWritten
+pub mod Scans

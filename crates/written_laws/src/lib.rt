@@ -4,7 +4,7 @@
 //! a rule's normal form is stands in `specs/Normal.antt`.
 #![tactic(auto)]
 
-ghost use Rattle.written_laws.specs.Alike.{NormalRulesAreRules, NormalRulesAreWrittenAlike, NormalRulesHoldAlike, NormalRulesStay};
+ghost use Rattle.written_laws.specs.Alike.{NormalRulesAreRules, NormalRulesAreWrittenAlike, NormalRulesHoldAlike, NormalRulesStay, NormalStatesDecideAlike};
 ghost use Rattle.written_laws.specs.Read.{TablessRulesAreRead, TextsTellRulesApart, WrittenRulesAreRead, WrittenTextsAreTrees, WrittenTextsAreUtf8, WrittenTreesAreRead};
 
 use header_actions::changes_read_again;
@@ -25,12 +25,13 @@ pub fn written_rules_are_read()
 }
 
 /// A rule whose sets stand in one order is a rule that holds on the same parts, has the same text, and stays as it
-/// is when it is put in order again.
+/// is when it is put in order again. With all its rules in order a state gives each request the same verdict.
 pub fn normal_rules_are_the_same()
     ensures holds { NormalRulesHoldAlike }
     ensures rules { NormalRulesAreRules }
     ensures text { NormalRulesAreWrittenAlike }
     ensures stays { NormalRulesStay }
+    ensures decides { NormalStatesDecideAlike }
 {
     changes_read_again();
     rules_keep_their_form();
