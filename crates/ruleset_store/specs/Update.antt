@@ -1,5 +1,5 @@
 -- What an update makes of a state, and why it is refused.
-use Rattle.std.specs.Prelude.{◌≡◌, Option, Some, Result}
+use Rattle.std.specs.Prelude.{◌≡◌, Option, Some, None, Result, Ok, Err}
 use Rattle.rule_spec.specs.State.{State}
 use Rattle.load_spec.specs.Installing.{judge_install, install}
 use Rattle.load_spec.specs.declared.refusal.Refusal.{Refusal}
@@ -19,3 +19,8 @@ apply state (Install extension) = install state extension
 abbrev pub IsRefusalOf : Option Refusal → Refusal → Type 0
 IsRefusalOf judged NoMemory = Unit {0}
 IsRefusalOf judged refusal = judged ≡ Some refusal
+
+-- the answer of who tests this
+abbrev pub Answers : Option Refusal → Result (Unit {0}) Refusal → Type 0
+Answers judged (Ok x) = judged ≡ None
+Answers judged (Err refusal) = IsRefusalOf judged refusal

@@ -7,6 +7,7 @@
 mod copies;
 mod counts;
 mod extension;
+mod judging;
 mod rule_set;
 mod store;
 mod update;
