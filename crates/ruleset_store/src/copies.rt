@@ -15,10 +15,7 @@ pub(crate) fn copies<T: Copied + Drop>(alloc: Global, items: &[T]) -> Result<Vec
 }
 
 // Equal lists of numbers, in their order.
-pub(crate) fn lists_again(
-    alloc: Global,
-    lists: &[Items<u32>],
-) -> Result<Vec<Items<u32>>, NoMemory>
+pub(crate) fn lists_again(alloc: Global, lists: &[Items<u32>]) -> Result<Vec<Items<u32>>, NoMemory>
     ensures { IfOk result (λ copies. copies.items ≡ lists.now) }
 {
     let mut copies = Vec::with_capacity(alloc, lists.len())?;

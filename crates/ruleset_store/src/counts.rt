@@ -38,7 +38,11 @@ pub(crate) fn count_rules(sets: &[RuleSet]) -> Result<usize, NoMemory>
 fn enabled_rules(set: &RuleSet) -> usize
     ensures { result ≡ spec.count_rules (spec.enabled_sets (set.now ∷ [])) }
 {
-    if set.is_enabled() { set.rules().len() } else { 0 }
+    if set.is_enabled() {
+        set.rules().len()
+    } else {
+        0
+    }
 }
 
 // How many rules the enabled ones of the rulesets have.
@@ -81,7 +85,11 @@ fn patterns_among(rules: &[Rule]) -> usize
 fn enabled_patterns(set: &RuleSet) -> usize
     ensures { result ≡ spec.count_patterns (spec.enabled_sets (set.now ∷ [])) }
 {
-    if set.is_enabled() { patterns_among(set.rules()) } else { 0 }
+    if set.is_enabled() {
+        patterns_among(set.rules())
+    } else {
+        0
+    }
 }
 
 // How many rules of the enabled rulesets have a `regexFilter`.

@@ -11,11 +11,17 @@ use load_spec::Refusal;
 use std::alloc::Global;
 
 const MAX_EXTENSIONS: usize = 16;
+
 const MAX_RULESETS: usize = 100;
+
 const MAX_RULES: usize = 330_000;
+
 const MAX_ENABLED: usize = 50;
+
 const MAX_DRAWN: usize = 300_000;
+
 const MAX_PATTERNS: usize = 1_000;
+
 const MAX_UPDATES: u32 = 1_000_000;
 
 // Refused so, where there are more than there may be.

@@ -10,6 +10,8 @@ mod extension;
 mod judging;
 mod rule_set;
 mod store;
+#[cfg(test)]
+mod tests;
 mod update;
 
 pub use dnr_base::{Items, NoMemory, Text};

@@ -1,4 +1,4 @@
-ghost use Rattle.std.specs.Prelude.{◌≡◌, ◌<◌, None, Ok, IfOk, IfErr, OnOk};
+ghost use Rattle.std.specs.Prelude.{◌≡◌, ◌+◌, ◌<◌, None, Ok, IfOk, IfErr, OnOk};
 ghost use Rattle.load_spec.specs.Installing as install;
 ghost use Rattle.ruleset_store.specs.Update as spec;
 
@@ -26,15 +26,33 @@ impl Model for Store {
     ghost view = { λ s. record { extensions = s.extensions.items; count = s.count } };
 }
 
+// These extensions, before any update.
+fn uncounted(extensions: Vec<Extension>) -> Store
+    ensures { result ≡ record { extensions = extensions.items; count = 0 } }
+{
+    Store {
+        extensions,
+        count: 0,
+    }
+}
+
+// These extensions, after one more update than so many.
+fn counted(extensions: Vec<Extension>, before: u32) -> Store
+    requires { before < install.max_updates }
+    ensures { result ≡ record { extensions = extensions.items; count = before + 1 } }
+{
+    Store {
+        extensions,
+        count: before + 1,
+    }
+}
+
 impl Store {
     /// Nothing is installed, and no update was accepted. It takes no memory.
     pub fn empty(alloc: Global) -> Store
         ensures { result ≡ install.empty }
     {
-        Store {
-            extensions: Vec::new(alloc),
-            count: 0,
-        }
+        uncounted(Vec::new(alloc))
     }
 
     /// The count of the updates that were accepted.
@@ -55,10 +73,7 @@ impl Store {
     pub fn opened(self) -> Store
         ensures { result ≡ install.opened self }
     {
-        Store {
-            extensions: self.extensions,
-            count: 0,
-        }
+        uncounted(self.extensions)
     }
 
     /// Whether the update may be made. The tests, their order and their limits are this engine's own; nothing is
@@ -107,10 +122,7 @@ impl Store {
         judge_install(&self, alloc, &extension)?;
         let mut extensions = self.extensions;
         extensions.push(extension)?;
-        Ok(Store {
-            extensions,
-            count: self.count + 1,
-        })
+        Ok(counted(extensions, self.count))
     }
 
     // What is installed once a copy of this extension is.
@@ -120,9 +132,6 @@ impl Store {
     {
         let mut extensions = copies(alloc, self.extensions())?;
         extensions.push(extension.copy(alloc)?)?;
-        Ok(Store {
-            extensions,
-            count: self.count + 1,
-        })
+        Ok(counted(extensions, self.count))
     }
 }
