@@ -54,8 +54,16 @@ pub fn write_bad_manifest(
         ≡ string_bytes into.old ++ spec.refused_file_line (record { file = file.now; cause = bad_manifest field })) }
 {
     write_start(alloc, file, into)?;
+    write_manifest_fields(field, into)?;
+    into.push_str("}\n")?;
+    Ok(())
+}
+
+fn write_manifest_fields(field: ManifestPath, into: &mut String) -> Result<(), NoMemory>
+    ensures { OnOk result (string_bytes into.new ≡ string_bytes into.old ++ spec.cause_fields (bad_manifest field)) }
+{
     let path = field.name();
-    write!(into, "\"bad-manifest\",\"path\":\"{path}\"}}\n")?;
+    write!(into, "\"bad-manifest\",\"path\":\"{path}\"")?;
     Ok(())
 }
 
@@ -100,7 +108,8 @@ pub fn write_too_many_rules(
     ensures { OnOk result (string_bytes into.new ≡ string_bytes into.old ++ spec.list_line file.now (spec.too_many_rules count)) }
 {
     write_start(alloc, file, into)?;
-    write!(into, "\"too-many-rules\",\"count\":{count}}}\n")?;
+    write!(into, "\"too-many-rules\",\"count\":{count}")?;
+    into.push_str("}\n")?;
     Ok(())
 }
 
@@ -116,7 +125,8 @@ pub fn write_list_fault(
     ensures { OnOk result (string_bytes into.new ≡ string_bytes into.old ++ spec.list_line file.now (spec.host_failed line)) }
 {
     write_start(alloc, file, into)?;
-    write!(into, "\"pattern-host\",\"line\":{line}}}\n")?;
+    write!(into, "\"pattern-host\",\"line\":{line}")?;
+    into.push_str("}\n")?;
     Ok(())
 }
 

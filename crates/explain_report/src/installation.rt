@@ -1,5 +1,6 @@
 // What is printed for an extension that is not installed.
-ghost use Rattle.std.specs.Prelude.{◌≡◌, ◌++◌, OnOk, string_bytes};
+ghost use Rattle.std.specs.Prelude.{◌≡◌, ◌++◌, codes, OnOk, string_bytes};
+ghost use Rattle.json.specs.Print.{quoted};
 ghost use Rattle.session_spec.specs.Refusals as spec;
 
 use crate::names::quoted_text;
@@ -19,11 +20,24 @@ pub fn write_install_refusal(
     ensures { OnOk result (string_bytes into.new
         ≡ string_bytes into.old ++ spec.install_line (record { extension = extension.now; cause = refusal.now })) }
 {
-    let extension = quoted_text(alloc, extension)?;
-    let code = install_code(refusal);
-    write!(into, "{{\"extension\":{extension},\"refused\":\"{code}\"")?;
+    write_start(alloc, extension, install_code(refusal), into)?;
     write_count_field(install_count(refusal), into)?;
     into.push_str("}\n")?;
+    Ok(())
+}
+
+fn write_start(
+    alloc: Global,
+    extension: &str,
+    code: &str,
+    into: &mut String,
+) -> Result<(), NoMemory>
+    ensures { OnOk result (string_bytes into.new
+        ≡ string_bytes into.old ++ (codes "{\"extension\":" ++ (quoted extension.now
+        ++ (codes ",\"refused\":\"" ++ (code.now ++ codes "\""))))) }
+{
+    let extension = quoted_text(alloc, extension)?;
+    write!(into, "{{\"extension\":{extension},\"refused\":\"{code}\"")?;
     Ok(())
 }
 

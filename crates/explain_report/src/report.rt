@@ -1,5 +1,5 @@
 // What `check` and `compile` print of what they read.
-ghost use Rattle.std.specs.Prelude.{◌≡◌, ◌++◌, option_map, OnOk, string_bytes};
+ghost use Rattle.std.specs.Prelude.{◌≡◌, ◌++◌, codes, decimal, OnOk, string_bytes};
 ghost use Rattle.std.specs.Option.{option_copied};
 ghost use Rattle.session_spec.specs.Refusals as spec;
 
@@ -29,11 +29,18 @@ pub fn write_unsupported(
 ) -> Result<(), NoMemory>
     ensures { OnOk result (string_bytes into.new ≡ string_bytes into.old ++ spec.unsupported_line reported.now) }
 {
-    let line = reported.line;
-    let code = reason_code(&reported.reason);
-    write!(into, "{{\"line\":{line},\"unsupported\":\"{code}\"")?;
+    write_start(reported.line, reason_code(&reported.reason), into)?;
     write_name_field(alloc, option_at_fault(&reported.reason), into)?;
     into.push_str("}\n")?;
+    Ok(())
+}
+
+fn write_start(line: u32, code: &str, into: &mut String) -> Result<(), NoMemory>
+    ensures { OnOk result (string_bytes into.new
+        ≡ string_bytes into.old ++ (codes "{\"line\":" ++ (decimal line
+        ++ (codes ",\"unsupported\":\"" ++ (code.now ++ codes "\""))))) }
+{
+    write!(into, "{{\"line\":{line},\"unsupported\":\"{code}\"")?;
     Ok(())
 }
 
