@@ -1,0 +1,4 @@
+pub mod Drafts
+pub mod Once
+pub mod Parts
+pub mod Under
