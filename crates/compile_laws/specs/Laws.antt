@@ -1,0 +1,46 @@
+-- What holds of the rules of a filter list. The rules are those of `compile_spec`, `specs/Compiled.antt`, and what the
+-- list says is that of `list_spec`, `specs/Says.antt`, by Adblock Plus, "How to write filters".
+use Rattle.std.specs.Prelude.{◌≡◌, ℕ, ◌≤◌, List, [], ◌∷◌, length, true, IsTrue, All, Option, Some}
+use Rattle.dnr_base.specs.declared.request.Request.{Request}
+use Rattle.dnr_base.specs.Request.{Part, own_part}
+use Rattle.dnr_spec.specs.Suffixes.{SuffixRule}
+use Rattle.rule_spec.specs.declared.outcome.Outcome.TheVariants as outcome
+use Rattle.rule_spec.specs.Holds.{holds}
+use Rattle.rule_spec.specs.IsRule.{IsRule, is_number}
+use Rattle.rule_spec.specs.Scan.{scan}
+use Rattle.rule_spec.specs.State.{State}
+use Rattle.list_spec.specs.LineKind.{FilterLine, line_of}
+use Rattle.list_spec.specs.Says.{filter_in, matches, fits_request, says}
+use Rattle.compile_spec.specs.Compiled.{max_compiled, Effect, drafts_with, rule_of, compiled}
+use Rattle.compile_spec.specs.Installed.{list_extension}
+use Rattle.compile_laws.specs.Origins.{filter_at, HasOrigin, HasRule, IsDoneFor}
+
+-- ---- each rule is a rule
+
+-- whatever a supported filter does, its rules keep what every rule keeps
+abbrev pub FiltersGiveRules : Type 0
+FiltersGiveRules =
+    (line : List ℕ) (filter : FilterLine) → filter_in (line_of line) ≡ Some filter
+    → (lines : List ℕ) (effect : Effect) (id : ℕ) → IsTrue (is_number id) → All (λ draft. IsRule (rule_of id draft)) (drafts_with lines filter effect)
+
+-- and so does each rule of a list within the limit
+abbrev pub ListsGiveRules : Type 0
+ListsGiveRules = (lines : List (List ℕ)) → length (compiled lines) ≤ max_compiled → All (λ one. IsRule one.rule) (compiled lines)
+
+-- ---- rules and their lines
+
+-- where a rule of the list holds on a part, a line that it comes from matches there
+abbrev pub RulesHoldByTheirLines : Type 0
+RulesHoldByTheirLines =
+    (lines : List (List ℕ)) (suffixes : List SuffixRule) (part : Part)
+    → All (λ one. holds suffixes one.rule part ≡ true → HasOrigin lines one (λ filter. matches suffixes filter part ≡ true)) (compiled lines)
+
+-- where a supported filter fits a request, a rule that comes from its line holds on the request
+abbrev pub LinesHoldByTheirRules : Type 0
+LinesHoldByTheirRules =
+    (lines : List (List ℕ)) (suffixes : List SuffixRule) (request : Request) (number : ℕ) (filter : FilterLine) → filter_at lines number ≡ Some filter
+    → fits_request suffixes request filter ≡ true → HasRule lines number (λ one. holds suffixes one.rule (own_part request) ≡ true)
+
+-- each line that a rule comes from says what the rule does
+abbrev pub RulesDoAsTheirLines : Type 0
+RulesDoAsTheirLines = (lines : List (List ℕ)) → All (λ one. All (IsDoneFor lines one.rule.action) one.lines) (compiled lines)

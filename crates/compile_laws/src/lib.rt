@@ -1,0 +1,32 @@
+//! What is known of the rules of a filter list: laws over the definitions of `compile_spec`, `list_spec` and
+//! `rule_spec`. The functions do nothing; each has a law as its contract.
+//!
+//! The laws stand in `specs/Laws.antt`.
+#![tactic(auto)]
+
+ghost use Rattle.compile_laws.specs.Laws.{FiltersGiveRules, ListsGiveRules, RulesHoldByTheirLines, LinesHoldByTheirRules, RulesDoAsTheirLines};
+
+/// The rules of a supported filter keep what every rule keeps.
+pub fn filters_give_rules()
+    ensures { FiltersGiveRules }
+{}
+
+/// The rules of a list keep what every rule keeps.
+pub fn lists_give_rules()
+    ensures { ListsGiveRules }
+{}
+
+/// Where a rule of a list holds on a part, a line that it comes from is a supported filter that matches there.
+pub fn rules_hold_by_their_lines()
+    ensures { RulesHoldByTheirLines }
+{}
+
+/// Where a supported filter fits a request, one of the rules that come from its line holds on the request.
+pub fn lines_hold_by_their_rules()
+    ensures { LinesHoldByTheirRules }
+{}
+
+/// Rules that block come from blocking filters, and rules that allow from exceptions.
+pub fn rules_do_as_their_lines()
+    ensures { RulesDoAsTheirLines }
+{}
