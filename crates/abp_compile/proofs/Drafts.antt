@@ -1,10 +1,17 @@
 -- Rules that come behind others.
-use Rattle.std.proofs.Common.{◌≡◌, ℕ, ◌+◌, ◌≤◌, List, [], ◌∷◌, ◌++◌, length, map, refl, sym, ap, ◌∙◌, arith, length-append, append_assoc}
-use Rattle.std.proofs.lemmas.List.{map-append, append-nil}
+use Rattle.std.proofs.Common.{◌≡◌, ℕ, ◌+◌, ◌<◌, ◌≤◌, List, [], ◌∷◌, ◌++◌, length, map, get_or, refl, sym, ap, ◌∙◌, subst, arith, length-append, length-map, append_assoc}
+use Rattle.std.specs.Prelude.{IsTrue}
+use Rattle.std.proofs.lemmas.Bool.Decides.{nat_tests}
+use Rattle.std.proofs.lemmas.List.{map-append, append-nil, get_or_at}
+use Rattle.rule_spec.specs.IsRule.{IsRule, is_number}
+use Rattle.list_spec.specs.LineKind.{FilterLine}
+use Rattle.compile_spec.specs.Initiators.{Initiators}
 use Rattle.rule_spec.specs.Rule.{Rule}
-use Rattle.compile_spec.specs.Compiled.{Draft, CompiledRule, rule_of, max_compiled, with_ids, rules_in, origins_in}
+use Rattle.compile_spec.specs.Compiled.{Effect, blocks, allows, exempts, Draft, CompiledRule, rule_of, max_compiled, with_ids, rules_in, origins_in}
 use Rattle.abp_compile.specs.declared.work.Work.{Work}
-use Rattle.abp_compile.specs.Work.{HasDrafts, Gains, Keeps}
+use Rattle.abp_compile.specs.declared.initiators.Initiators as seen
+use Rattle.abp_compile.specs.Seen.{initiators_seen}
+use Rattle.abp_compile.specs.Work.{draft, drafts, GiveRules, HasDrafts, Gains, Keeps}
 
 pub with_ids-append : (id : ℕ) (xs ys : List Draft) → with_ids id (xs ++ ys) ≡ with_ids id xs ++ with_ids (id + length xs) ys
 with_ids-append id [] ys = ap (λ n. with_ids n ys) (omega arith)
@@ -55,3 +62,52 @@ gains_none before now c r o = gains_kept [] before now (c ∙ omega arith) (λ f
 
 pub gains_twice : (xs ys : List Draft) (before mid now : Work) → Gains xs before mid → Gains ys mid now → Gains (xs ++ ys) before now
 gains_twice xs ys before mid now first second held has = rw (← append_assoc held xs ys) (second (held ++ xs) (first held has))
+
+-- ---- filters that differ in their domains alone
+
+like_rule : (id line : ℕ) (f g : FilterLine) (effect : Effect) (initiators : Initiators) → f ≡ record g { domains = [] }
+    → rule_of id (draft line f effect initiators) ≡ rule_of id (draft line g effect initiators)
+like_rule id line f g blocks initiators e = ap (λ (h : FilterLine). rule_of id (draft line h blocks initiators)) e
+like_rule id line f g allows initiators e = ap (λ (h : FilterLine). rule_of id (draft line h allows initiators)) e
+like_rule id line f g exempts initiators e = ap (λ (h : FilterLine). rule_of id (draft line h exempts initiators)) e
+
+like_rules : (id line : ℕ) (f g : FilterLine) (effect : Effect) (list : List Initiators) → f ≡ record g { domains = [] }
+    → rules_in (with_ids id (drafts line f effect list)) ≡ rules_in (with_ids id (drafts line g effect list))
+like_rules id line f g effect [] e = refl
+like_rules id line f g effect (x ∷ list) e = λ i. like_rule id line f g effect x e i ∷ like_rules (id + 1) line f g effect list e i
+
+like_origins : (id line : ℕ) (f g : FilterLine) (effect : Effect) (list : List Initiators)
+    → origins_in (with_ids id (drafts line f effect list)) ≡ origins_in (with_ids id (drafts line g effect list))
+like_origins id line f g effect [] = refl
+like_origins id line f g effect (x ∷ list) = ap (λ origins. (line ∷ []) ∷ origins) (like_origins (id + 1) line f g effect list)
+
+pub gains_like : (line : ℕ) (f g : FilterLine) (effect : Effect) (list : List Initiators) (before now : Work) → f ≡ record g { domains = [] }
+    → Gains (drafts line f effect list) before now → Gains (drafts line g effect list) before now
+gains_like line f g effect list before now e gains held has =
+    let one = drafts line f effect list in
+    let other = drafts line g effect list in
+    let got = gains held has in
+    let long : length one ≡ length other = length-map list (draft line f effect) ∙ sym (length-map list (draft line g effect)) in
+    record {
+      counted = got.counted ∙ length-append held one ∙ ap (λ n. length held + n) long ∙ sym (length-append held other);
+      rules = λ few. got.rules few ∙ rules_behind 1 held one ∙ ap (λ rules. rules_in (with_ids 1 held) ++ rules) (like_rules (1 + length held) line f g effect list e) ∙ sym (rules_behind 1 held other);
+      origins = λ few. got.origins few ∙ origins_behind 1 held one ∙ ap (λ origins. origins_in (with_ids 1 held) ++ origins) (like_origins (1 + length held) line f g effect list) ∙ sym (origins_behind 1 held other);
+    }
+
+pub give_like : (f g : FilterLine) (effect : Effect) (list : List Initiators) → f ≡ record g { domains = [] } → GiveRules g effect list → GiveRules f effect list
+give_like f g effect list e give id number k d less = subst IsRule (sym (like_rule id 0 f g effect (get_or list k d) e)) (give id number k d less)
+
+-- ---- the rule for one of several initiators
+
+number : (id : ℕ) → 0 < id → id ≤ 300000 → IsTrue (is_number id)
+number id some few = grind (arith, nat_tests)
+
+pub give_at : (f : FilterLine) (effect : Effect) (list front back : List seen.Initiators) (x : seen.Initiators) (id : ℕ) → GiveRules f effect (map initiators_seen list)
+    → list ≡ front ++ x ∷ back → 0 < id → id ≤ 300000 → IsRule (rule_of id (draft 0 f effect (initiators_seen x)))
+give_at f effect list front back x id give is some few =
+    let there : map initiators_seen list ≡ map initiators_seen front ++ initiators_seen x ∷ map initiators_seen back = ap (map initiators_seen) is ∙ map-append initiators_seen front (x ∷ back) in
+    let place = length (map initiators_seen front) in
+    let at : get_or (map initiators_seen list) place (initiators_seen x) ≡ initiators_seen x =
+    ap (λ xs. get_or xs place (initiators_seen x)) there ∙ get_or_at (map initiators_seen front) (initiators_seen x) (map initiators_seen back) (initiators_seen x) place refl in
+    let less : place < length (map initiators_seen list) = omega (arith, ap length there, length-append (map initiators_seen front) (initiators_seen x ∷ map initiators_seen back)) in
+    subst (λ (i : Initiators). IsRule (rule_of id (draft 0 f effect i))) at (give id (number id some few) place (initiators_seen x) less)

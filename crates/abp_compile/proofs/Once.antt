@@ -36,6 +36,15 @@ turned a b = nat_list_eq_equiv.symm a b
 has_more : (kept : List (List ℕ)) (x other : List ℕ) → has_text (kept ++ x ∷ []) other ≡ (has_text kept other || (bytes_eq x other || false))
 has_more kept x other = list_any-append (λ entry. bytes_eq entry other) kept (x ∷ [])
 
+or_cond : (old new : Bool) → (old || (new || false)) ≡ cond new true old
+or_cond true true = refl
+or_cond true false = refl
+or_cond false true = refl
+or_cond false false = refl
+
+pub has_one_more : (kept : List (List ℕ)) (x other : List ℕ) → has_text (kept ++ x ∷ []) other ≡ cond (bytes_eq x other) true (has_text kept other)
+has_one_more kept x other = has_more kept x other ∙ or_cond (has_text kept other) (bytes_eq x other)
+
 abbrev is_new : List (List ℕ) → List ℕ → Bool
 is_new kept other = not (has_text kept other)
 

@@ -1,6 +1,5 @@
 -- The listed domains of a filter, parted into those under an excluded one, and others.
-use Rattle.std.proofs.Common.{◌≡◌, ℕ, List, [], ◌∷◌, ◌++◌, map, filter, Bool, true, false, cond, not, refl, sym, ap, ◌∙◌, ⊎_elim}
-use Rattle.std.proofs.lemmas.Bool.{cases_Bool}
+use Rattle.std.proofs.Common.{◌≡◌, ℕ, List, [], ◌∷◌, ◌++◌, map, filter, Bool, true, false, cond, not, refl, sym, ap, ◌∙◌, append_assoc}
 use Rattle.list_spec.specs.declared.domain_entry.DomainEntry.{DomainEntry}
 use Rattle.compile_spec.specs.Initiators.{Initiators, excluded_in, listed_in, nested, not_nested, lies_under_some, in_several, in_one, initiators_of}
 use Rattle.abp_compile.specs.Parted.{parted}
@@ -36,3 +35,17 @@ parts entries excluded others under x o u =
     ap (λ e. parted e others under) x
     ∙ sym (several (excluded_in entries) (listed_in entries) others under o (sym u))
     ∙ ap (in_several (excluded_in entries) (listed_in entries)) u
+
+-- ---- one domain more
+
+filter_more : {X : Type 0} (p : X → Bool) (x : X) (rest : List X) → filter p (x ∷ rest) ≡ filter p (x ∷ []) ++ filter p rest
+filter_more p x rest = two (p x) x (filter p rest)
+  where
+    two : {X : Type 0} (b : Bool) (x : X) (ys : List X) → cond b (x ∷ ys) ys ≡ cond b (x ∷ []) [] ++ ys
+    two true x ys = refl
+    two false x ys = refl
+
+pub part_more : {X : Type 0} (p : X → Bool) (whole kept now left rest : List X) (x : X) → whole ≡ kept ++ filter p left → left ≡ x ∷ rest
+    → now ≡ kept ++ filter p (x ∷ []) → whole ≡ now ++ filter p rest
+part_more p whole kept now left rest x w l n =
+    w ∙ ap (λ xs. kept ++ filter p xs) l ∙ ap (λ xs. kept ++ xs) (filter_more p x rest) ∙ sym (append_assoc kept (filter p (x ∷ [])) (filter p rest)) ∙ ap (λ k. k ++ filter p rest) (sym n)

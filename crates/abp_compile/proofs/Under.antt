@@ -7,8 +7,11 @@ use Rattle.std.specs.Cmp.Lexicographic.{pointwise, same, unequal, nat_list_eq_eq
 use Rattle.std.proofs.lemmas.Bool.{cases_Bool}
 use Rattle.dnr_spec.specs.Hosts.{is_ip_host}
 use Rattle.domain_set.specs.Rests.{some_rest}
-use Rattle.domain_set.specs.Table.{has_text}
-use Rattle.domain_set.proofs.Ends.{ends_with-dot}
+use Rattle.std.specs.Prelude.{String}
+use Rattle.std.specs.BTreeSet.{BTreeSet, contains_text}
+use Rattle.std.specs.declared.alloc.Global.{Global}
+use Rattle.domain_set.specs.Table.{has_text, HasTexts}
+use Rattle.domain_set.proofs.Ends.{ends_with-dot, some_rest-same}
 use Rattle.compile_spec.specs.Initiators.{lies_under, lies_under_some}
 
 -- no text ends with a dot and itself
@@ -55,3 +58,23 @@ under_some (other ∷ others) domain =
     (λ i. (under other domain ∙ ap (λ e. not (is_ip_host domain) && e) (ends_with-dot other domain)) i || under_some others domain i)
     ∙ spread (not (is_ip_host domain)) (some_rest (bytes_eq other) domain) (some_rest (has_text others) domain)
     ∙ ap (λ s. not (is_ip_host domain) && s) (sym (some_rest-or (bytes_eq other) (has_text others) domain))
+
+pub and_true : (s n : Bool) → s ≡ true → (s && n) ≡ n
+and_true true n h = refl
+and_true false n h = cc
+
+pub and_no : (s n : Bool) → s ≡ false → (s && n) ≡ false
+and_no true n h = cc
+and_no false n h = refl
+
+flipped : (a b : Bool) → (a && b) ≡ (b && a)
+flipped true true = refl
+flipped true false = refl
+flipped false true = refl
+flipped false false = refl
+
+pub above : (table : BTreeSet (String Global)) (others : List (List ℕ)) (domain : List ℕ) → HasTexts table others
+    → lies_under_some others domain ≡ (some_rest (contains_text table) domain && not (is_ip_host domain))
+above table others domain has =
+    under_some others domain ∙ flipped (not (is_ip_host domain)) (some_rest (has_text others) domain)
+    ∙ ap (λ s. s && not (is_ip_host domain)) (sym (some_rest-same (contains_text table) (has_text others) has domain))

@@ -132,10 +132,11 @@ pub(crate) fn those_under(
 }
 
 // Whether the other domain covers this one, and is not the same.
+#[tactic(auto, using(crate::proofs::Under::under))]
 fn lies_under(other: &str, domain: &str) -> bool
     ensures { result ≡ spec.lies_under other.now domain.now }
 {
-    domain != other && is_subdomain(other.as_bytes(), domain.as_bytes()) && !is_ip_host(domain)
+    is_subdomain(other.as_bytes(), domain.as_bytes()) && !is_ip_host(domain)
 }
 
 // Whether the domain ends with a dot and the other.

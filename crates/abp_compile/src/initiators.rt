@@ -1,5 +1,5 @@
 // For which initiators the rules of a filter are.
-ghost use Rattle.std.specs.Prelude.{◌≡◌, length, map, IfOk, if◌then◌else◌};
+ghost use Rattle.std.specs.Prelude.{◌≡◌, ◌++◌, [], ◌∷◌, length, map, IfOk, OnOk, if◌then◌else◌};
 ghost use Rattle.rule_spec.specs.IsRule.{AreDomains};
 ghost use Rattle.compile_spec.specs.Initiators as spec;
 ghost use Rattle.abp_compile.specs.Parted.{CanBeNamed};
@@ -39,11 +39,7 @@ impl Parted {
         let mut others = Vec::new(alloc);
         let mut nested = Vec::new(alloc);
         for domain in listed.into_list() {
-            if excluded.are_above(domain.as_str()) {
-                nested.push(domain)?;
-            } else {
-                others.push(domain)?;
-            }
+            put(&excluded, domain, &mut others, &mut nested)?;
         }
         let excluded = excluded.into_list();
         Ok(Parted {
@@ -103,6 +99,24 @@ impl Parted {
         let not_among = set_of(alloc, under.as_slice())?;
         Ok(Initiators { among, not_among })
     }
+}
+
+// Puts a listed domain among those that it belongs to.
+fn put(
+    excluded: &Domains,
+    domain: Text,
+    others: &mut Vec<Text>,
+    nested: &mut Vec<Text>,
+) -> Result<(), NoMemory>
+    ensures others { OnOk result (others.new.items ≡ others.old.items ++ spec.not_nested excluded.now (domain ∷ [])) }
+    ensures nested { OnOk result (nested.new.items ≡ nested.old.items ++ spec.nested excluded.now (domain ∷ [])) }
+{
+    if excluded.are_above(domain.as_str()) {
+        nested.push(domain)?;
+    } else {
+        others.push(domain)?;
+    }
+    Ok(())
 }
 
 // A list of domains, or none where nothing is listed.

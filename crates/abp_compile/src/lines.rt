@@ -1,5 +1,5 @@
 // The lines of a list, one after another.
-ghost use Rattle.std.specs.Prelude.{◌≡◌, ◌≤◌, ◌<◌, ◌++◌, ◌∷◌, ℕ, length, IfOk, IfErr, IfSome, IsErrOf, OnOk};
+ghost use Rattle.std.specs.Prelude.{◌≡◌, ◌==◌, ◌≤◌, ◌<◌, ◌++◌, ◌∷◌, ℕ, length, position, IfOk, IfErr, IfSome, IsErrOf, OnOk};
 ghost use Rattle.dnr_base.specs.Faults.{HasCauseOf};
 ghost use Rattle.abp_parse.specs.Cut.{pieces_left};
 ghost use Rattle.abp_parse.specs.Seen.{filter_seen, pattern_seen};
@@ -15,10 +15,10 @@ ghost use Rattle.abp_compile.specs.Work.{HasDrafts, Gains};
 use crate::report::{CompileRefusal, Report};
 use crate::work::{MAX_RULES, Work};
 use abp_parse::{FilterLine, FilterPattern, Line, parse_line};
+use compile_laws::filters_give_rules;
 use dnr_base::Items;
 use dnr_rules::Rule;
 use list_spec::Reason;
-use memchr::memchr;
 use regex_host::{HostRefusal, RegexHost};
 use std::alloc::Global;
 
@@ -91,10 +91,17 @@ fn cut_line(text: &[u8]) -> (&[u8], Option<&[u8]>)
     ensures lines { lines_of text.now ≡ result.0.now ∷ pieces_left 10 result.1 }
     ensures shorter { IfSome result.1 (λ later. length later.now < length text.now) }
 {
-    match memchr(b'\n', text) {
+    match end_of_line(text) {
         Some(place) => (&text[..place], Some(&text[place + 1..])),
         None => (text, None),
     }
+}
+
+// The place of the first LF.
+fn end_of_line(text: &[u8]) -> Option<usize>
+    ensures { result ≡ position (λ b. b == 10) text.now }
+{
+    text.iter().position(|byte| *byte == b'\n')
 }
 
 fn take_line<H: RegexHost>(
@@ -142,6 +149,7 @@ fn take_filter<H: RegexHost>(
         Err(HostRefusal::HostFault) => return Err(CompileRefusal::HostFault(number)),
         Err(_) => return Err(CompileRefusal::NoMemory),
     };
+    filters_give_rules();
     if usable {
         work.add_filter(alloc, number, filter)?;
     } else {
