@@ -7,3 +7,4 @@ mod Scanned
 mod Rest
 mod Blamed
 mod Taken
+mod Opening

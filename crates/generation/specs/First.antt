@@ -1,10 +1,16 @@
 -- Why there is no generation to begin with.
-use Rattle.std.specs.Prelude.{◌≡◌, ◌≢◌, Result, Err}
+use Rattle.std.specs.Prelude.{◌≡◌, ◌≢◌, ℕ, List, Result, Err}
 use Rattle.rule_spec.specs.State.{State}
 use Rattle.load_spec.specs.Installing.{RefusedInstall}
+use Rattle.load_spec.specs.declared.refusal.Refusal.{Refusal}
 use Rattle.load_spec.specs.declared.refusal.Refusal.TheVariants as cause
 use Rattle.generation.specs.declared.first.FirstRefusal.{FirstRefusal}
 use Rattle.generation.specs.declared.first.FirstRefusal.TheVariants.{Refused, NoMemory}
+
+-- the answer where the store refuses the extension of this name so
+abbrev pub IsRefusedSo : List ℕ → Refusal → FirstRefusal → Type 0
+IsRefusedSo name cause.NoMemory answer = answer ≡ NoMemory
+IsRefusedSo name refusal answer = answer ≡ Refused name refusal
 
 -- this installation is refused for this cause, or memory ran out
 abbrev pub IsFirstRefusal : Result State RefusedInstall → FirstRefusal → Type 0

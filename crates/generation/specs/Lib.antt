@@ -1,4 +1,5 @@
 pub mod Basis
+pub mod First
 pub mod Refused
 pub mod Targets
 pub mod Block

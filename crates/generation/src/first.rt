@@ -1,8 +1,8 @@
 ghost use Rattle.std.specs.Prelude.{◌≡◌, [], ◌∷◌, Ok, IfOk, IfErr};
 ghost use Rattle.load_spec.specs.Installing as spec;
-ghost use Rattle.generation.specs.First.{IsFirstRefusal};
+ghost use Rattle.generation.specs.First.{IsFirstRefusal, IsRefusedSo};
 
-use dnr_base::{NoMemory, Text};
+use dnr_base::Text;
 use ruleset_store::{Extension, Refusal, Store};
 use std::alloc::{AllocError, Global};
 
@@ -27,6 +27,7 @@ impl From<AllocError> for FirstRefusal {
 
 // The extension of this name is refused so.
 fn refused(name: Text, refusal: Refusal) -> FirstRefusal
+    ensures { IsRefusedSo name refusal result }
 {
     match refusal {
         Refusal::NoMemory => FirstRefusal::NoMemory,
@@ -59,7 +60,8 @@ fn with_all(alloc: Global, extensions: Vec<Extension>) -> Result<Store, FirstRef
 }
 
 // The store before any update, once these extensions are installed.
-pub(crate) fn opening(alloc: Global, extensions: Vec<Extension>) -> Result<Store, FirstRefusal>
+#[tactic(auto, using(crate::proofs::Opening::opening_refused))]
+pub(crate) fn first_store(alloc: Global, extensions: Vec<Extension>) -> Result<Store, FirstRefusal>
     ensures opened { IfOk result (λ store. spec.opening extensions.items ≡ Ok store) }
     ensures refused { IfErr result (IsFirstRefusal (spec.opening extensions.items)) }
 {

@@ -1,18 +1,21 @@
-ghost use Rattle.std.specs.Prelude.{◌≡◌, ◌≤◌, length, IfOk};
+ghost use Rattle.std.specs.Prelude.{◌≡◌, ◌≤◌, length, Ok, IfOk, IfErr};
 ghost use Rattle.dnr_base.specs.Request.{max_frames};
+ghost use Rattle.generation.specs.First.{IsFirstRefusal};
 ghost use Rattle.generation.specs.Kept.{kept_from};
 ghost use Rattle.generation.specs.Refused.{Ends};
+ghost use Rattle.load_spec.specs.Installing.{opening};
 ghost use Rattle.rule_spec.specs.PatternRule.{NamesPattern};
 ghost use Rattle.rule_spec.specs.Scan.{scan};
 
-use crate::DecideRefusal;
 use crate::conclusion::conclude;
+use crate::first::first_store;
 use crate::kept::Kept;
 use crate::scan::Scan;
+use crate::{DecideRefusal, FirstRefusal};
 use dnr_base::{Request, Steps};
 use dnr_verdict::Verdict;
 use regex_host::RegexHost;
-use ruleset_store::Extension;
+use ruleset_store::{Extension, Store};
 use std::alloc::Global;
 use std::marker::Model;
 use std::sync::ledger::Ledger;
@@ -23,8 +26,7 @@ use suffix_list::SuffixList;
 #[derive(Drop)]
 pub struct Generation {
     list: SuffixList,
-    extensions: Vec<Extension>,
-    number: u32,
+    store: Store,
 }
 
 impl Model for Generation {
@@ -32,34 +34,41 @@ impl Model for Generation {
 
     ghost Value = { Basis };
 
-    ghost view = { λ g. record { suffixes = g.list; state = record { extensions = g.extensions.items; count = g.number } } };
+    ghost view = { λ g. record { suffixes = g.list; state = g.store } };
 }
 
 impl Generation {
-    /// The generation before any update, which takes no memory: a suffix list, and the extensions in the order of
-    /// their installation.
-    pub fn of(list: SuffixList, extensions: Vec<Extension>) -> Generation
-        ensures { result ≡ record { suffixes = list; state = record { extensions = extensions.items; count = 0 } } }
+    /// The generation before any update: a suffix list, and the extensions, installed in their order.
+    ///
+    /// # Errors
+    ///
+    /// - `Refused`: the first extension that is not installed, and why. The limits are this engine's own.
+    /// - `NoMemory`: memory ran out.
+    pub fn first(
+        alloc: Global,
+        list: SuffixList,
+        extensions: Vec<Extension>,
+    ) -> Result<Generation, FirstRefusal>
+        ensures suffixes { IfOk result (λ generation. generation.suffixes ≡ list) }
+        ensures installed { IfOk result (λ generation. opening extensions.items ≡ Ok generation.state) }
+        ensures refused { IfErr result (IsFirstRefusal (opening extensions.items)) }
     {
-        Generation {
-            list,
-            extensions,
-            number: 0,
-        }
+        let store = first_store(alloc, extensions)?;
+        Ok(Generation { list, store })
     }
 
     /// The count of the updates that were accepted.
     pub fn number(&self) -> u32
         ensures { result ≡ self.now.state.count }
     {
-        self.number
+        self.store.count()
     }
 
     /// The extensions, in the order of their installation.
     pub fn extensions(&self) -> &[Extension]
         ensures { result.now ≡ self.now.state.extensions }
     {
-        self.extensions.as_slice()
+        self.store.extensions()
     }
 
     /// What becomes of a request, which has at most 64 frames: the verdict of the scan of all rules in force. It walks

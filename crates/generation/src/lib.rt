@@ -6,6 +6,7 @@
 mod block;
 mod conclusion;
 mod decision;
+mod first;
 mod generation;
 mod kept;
 mod live;
@@ -18,7 +19,8 @@ mod sorted;
 mod targets;
 
 pub use dnr_verdict::{NamedOp, Verdict};
+pub use first::FirstRefusal;
 pub use generation::Generation;
 pub use refusal::DecideRefusal;
 pub use rule_spec::Outcome;
-pub use ruleset_store::{Extension, RuleSet};
+pub use ruleset_store::{Extension, Refusal, RuleSet};
