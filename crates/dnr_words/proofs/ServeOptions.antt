@@ -1,5 +1,5 @@
 -- What the options of `serve` ask for, gone over one after another.
-use Rattle.std.proofs.Common.{◌≡◌, ℕ, List, [], ◌∷◌, ◌++◌, map, filter_map, Option, Some, None, option_map, option_and_then, Bool, true, false, cond, refl, sym, ap, ◌∙◌}
+use Rattle.std.proofs.Common.{◌≡◌, ℕ, List, [], ◌∷◌, ◌++◌, filter_map, Option, Some, None, option_map, option_and_then, Bool, true, false, cond, refl, sym, ap, ◌∙◌}
 use Rattle.std.specs.Option.{option_to_list}
 use Rattle.session_spec.specs.Words.{Task, Installed, Choice, Choices, suffixes_in, install, serve_script, is_file_name, choice_of, choices_of, with_choice, suffixes_chosen, installs, serving_with, serve_of}
 use Rattle.dnr_words.specs.Reading.{Chosen, installed_in, suffixes_after, chosen_from}

@@ -1,5 +1,5 @@
 -- `NAME=F`, cut at its first `=`.
-use Rattle.std.proofs.Common.{◌≡◌, ℕ, ◌+◌, ◌<◌, List, Bool, true, false, ◌&&◌, Option, Some, None, length, take, drop, suc, refl, sym, ap, ◌∙◌, eqb, ltb, cond, arith}
+use Rattle.std.proofs.Common.{◌≡◌, ℕ, ◌+◌, ◌<◌, List, Bool, true, false, ◌&&◌, Option, Some, None, length, take, drop, suc, sym, ap, ◌∙◌, eqb, cond, arith}
 use Rattle.std.specs.List.{position_or_len, position_from, before_first, after_first}
 use Rattle.std.proofs.lemmas.Iterator.Adapters.{position_from-zero}
 use Rattle.std.proofs.lemmas.Bool.Decides.{nat_tests}

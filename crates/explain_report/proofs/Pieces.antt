@@ -1,5 +1,5 @@
 -- Lines that are written in three pieces: how they begin, what they say, and how they end.
-use Rattle.std.proofs.Common.{◌≡◌, ℕ, List, [], ◌∷◌, ◌++◌, codes, decimal, ap, ◌∙◌, append_assoc}
+use Rattle.std.proofs.Common.{◌≡◌, ℕ, List, ◌++◌, codes, decimal, ap, ◌∙◌, append_assoc}
 use Rattle.json.specs.Print.{quoted}
 use Rattle.compile_spec.specs.declared.reported.Reported.{Reported}
 use Rattle.load_spec.specs.Installing.{RefusedInstall}

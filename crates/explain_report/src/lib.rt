@@ -19,8 +19,8 @@ mod verdict;
 pub use bad::{write_bad, write_not_yet};
 pub use dnr_verdict::{NamedOp, Verdict};
 pub use files::{
-    write_bad_json, write_bad_manifest, write_list_fault, write_refused_rule,
-    write_suffix_refusal, write_too_many_rules,
+    write_bad_json, write_bad_manifest, write_list_fault, write_refused_rule, write_suffix_refusal,
+    write_too_many_rules,
 };
 pub use installation::write_install_refusal;
 pub use names::quoted_text;

@@ -44,11 +44,7 @@ fn write_start(line: u32, code: &str, into: &mut String) -> Result<(), NoMemory>
     Ok(())
 }
 
-fn write_name_field(
-    alloc: Global,
-    name: Option<&str>,
-    into: &mut String,
-) -> Result<(), NoMemory>
+fn write_name_field(alloc: Global, name: Option<&str>, into: &mut String) -> Result<(), NoMemory>
     ensures { OnOk result (string_bytes into.new ≡ string_bytes into.old ++ spec.name_field (option_copied name.entry)) }
 {
     let Some(name) = name else {

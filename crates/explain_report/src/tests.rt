@@ -126,11 +126,19 @@ fn a_refused_rule_has_its_place(rt: HostRuntime) -> Result<(), Fail> {
             "{\"file\":\"r.json\",\"refused\":\"bad-field\",\"place\":2,\"id\":3,\"path\":\"condition.resourceTypes\"}\n",
         ),
         (
-            placed(0, Some(1), RuleRefusal::BadUrlFilter(PatternRefusal::AnchorStar)),
+            placed(
+                0,
+                Some(1),
+                RuleRefusal::BadUrlFilter(PatternRefusal::AnchorStar),
+            ),
             "{\"file\":\"r.json\",\"refused\":\"bad-url-filter\",\"place\":0,\"id\":1,\"why\":\"anchor-star\"}\n",
         ),
         (
-            placed(0, Some(1), RuleRefusal::BadHeader(HeaderCause::Op(HeaderRefusal::ValueGiven))),
+            placed(
+                0,
+                Some(1),
+                RuleRefusal::BadHeader(HeaderCause::Op(HeaderRefusal::ValueGiven)),
+            ),
             "{\"file\":\"r.json\",\"refused\":\"bad-header\",\"place\":0,\"id\":1,\"why\":\"value-given\"}\n",
         ),
     ];
@@ -147,7 +155,12 @@ fn a_refused_file_says_why(rt: HostRuntime) -> Result<(), Fail> {
     let alloc = rt.alloc();
     let mut lines = String::new(alloc);
     write_bad_json(alloc, "a\"b.json", &mut lines)?;
-    write_bad_manifest(alloc, "shop/manifest.json", ManifestPath::RuleResources, &mut lines)?;
+    write_bad_manifest(
+        alloc,
+        "shop/manifest.json",
+        ManifestPath::RuleResources,
+        &mut lines,
+    )?;
     write_suffix_refusal(alloc, "p.dat", SuffixRefusal::NotUtf8, &mut lines)?;
     write_suffix_refusal(alloc, "p.dat", SuffixRefusal::BadRule(3), &mut lines)?;
     write_suffix_refusal(alloc, "p.dat", SuffixRefusal::TooManyRules, &mut lines)?;

@@ -19,7 +19,7 @@ returns-else-is_extension_name c =
     let first = split_once_first 61 c.args.value.now (Some (c.in_ok-name.name, c.in_ok-name.file)) c.in_ok-name.ensures.cases (omega arith) in
     let parts : Parts c.args.value.now c.in_ok-name.name.now c.in_ok-name.file.now = record { inside = first.0; before = first.1; behind = first.2 } in
     elim c.else-is_extension_name.branch [
-        else-is_extension_name-via-then-is_extension_name+else-is_file_name w ↦
-            no_file_named _ _ _ parts (sym w.if-is_extension_name.true ∙ c.is_extension_name.ensures) (sym w.if-is_file_name.false ∙ w.is_file_name.ensures)
+      | else-is_extension_name-via-then-is_extension_name+else-is_file_name w ↦
+          no_file_named _ _ _ parts (sym w.if-is_extension_name.true ∙ c.is_extension_name.ensures) (sym w.if-is_file_name.false ∙ w.is_file_name.ensures)
       | else-is_extension_name-via-else-is_extension_name w ↦ no_name_named _ _ _ parts (sym w.if-is_extension_name.false ∙ c.is_extension_name.ensures)
     ]
