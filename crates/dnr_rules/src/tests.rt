@@ -5,7 +5,7 @@ ghost use Rattle.dnr_base.specs.MethodSet.{methods_of};
 ghost use Rattle.dnr_spec.specs.UrlFilter.{pattern_of};
 ghost use Rattle.rule_spec.specs.IsRule.{AreDomains};
 
-use crate::{Action, Condition, ConditionParts, Rule, RuleParts};
+use crate::{Action, Condition, ConditionParts, RareParts, Rule, RuleParts};
 use dnr_base::{
     Copied, Direction, Items, Kind, KindSet, Method, MethodSet, NoMemory, Operation, Redirect, Text,
 };
@@ -31,8 +31,8 @@ fn threads_share_rules() {
 
 #[test]
 fn a_rule_is_small(rt: HostRuntime) {
-    assert_eq!(rt; size_of::<Action>(), 56);
-    assert_eq!(rt; size_of::<Rule>(), 296);
+    assert_eq!(rt; size_of::<Action>(), 16);
+    assert_eq!(rt; size_of::<Rule>(), 136);
 }
 
 fn text(alloc: Global, text: &str) -> Option<Text>
@@ -82,20 +82,23 @@ fn whole_rule(alloc: Global) -> Option<Rule> {
     kinds.insert(Kind::Script);
     let mut not_methods = MethodSet::empty();
     not_methods.insert(Method::Head);
+    let rare = RareParts {
+        regex_filter: None,
+        not_initiators: domain(alloc, "not-from.test")?,
+        not_hosts: domain(alloc, "not-to.test")?,
+        tabs: Some(no_tab_and_seven(alloc)?),
+        not_tabs: Items::build(Vec::new(alloc)),
+    };
     let condition = ConditionParts {
         url_filter: Some(filter(alloc, "||host^")?),
-        regex_filter: None,
         case_sensitive: true,
         initiators: Some(domain(alloc, "from.test")?),
-        not_initiators: domain(alloc, "not-from.test")?,
         hosts: Some(domain(alloc, "to.test")?),
-        not_hosts: domain(alloc, "not-to.test")?,
         third_party: Some(false),
         kinds,
         methods: Some(post_alone()),
         not_methods,
-        tabs: Some(no_tab_and_seven(alloc)?),
-        not_tabs: Items::build(Vec::new(alloc)),
+        rare: rare.boxed(alloc).ok()?,
     };
     Some(Rule::build(RuleParts {
         id: 5,
@@ -147,7 +150,7 @@ fn has_tabs(condition: &Condition) -> bool {
         Some(tabs) => tabs.as_slice() == [-1, 7].as_slice(),
         None => false,
     };
-    tabs && condition.not_tabs().as_slice().is_empty()
+    tabs && condition.not_tabs().is_empty()
 }
 
 #[test]
@@ -178,7 +181,7 @@ fn redirect(alloc: Global) -> Option<Action> {
 
 fn changes(alloc: Global) -> Option<Action> {
     let request = headers(alloc, "a")?;
-    Some(Action::ModifyHeaders(request, headers(alloc, "b")?))
+    Action::modify_headers(alloc, request, headers(alloc, "b")?).ok()
 }
 
 // Whether the action and its copy are unsafe.

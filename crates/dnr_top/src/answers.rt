@@ -12,6 +12,7 @@ ghost use Rattle.session_spec.specs.Answers.{Says};
 ghost use Rattle.dnr_top.specs.Answers.{lines_seen, setting_of, HasNotFallen, AppendsSuch, SaysOfRequest, WritesFront, WritesAnswers, WritesAnswersInPart};
 ghost use Rattle.dnr_top.specs.declared.answers.WriteRefusal.TheVariants as refusal;
 
+use crate::postponed::is_postponed;
 use dnr_base::{Request, Steps};
 use dnr_io::{Failed, Sink, write_all};
 use dnr_spec::NoMemory;

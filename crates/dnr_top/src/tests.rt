@@ -42,6 +42,16 @@ fn add_file(
     Ok(())
 }
 
+// An extension of a folder, a list and a suffix list.
+const FILES: &[(&str, &str)] = &[
+    ("shop/manifest.json", r#"{"declarative_net_request":{"rule_resources":[{"id":"s","enabled":true,"path":"s.json"}]}}"#),
+    ("shop/s.json", r#"[{"id":1,"condition":{"urlFilter":"||c.org^","domainType":"thirdParty"},"action":{"type":"block"}}]"#),
+    ("l.txt", "a.com##.ad\n||b.com^\n||b.com^$popup\n"),
+    ("psl.dat", "com\norg\n"),
+    ("s.jsonl", "{\"url\":\"http://x.c.org/\",\"type\":\"script\",\"initiator\":\"http://c.org\"}\n{\"url\":\"http://b.com/\",\"type\":\"script\"}\n{\"cmd\":\"sync\"}\n"),
+    ("bad/manifest.json", "[]"),
+];
+
 // The first call that fails of the shelf, of the sink, of the host of files and of that of requests.
 #[derive(Clone, Copy)]
 struct Failing {
@@ -72,6 +82,9 @@ fn ended(
     let mut files = Vec::new(alloc);
     add_file(&mut files, alloc, "r.json", rules)?;
     add_file(&mut files, alloc, "q.jsonl", SCRIPT)?;
+    for (name, text) in FILES {
+        add_file(&mut files, alloc, name, text)?;
+    }
     let mut shelf = MemoryShelf::new(files, 4096, vec![in alloc; failing.read]?);
     let mut sink = MemorySink::new(alloc, 4096, vec![in alloc; failing.write]?);
     let mut hosts = vec![in alloc; host(alloc, failing.check)?, host(alloc, failing.find)?]?;
@@ -118,6 +131,47 @@ static [ {"file":"r.json","refused":"bad-json"}"#;
         let want = format!(in alloc; "{want}\n")?;
         assert_eq!(rt; written.as_slice(), want.as_bytes(), "{row}");
     }
+    Ok(())
+}
+
+#[test]
+fn extensions_and_lists_are_served(rt: HostRuntime) -> Result<(), Fail> {
+    let alloc = rt.alloc();
+    let command = "serve --list l=l.txt --psl psl.dat --ext shop s.jsonl";
+    let (status, written) = ended(alloc, command, RULES, NOTHING)?;
+    assert_eq!(rt; status, Status::Done);
+    let want = "{\"line\":1,\"generation\":0,\"verdict\":\"none\"}\n{\"line\":2,\"generation\":0,\"verdict\":\"block\",\"rule\":[\"l\",\"list\",1]}\n{\"line\":3,\"bad\":\"not-yet-supported\"}\n";
+    assert_eq!(rt; written.as_slice(), want.as_bytes());
+    Ok(())
+}
+
+#[test]
+fn what_is_refused_is_named(rt: HostRuntime) -> Result<(), Fail> {
+    let alloc = rt.alloc();
+    let table = r#"serve --ext bad s.jsonl|{"file":"bad/manifest.json","refused":"bad-manifest","path":"manifest"}
+serve --ext shop --list shop=l.txt s.jsonl|{"extension":"shop","refused":"extension-there"}
+serve --psl shop/s.json s.jsonl|{"file":"shop/s.json","refused":"bad-suffix","line":1}"#;
+    for row in table.lines() {
+        let (command, want) = row.split_once('|').unwrap_or((row, ""));
+        let (status, written) = ended(alloc, command, RULES, NOTHING)?;
+        assert_eq!(rt; status, Status::Refused, "{row}");
+        let want = format!(in alloc; "{want}\n")?;
+        assert_eq!(rt; written.as_slice(), want.as_bytes(), "{row}");
+    }
+    Ok(())
+}
+
+#[test]
+fn a_list_is_compiled(rt: HostRuntime) -> Result<(), Fail> {
+    let alloc = rt.alloc();
+    let (status, written) = ended(alloc, "compile l.txt", RULES, NOTHING)?;
+    assert_eq!(rt; status, Status::Done);
+    let want = r#"{"line":1,"unsupported":"element-hiding"}
+{"line":3,"unsupported":"unknown-option","name":"popup"}
+{"rules":1}
+[{"action":{"type":"block"},"condition":{"urlFilter":"||b.com^"},"id":1,"priority":1}]
+"#;
+    assert_eq!(rt; written.as_slice(), want.as_bytes());
     Ok(())
 }
 

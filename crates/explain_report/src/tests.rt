@@ -1,10 +1,17 @@
 //! Lines as docs/FORMATS.md shows them.
-use crate::{NamedOp, Verdict, write_bad, write_fault, write_not_yet, write_verdict};
+use crate::{
+    NamedOp, Verdict, write_bad, write_bad_json, write_bad_manifest, write_count, write_fault,
+    write_install_refusal, write_list_fault, write_not_yet, write_refused_rule,
+    write_suffix_refusal, write_too_many_rules, write_unsupported, write_verdict,
+};
+use compile_spec::Reported;
 use dnr_base::{Direction, Header, Items, Operation, RuleName, Text};
-use dnr_spec::ViewRefusal;
+use dnr_spec::{HeaderRefusal, PatternRefusal, SuffixRefusal, ViewRefusal};
 use header_actions::HeaderOp;
 use json_spec::{CommandPath, LineFault};
-use rule_spec::Outcome;
+use list_spec::Reason;
+use load_spec::{ManifestPath, Refusal};
+use rule_spec::{HeaderCause, Outcome, PlacedRefusal, RulePath, RuleRefusal};
 use std::alloc::Global;
 use std::string::String;
 use std::test::Fail;
@@ -90,6 +97,95 @@ fn a_bad_line_says_why(rt: HostRuntime) -> Result<(), Fail> {
     assert_eq!(rt;
         lines.as_str(),
         "{\"line\":1,\"bad\":\"json\"}\n{\"line\":2,\"bad\":\"url\",\"path\":\"url\",\"why\":\"bad-host\"}\n{\"line\":3,\"bad\":\"command\",\"path\":\"type\"}\n{\"line\":4,\"bad\":\"not-yet-supported\"}\n"
+    );
+    Ok(())
+}
+
+fn placed(place: u32, id: Option<u32>, cause: RuleRefusal) -> PlacedRefusal {
+    PlacedRefusal {
+        place,
+        id,
+        cause,
+        set: None,
+    }
+}
+
+#[test]
+fn a_refused_rule_has_its_place(rt: HostRuntime) -> Result<(), Fail> {
+    let rows = [
+        (
+            placed(1, Some(7), RuleRefusal::DuplicateId),
+            "{\"file\":\"r.json\",\"refused\":\"duplicate-id\",\"place\":1,\"id\":7}\n",
+        ),
+        (
+            placed(0, None, RuleRefusal::BadId),
+            "{\"file\":\"r.json\",\"refused\":\"bad-id\",\"place\":0,\"id\":null}\n",
+        ),
+        (
+            placed(2, Some(3), RuleRefusal::BadField(RulePath::ResourceTypes)),
+            "{\"file\":\"r.json\",\"refused\":\"bad-field\",\"place\":2,\"id\":3,\"path\":\"condition.resourceTypes\"}\n",
+        ),
+        (
+            placed(0, Some(1), RuleRefusal::BadUrlFilter(PatternRefusal::AnchorStar)),
+            "{\"file\":\"r.json\",\"refused\":\"bad-url-filter\",\"place\":0,\"id\":1,\"why\":\"anchor-star\"}\n",
+        ),
+        (
+            placed(0, Some(1), RuleRefusal::BadHeader(HeaderCause::Op(HeaderRefusal::ValueGiven))),
+            "{\"file\":\"r.json\",\"refused\":\"bad-header\",\"place\":0,\"id\":1,\"why\":\"value-given\"}\n",
+        ),
+    ];
+    for (refusal, expected) in &rows {
+        let mut line = String::new(rt.alloc());
+        write_refused_rule(rt.alloc(), "r.json", refusal, &mut line)?;
+        assert_eq!(rt; line.as_str(), *expected);
+    }
+    Ok(())
+}
+
+#[test]
+fn a_refused_file_says_why(rt: HostRuntime) -> Result<(), Fail> {
+    let alloc = rt.alloc();
+    let mut lines = String::new(alloc);
+    write_bad_json(alloc, "a\"b.json", &mut lines)?;
+    write_bad_manifest(alloc, "shop/manifest.json", ManifestPath::RuleResources, &mut lines)?;
+    write_suffix_refusal(alloc, "p.dat", SuffixRefusal::NotUtf8, &mut lines)?;
+    write_suffix_refusal(alloc, "p.dat", SuffixRefusal::BadRule(3), &mut lines)?;
+    write_suffix_refusal(alloc, "p.dat", SuffixRefusal::TooManyRules, &mut lines)?;
+    write_too_many_rules(alloc, "l.txt", 330_001, &mut lines)?;
+    write_list_fault(alloc, "l.txt", 9, &mut lines)?;
+    assert_eq!(rt;
+        lines.as_str(),
+        "{\"file\":\"a\\\"b.json\",\"refused\":\"bad-json\"}\n{\"file\":\"shop/manifest.json\",\"refused\":\"bad-manifest\",\"path\":\"rule_resources\"}\n{\"file\":\"p.dat\",\"refused\":\"not-utf8\"}\n{\"file\":\"p.dat\",\"refused\":\"bad-suffix\",\"line\":3}\n{\"file\":\"p.dat\",\"refused\":\"too-many-rules\"}\n{\"file\":\"l.txt\",\"refused\":\"too-many-rules\",\"count\":330001}\n{\"file\":\"l.txt\",\"refused\":\"pattern-host\",\"line\":9}\n"
+    );
+    Ok(())
+}
+
+#[test]
+fn a_refused_installation_has_its_count(rt: HostRuntime) -> Result<(), Fail> {
+    let alloc = rt.alloc();
+    let mut lines = String::new(alloc);
+    let there = Refusal::ExtensionThere(text(alloc, "shop")?);
+    write_install_refusal(alloc, "shop", &there, &mut lines)?;
+    write_install_refusal(alloc, "shop", &Refusal::EnabledLimit(51), &mut lines)?;
+    assert_eq!(rt;
+        lines.as_str(),
+        "{\"extension\":\"shop\",\"refused\":\"extension-there\"}\n{\"extension\":\"shop\",\"refused\":\"enabled-limit\",\"count\":51}\n"
+    );
+    Ok(())
+}
+
+#[test]
+fn a_report_names_lines(rt: HostRuntime) -> Result<(), Fail> {
+    let alloc = rt.alloc();
+    let mut lines = String::new(alloc);
+    let popup = Reason::UnknownOption(text(alloc, "popup")?);
+    for (line, reason) in [(3, Reason::ElementHiding), (6, popup)] {
+        write_unsupported(alloc, &Reported { line, reason }, &mut lines)?;
+    }
+    write_count(4, &mut lines)?;
+    assert_eq!(rt;
+        lines.as_str(),
+        "{\"line\":3,\"unsupported\":\"element-hiding\"}\n{\"line\":6,\"unsupported\":\"unknown-option\",\"name\":\"popup\"}\n{\"rules\":4}\n"
     );
     Ok(())
 }

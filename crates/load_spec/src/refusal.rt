@@ -1,4 +1,7 @@
-use dnr_base::Text;
+ghost use Rattle.std.specs.Prelude.{◌≡◌};
+
+use dnr_base::{NoMemory, Text};
+use std::alloc::{AllocError, AllocFailed};
 
 /// Why an extension is not installed, in the order in which it is tested. A count is that after the installation.
 #[derive(Debug, Drop)]
@@ -21,4 +24,34 @@ pub enum Refusal {
     TooManyUpdates(usize),
     /// Memory ran out.
     NoMemory,
+}
+
+impl From<AllocError> for Refusal {
+    ghost use Rattle.load_spec.specs.declared.refusal.Refusal.TheVariants.{NoMemory};
+
+    ghost from_gives = { λ _ r. r ≡ NoMemory };
+
+    fn from(_: AllocError) -> Refusal {
+        Refusal::NoMemory
+    }
+}
+
+impl<T: Drop> From<AllocFailed<T>> for Refusal {
+    ghost use Rattle.load_spec.specs.declared.refusal.Refusal.TheVariants.{NoMemory};
+
+    ghost from_gives = { λ _ r. r ≡ NoMemory };
+
+    fn from(_: AllocFailed<T>) -> Refusal {
+        Refusal::NoMemory
+    }
+}
+
+impl From<NoMemory> for Refusal {
+    ghost use Rattle.load_spec.specs.declared.refusal.Refusal.TheVariants.{NoMemory};
+
+    ghost from_gives = { λ _ r. r ≡ NoMemory };
+
+    fn from(_: NoMemory) -> Refusal {
+        Refusal::NoMemory
+    }
 }

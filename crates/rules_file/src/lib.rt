@@ -6,15 +6,18 @@
 #![tactic(auto)]
 
 mod list;
+mod load;
 #[cfg(test)]
 mod tests;
 mod text;
 mod value;
 
-ghost use Rattle.std.specs.Prelude.{◌≡◌, Ok, IfOk, IfErr};
+ghost use Rattle.std.specs.Prelude.{◌≡◌, ◌≤◌, Ok, IfOk, IfErr};
 ghost use Rattle.dnr_base.specs.Faults.{Rose};
 ghost use Rattle.json_spec.specs.RulesFile.{rules_of};
 ghost use Rattle.rules_file.specs.Answers.{MayRefuse};
+
+pub use load::{LoadRefusal, MAX_FILE, load_rules};
 
 use regex_host::RegexHost;
 use rule_read::{PlacedRefusal, Rule, RuleKind, RuleRefusal};
@@ -49,6 +52,7 @@ pub fn read_rules_file<H: RegexHost>(
 ) -> Result<Vec<Rule>, FileRefusal>
     ensures ok { IfOk result (λ rules. rules_of kind bytes.now ≡ Ok rules.items) }
     ensures refused { IfErr result (MayRefuse kind bytes.now (Rose (H.faults host.old) (H.faults host.new))) }
+    ensures later { H.faults host.old ≤ H.faults host.new }
 {
     let Ok(text) = str::from_utf8(bytes) else {
         return Err(FileRefusal::BadJson);

@@ -22,6 +22,7 @@ pub(crate) fn read_list<H: RegexHost>(
 ) -> Result<Result<Vec<Rule>, PlacedRefusal>, Fault>
     ensures read { IfOk result (λ answer. (items : Items) × HasItems reader.old items reader.new
         × Answers kind (Some items) (Rose (H.faults host.old) (H.faults host.new)) answer) }
+    ensures later { H.faults host.old ≤ H.faults host.new }
     ensures bad { result ≡ Err Fault.BadJson → HasNoItems reader.old }
 {
     let mut taken = BTreeSet::new(alloc);
@@ -51,6 +52,7 @@ fn read_good<H: RegexHost>(
         × (read_items kind (Some items) ≡ Ok rules.new.items) }
     ensures refused { IfOk result (λ found. IfSome found
         (StopsBefore kind reader.old reader.new (Rose (H.faults host.old) (H.faults host.new)))) }
+    ensures later { H.faults host.old ≤ H.faults host.new }
     ensures bad { result ≡ Err Fault.BadJson → HasNoItems reader.old }
 {
     'items: while !reader.take_end_array() {

@@ -1,5 +1,5 @@
 // A whole text.
-ghost use Rattle.std.specs.Prelude.{◌≡◌, List, [], ◌∷◌, Ok, Err, IfOk, IsTrue, None, Some};
+ghost use Rattle.std.specs.Prelude.{◌≡◌, ◌≤◌, List, [], ◌∷◌, Ok, Err, IfOk, IsTrue, None, Some};
 ghost use Rattle.std.specs.Bool.{MatchBool};
 ghost use Rattle.json.specs.Token.{Token as SpecToken, begin_array};
 ghost use Rattle.serde_json.specs.Data.{Data};
@@ -24,6 +24,7 @@ pub(crate) fn read_text<H: RegexHost>(
 ) -> Result<Result<Vec<Rule>, PlacedRefusal>, Fault>
     ensures read { IfOk result (λ answer. (d : Data) × (read text.now ≡ Some d)
         × Answers kind (as_array d) (Rose (H.faults host.old) (H.faults host.new)) answer) }
+    ensures later { H.faults host.old ≤ H.faults host.new }
     ensures bad { result ≡ Err Fault.BadJson → read text.now ≡ None }
 {
     let mut scratch = Scratch::new(alloc);
@@ -49,6 +50,7 @@ fn read_whole<H: RegexHost>(
 ) -> Result<Result<Vec<Rule>, PlacedRefusal>, Fault>
     ensures read { IfOk result (λ answer. (d : Data) × (read text.now ≡ Some d)
         × Answers kind (as_array d) (Rose (H.faults host.old) (H.faults host.new)) answer) }
+    ensures later { H.faults host.old ≤ H.faults host.new }
     ensures bad { result ≡ Err Fault.BadJson → read text.now ≡ None }
 {
     match read_value(alloc, text.as_bytes()) {

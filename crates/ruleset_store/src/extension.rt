@@ -1,8 +1,10 @@
-ghost use Rattle.std.specs.Prelude.{◌≡◌};
+ghost use Rattle.std.specs.Prelude.{◌≡◌, IfOk};
 
 use crate::RuleSet;
-use dnr_base::Text;
+use crate::copies::copies;
+use dnr_base::{Copied, NoMemory, Text};
 use dnr_rules::Rule;
+use std::alloc::Global;
 use std::marker::Model;
 
 /// An extension, as it is installed: its static rulesets, and the rules that were added since. A clause sees
@@ -68,5 +70,25 @@ impl Extension {
         ensures { result.now ≡ self.now.session }
     {
         self.session.as_slice()
+    }
+
+    /// An equal extension.
+    ///
+    /// `NoMemory`: no memory is left for its parts.
+    pub fn copy(&self, alloc: Global) -> Result<Extension, NoMemory>
+        ensures { IfOk result (λ copy. copy ≡ self.now) }
+    {
+        Ok(Extension {
+            name: self.name.copy(alloc)?,
+            sets: copies(alloc, self.sets())?,
+            dynamic: copies(alloc, self.dynamic())?,
+            session: copies(alloc, self.session())?,
+        })
+    }
+}
+
+impl Copied for Extension {
+    fn copied(&self, alloc: Global) -> Result<Extension, NoMemory> {
+        self.copy(alloc)
     }
 }

@@ -1,7 +1,9 @@
-ghost use Rattle.std.specs.Prelude.{◌≡◌};
+ghost use Rattle.std.specs.Prelude.{◌≡◌, IfOk};
 
-use dnr_base::{Items, Text};
+use crate::copies::{copies, lists_again};
+use dnr_base::{Copied, Items, NoMemory, Text};
 use dnr_rules::Rule;
+use std::alloc::Global;
 use std::marker::Model;
 
 /// A static ruleset of an extension: Chrome's reference of declarativeNetRequest, `Ruleset`. A clause sees
@@ -78,5 +80,26 @@ impl RuleSet {
         ensures { result.now ≡ self.now.disabled }
     {
         self.disabled.as_slice()
+    }
+
+    /// An equal ruleset.
+    ///
+    /// `NoMemory`: no memory is left for its parts.
+    pub fn copy(&self, alloc: Global) -> Result<RuleSet, NoMemory>
+        ensures { IfOk result (λ copy. copy ≡ self.now) }
+    {
+        Ok(RuleSet {
+            id: self.id.copy(alloc)?,
+            enabled: self.enabled,
+            rules: copies(alloc, self.rules())?,
+            origins: lists_again(alloc, self.origins())?,
+            disabled: Vec::from_slice(alloc, self.disabled())?,
+        })
+    }
+}
+
+impl Copied for RuleSet {
+    fn copied(&self, alloc: Global) -> Result<RuleSet, NoMemory> {
+        self.copy(alloc)
     }
 }

@@ -1,0 +1,5 @@
+pub mod Drafts
+pub mod Named
+pub mod Once
+pub mod Parts
+pub mod Under

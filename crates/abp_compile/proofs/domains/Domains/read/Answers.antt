@@ -1,0 +1,12 @@
+use Rattle.std.proofs.Common.{◌∙◌, [], fold, ap, length, arith}
+use Rattle.std.proofs.lemmas.List.{take_all}
+use Rattle.abp_compile.specs.Domains.{with_entry}
+use Rattle.abp_compile.proofs.Once.{these}
+use Rattle.abp_compile.proofs.domains.Domains.read.Goals as goal
+
+pub returns : goal.returns
+returns c =
+    let entries = c.args.entries.now in
+    c.loop-entry.invariant.list
+    ∙ ap (λ list. fold (with_entry c.args.excluded) [] list) (take_all c.loop-entry.entry-index entries (omega arith))
+    ∙ these c.args.excluded entries

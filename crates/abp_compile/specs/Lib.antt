@@ -1,0 +1,6 @@
+pub mod Answers
+pub mod Asked
+pub mod Domains
+pub mod Parted
+pub mod Seen
+pub mod Work

@@ -1,0 +1,44 @@
+-- The program's types, as those of the definitions.
+use Rattle.std.specs.Prelude.{ℕ, List, [], ◌∷◌}
+use Rattle.abp_parse.specs.Seen.{filter_seen}
+use Rattle.abp_parse.specs.declared.line.FilterLine.{FilterLine}
+use Rattle.rule_spec.specs.Rule.{Rule}
+use Rattle.compile_spec.specs.Initiators as spec_initiators
+use Rattle.compile_spec.specs.Compiled as spec
+use Rattle.abp_compile.specs.Parted.{in_common, parted, CanName}
+use Rattle.abp_compile.specs.declared.effects.Effect.{Effect}
+use Rattle.abp_compile.specs.declared.effects.Effect.TheVariants.{Blocks, Allows, Exempts}
+use Rattle.abp_compile.specs.declared.effects.Effects.{Effects}
+use Rattle.abp_compile.specs.declared.effects.Effects.TheVariants.{Nothing, One, Both}
+use Rattle.abp_compile.specs.declared.initiators.Initiators.{Initiators}
+use Rattle.abp_compile.specs.declared.initiators.Parted.{Parted}
+
+abbrev pub effect_seen : Effect → spec.Effect
+effect_seen Blocks = spec.blocks
+effect_seen Allows = spec.allows
+effect_seen Exempts = spec.exempts
+
+abbrev pub effects_seen : Effects → List spec.Effect
+effects_seen Nothing = []
+effects_seen (One effect) = effect_seen effect ∷ []
+effects_seen (Both first second) = effect_seen first ∷ effect_seen second ∷ []
+
+abbrev pub initiators_seen : Initiators → spec_initiators.Initiators
+initiators_seen initiators = record { among = initiators.among; not_among = initiators.not_among }
+
+-- those of the rule besides the rules of single domains, if there is one
+abbrev pub in_common_of : Parted → List spec_initiators.Initiators
+in_common_of domains = in_common domains.excluded.items domains.others.items domains.nested.items
+
+-- those of all rules that an effect has
+abbrev pub parted_seen : Parted → List spec_initiators.Initiators
+parted_seen domains = parted domains.excluded.items domains.others.items domains.nested.items
+
+-- rules may name them
+abbrev pub CanNameAll : Parted → Type 0
+CanNameAll domains = CanName domains.excluded.items domains.others.items domains.nested.items
+
+-- the rule of a filter for these initiators
+abbrev pub rule_seen : ℕ → FilterLine → Effect → Initiators → Rule
+rule_seen id filter effect initiators =
+    spec.rule_of id (record { lines = []; filter = filter_seen filter; effect = effect_seen effect; initiators = initiators_seen initiators })

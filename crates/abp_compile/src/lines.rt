@@ -1,0 +1,180 @@
+// The lines of a list, one after another.
+ghost use Rattle.std.specs.Prelude.{◌≡◌, ◌==◌, ◌≤◌, ◌<◌, ◌++◌, ◌∷◌, ℕ, length, position, IfOk, IfErr, IfSome, IsErrOf, OnOk};
+ghost use Rattle.dnr_base.specs.Faults.{HasCauseOf};
+ghost use Rattle.abp_parse.specs.Cut.{pieces_left};
+ghost use Rattle.abp_parse.specs.Seen.{filter_seen, pattern_seen};
+ghost use Rattle.list_spec.specs.LineKind.{lines_of, line_of, filter_line};
+ghost use Rattle.list_spec.specs.Says.{filter_in, reason_of, is_usable};
+ghost use Rattle.regex_host.specs.Answers as asked;
+ghost use Rattle.compile_spec.specs.Compiled.{compiled, rules_in, origins_in, max_compiled, drafts_in, drafts_from};
+ghost use Rattle.compile_spec.specs.Report.{report, report_of, report_from};
+ghost use Rattle.abp_compile.specs.Answers.{CountsTooMany, StopsAt, IsCalm};
+ghost use Rattle.abp_compile.specs.Asked.{IsAsked, IsFilter, IsNotTooMany, StopsOnlyAt};
+ghost use Rattle.abp_compile.specs.Work.{HasDrafts, Gains};
+
+use crate::report::{CompileRefusal, Report};
+use crate::work::{MAX_RULES, Work};
+use abp_parse::{FilterLine, FilterPattern, Line, parse_line};
+use compile_laws::filters_give_rules;
+use dnr_base::Items;
+use dnr_rules::Rule;
+use list_spec::Reason;
+use regex_host::{HostRefusal, RegexHost};
+use std::alloc::Global;
+
+// The most bytes of a regular expression.
+const MAX_REGEX: usize = 4096;
+
+/// Compiles a filter list: the rules of its filters, with ids from 1 in the order of the lines, and a report. Lines end
+/// at LF.
+///
+/// # Errors
+///
+/// - `TooManyRules`: the list gives more than 300,000 rules.
+/// - `HostFault`: the host failed at the regular expression of a line, and its count of faults rose in this call.
+/// - `NoMemory`: memory ran out.
+pub fn compile<H: RegexHost>(
+    alloc: Global,
+    lines: &[u8],
+    host: &mut H,
+) -> Result<(Vec<Rule>, Report), CompileRefusal>
+    requires { length lines.now < 4294967295 }
+    ensures rules { IfOk result (λ answer. answer.0.items ≡ rules_in (compiled (lines_of lines.now))) }
+    ensures origins { IfOk result (λ answer. answer.1.origins.items ≡ origins_in (compiled (lines_of lines.now))) }
+    ensures reported { IfOk result (λ answer. answer.1.lines ≡ report (lines_of lines.now)) }
+    ensures few { OnOk result (length (compiled (lines_of lines.now)) ≤ max_compiled) }
+    ensures too_many { IfErr result (CountsTooMany (compiled (lines_of lines.now))) }
+    ensures stops { IfErr result (StopsAt (lines_of lines.now)) }
+    ensures cause { (line : ℕ) → HasCauseOf (CompileRefusal.HostFault line) (H.faults host.old) (H.faults host.new) result }
+    ensures calm { IsCalm (H.faults host.old) (H.faults host.new) result }
+{
+    let work = take_lines(alloc, lines, host)?;
+    if work.count > MAX_RULES {
+        return Err(CompileRefusal::TooManyRules(work.count));
+    }
+    let report = Report {
+        lines: Items::build(work.reported),
+        origins: work.origins,
+    };
+    Ok((work.rules, report))
+}
+
+fn take_lines<H: RegexHost>(
+    alloc: Global,
+    lines: &[u8],
+    host: &mut H,
+) -> Result<Work, CompileRefusal>
+    requires { length lines.now < 4294967295 }
+    ensures drafts { IfOk result (λ work. HasDrafts work (drafts_from 1 (lines_of lines.now))) }
+    ensures reported { IfOk result (λ work. work.reported.items ≡ report_from 1 (lines_of lines.now)) }
+    ensures stops { IfErr result (StopsAt (lines_of lines.now)) }
+    ensures few { IfErr result IsNotTooMany }
+    ensures cause { (line : ℕ) → HasCauseOf (CompileRefusal.HostFault line) (H.faults host.old) (H.faults host.new) result }
+    ensures calm { IsCalm (H.faults host.old) (H.faults host.new) result }
+{
+    let mut work = Work::new(alloc);
+    let mut rest = lines;
+    let mut number = 1;
+    loop {
+        let (line, later) = cut_line(rest);
+        take_line(alloc, number, line, &mut work, host)?;
+        match later {
+            Some(later) => rest = later,
+            None => return Ok(work),
+        }
+        number += 1;
+    }
+}
+
+// The first line of a text, and what stands behind its LF, if there is one.
+fn cut_line(text: &[u8]) -> (&[u8], Option<&[u8]>)
+    ensures lines { lines_of text.now ≡ result.0.now ∷ pieces_left 10 result.1 }
+    ensures shorter { IfSome result.1 (λ later. length later.now < length text.now) }
+{
+    match end_of_line(text) {
+        Some(place) => (&text[..place], Some(&text[place + 1..])),
+        None => (text, None),
+    }
+}
+
+// The place of the first LF.
+fn end_of_line(text: &[u8]) -> Option<usize>
+    ensures { result ≡ position (λ b. b == 10) text.now }
+{
+    text.iter().position(|byte| *byte == b'\n')
+}
+
+fn take_line<H: RegexHost>(
+    alloc: Global,
+    number: u32,
+    line: &[u8],
+    work: &mut Work,
+    host: &mut H,
+) -> Result<(), CompileRefusal>
+    ensures drafts { OnOk result (Gains (drafts_in number (filter_in (line_of line.now))) work.old work.new) }
+    ensures reported { OnOk result (work.new.reported.items ≡ work.old.reported.items ++ report_of number (reason_of (line_of line.now))) }
+    ensures stops { IfErr result (StopsOnlyAt number (line_of line.now)) }
+    ensures cause { HasCauseOf (CompileRefusal.HostFault number) (H.faults host.old) (H.faults host.new) result }
+    ensures calm { IsCalm (H.faults host.old) (H.faults host.new) result }
+{
+    match parse_line(alloc, line)? {
+        Line::Blank => Ok(()),
+        Line::Comment => Ok(()),
+        Line::Header => Ok(()),
+        Line::Unsupported(reason) => {
+            work.report(number, reason)?;
+            Ok(())
+        }
+        Line::Filter(filter) => take_filter(alloc, number, filter, work, host),
+    }
+}
+
+// Adds the rules of a filter, or reports its line where the pattern can't be used.
+fn take_filter<H: RegexHost>(
+    alloc: Global,
+    number: u32,
+    filter: FilterLine,
+    work: &mut Work,
+    host: &mut H,
+) -> Result<(), CompileRefusal>
+    requires { IsFilter (filter_seen filter) }
+    ensures drafts { OnOk result (Gains (drafts_in number (filter_in (filter_line (filter_seen filter)))) work.old work.new) }
+    ensures reported { OnOk result (work.new.reported.items ≡ work.old.reported.items ++ report_of number (reason_of (filter_line (filter_seen filter)))) }
+    ensures stops { IfErr result (StopsOnlyAt number (filter_line (filter_seen filter))) }
+    ensures cause { HasCauseOf (CompileRefusal.HostFault number) (H.faults host.old) (H.faults host.new) result }
+    ensures calm { IsCalm (H.faults host.old) (H.faults host.new) result }
+{
+    let usable = match is_usable(&filter, host) {
+        Ok(usable) => usable,
+        Err(HostRefusal::HostFault) => return Err(CompileRefusal::HostFault(number)),
+        Err(_) => return Err(CompileRefusal::NoMemory),
+    };
+    filters_give_rules();
+    if usable {
+        work.add_filter(alloc, number, filter)?;
+    } else {
+        work.report(number, Reason::BadRegex)?;
+    }
+    Ok(())
+}
+
+// Whether the pattern of a filter can be used.
+fn is_usable<H: RegexHost>(filter: &FilterLine, host: &mut H) -> Result<bool, HostRefusal>
+    ensures usable { IfOk result (λ usable. usable ≡ is_usable (pattern_seen filter.now.pattern)) }
+    ensures asked { IsErrOf result HostRefusal.HostFault → IsAsked (pattern_seen filter.now.pattern) }
+    ensures cause { HasCauseOf HostRefusal.HostFault (H.faults host.old) (H.faults host.new) result }
+    ensures calm { asked.IsCalm (H.faults host.old) (H.faults host.new) result }
+{
+    let FilterPattern::Regex(pattern) = &filter.pattern else {
+        return Ok(true);
+    };
+    if pattern.as_str().len() > MAX_REGEX {
+        return Ok(false);
+    }
+    match host.check(pattern.as_str(), !filter.match_case) {
+        Ok(_) => Ok(true),
+        Err(HostRefusal::NoPattern) => Ok(false),
+        Err(HostRefusal::HostFault) => Err(HostRefusal::HostFault),
+        Err(HostRefusal::NoMemory) => Err(HostRefusal::NoMemory),
+    }
+}

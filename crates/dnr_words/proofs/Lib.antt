@@ -1,0 +1,3 @@
+pub mod Splitting
+pub mod ServeOptions
+pub mod Pairs

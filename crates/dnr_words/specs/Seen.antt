@@ -1,0 +1,28 @@
+-- What the words that are read stand for.
+use Rattle.std.specs.Option.{option_copied}
+use Rattle.session_spec.specs.Words as spec
+use Rattle.dnr_words.specs.Reading as reading
+use Rattle.dnr_words.specs.declared.options.Installed.{Installed}
+use Rattle.dnr_words.specs.declared.options.Installed.TheVariants.{Folder, List}
+use Rattle.dnr_words.specs.declared.options.Choice.{Choice}
+use Rattle.dnr_words.specs.declared.options.Choice.TheVariants.{Suffixes, Install}
+use Rattle.dnr_words.specs.declared.serving.Chosen.{Chosen}
+use Rattle.dnr_words.specs.declared.task.Task.{Task}
+use Rattle.dnr_words.specs.declared.task.Task.TheVariants.{Match, Check, Compile, Serve}
+
+abbrev pub installed_seen : Installed → spec.Installed
+installed_seen (Folder name) = spec.folder name.now
+installed_seen (List name file) = spec.list name.now file.now
+
+abbrev pub choice_seen : Choice → spec.Choice
+choice_seen (Suffixes file) = spec.suffixes_in file.now
+choice_seen (Install one) = spec.install (installed_seen one)
+
+abbrev pub chosen_seen : Chosen → reading.Chosen
+chosen_seen c = record { suffixes = option_copied c.suffixes; script = c.script.now }
+
+abbrev pub task_seen : Task → spec.Task
+task_seen (Match rules script) = spec.match_files rules.now script.now
+task_seen (Check kind rules) = spec.check_file kind rules.now
+task_seen (Compile list) = spec.compile_file list.now
+task_seen (Serve serving) = spec.serve_script serving

@@ -1,0 +1,16 @@
+//! The command line: which command the words after the program's name say.
+//!
+//! What each word means stands in `session_spec`, `specs/Words.antt`. Nothing here takes memory, but for the list
+//! that [`Serving::installed`] makes.
+#![tactic(auto)]
+
+mod names;
+mod options;
+mod serving;
+mod task;
+#[cfg(test)]
+mod tests;
+
+pub use options::Installed;
+pub use serving::Serving;
+pub use task::{Task, read_words};

@@ -1,0 +1,106 @@
+// The rulesets that a manifest names.
+ghost use Rattle.std.specs.Prelude.{◌≡◌, [], Ok, Some, IfOk, IfErr, is_some, option_map};
+ghost use Rattle.serde_json.specs.Find.{as_object};
+ghost use Rattle.serde_json.specs.View.{view, items_view};
+ghost use Rattle.json_spec.specs.Json.{tree_of};
+ghost use Rattle.load_spec.specs.Manifest as spec;
+ghost use Rattle.manifest_read.specs.Reading.{IsFaultOf, IsFaultOfBytes};
+
+use crate::fault::Fault;
+use crate::resource::{Resource, resource_in};
+use dnr_base::NoMemory;
+use load_spec::ManifestPath;
+use serde_json::Value;
+use std::alloc::Global;
+
+// Reads the bytes of a manifest. It is tested whole.
+#[tactic(auto, unfolding(load_spec::specs::Manifest::manifest_of))]
+pub(crate) fn read_resources(alloc: Global, bytes: &[u8]) -> Result<Vec<Resource>, Fault>
+    ensures read { IfOk result (λ resources. spec.manifest_of bytes.now ≡ Ok resources.items) }
+    ensures refused { IfErr result (IsFaultOfBytes bytes.now) }
+{
+    match read_tree(alloc, bytes)? {
+        Some(tree) => manifest_in(alloc, &tree),
+        None => Err(Fault::BadJson),
+    }
+}
+
+// The tree of the bytes, if they are JSON.
+fn read_tree(alloc: Global, bytes: &[u8]) -> Result<Option<Value>, NoMemory>
+    ensures { IfOk result (λ tree. option_map view tree ≡ tree_of bytes.now) }
+{
+    match Value::from_slice(alloc, bytes) {
+        Ok(tree) => Ok(Some(tree)),
+        Err(error) => {
+            if error.is_memory() {
+                Err(NoMemory)
+            } else {
+                Ok(None)
+            }
+        }
+    }
+}
+
+#[tactic(auto, unfolding(load_spec::specs::Manifest::manifest_in))]
+fn manifest_in(alloc: Global, tree: &Value) -> Result<Vec<Resource>, Fault>
+    ensures read { IfOk result (λ resources. spec.manifest_in (view tree.now) ≡ Ok resources.items) }
+    ensures refused { IfErr result (IsFaultOf (spec.manifest_in (view tree.now))) }
+{
+    if tree.as_object().is_none() {
+        return Err(Fault::At(ManifestPath::Manifest));
+    }
+    match tree.get(ManifestPath::DeclarativeNetRequest.name()) {
+        None => Ok(Vec::new(alloc)),
+        Some(requests) => requests_in(alloc, requests),
+    }
+}
+
+// Those of `declarative_net_request`.
+fn requests_in(alloc: Global, requests: &Value) -> Result<Vec<Resource>, Fault>
+    ensures read { IfOk result (λ resources. spec.requests_given (Some (view requests.now)) ≡ Ok resources.items) }
+    ensures refused { IfErr result (IsFaultOf (spec.requests_given (Some (view requests.now)))) }
+{
+    if requests.as_object().is_none() {
+        return Err(Fault::At(ManifestPath::DeclarativeNetRequest));
+    }
+    match requests.get(ManifestPath::RuleResources.name()) {
+        None => Ok(Vec::new(alloc)),
+        Some(list) => list_in(alloc, list),
+    }
+}
+
+// Those of `rule_resources`, each of which is an object before the first is read.
+fn list_in(alloc: Global, list: &Value) -> Result<Vec<Resource>, Fault>
+    ensures read { IfOk result (λ resources. spec.resources_given (Some (view list.now)) ≡ Ok resources.items) }
+    ensures refused { IfErr result (IsFaultOf (spec.resources_given (Some (view list.now)))) }
+{
+    match list.as_array() {
+        Some(values) if are_objects(values) => each_resource(alloc, values),
+        _ => Err(Fault::At(ManifestPath::RuleResources)),
+    }
+}
+
+fn are_objects(values: &[Value]) -> bool
+    ensures { result ≡ spec.are_objects (items_view values.now) }
+{
+    values.iter().all(|value| is_object(value))
+}
+
+fn is_object(value: &Value) -> bool
+    ensures { result ≡ is_some (as_object (view value.now)) }
+{
+    value.as_object().is_some()
+}
+
+#[tactic(auto, using(crate::proofs::Resources::resources_begin, crate::proofs::Resources::resources_go, crate::proofs::Resources::resources_stop, crate::proofs::Resources::resources_end))]
+fn each_resource(alloc: Global, values: &[Value]) -> Result<Vec<Resource>, Fault>
+    ensures read { IfOk result (λ resources. spec.resources_in [] (items_view values.now) ≡ Ok resources.items) }
+    ensures refused { IfErr result (IsFaultOf (spec.resources_in [] (items_view values.now))) }
+{
+    let mut resources = Vec::new(alloc);
+    for value in values {
+        let resource = resource_in(alloc, &resources, value)?;
+        resources.push(resource)?;
+    }
+    Ok(resources)
+}

@@ -1,0 +1,6 @@
+use Rattle.std.proofs.Common.{◌≡◌, take}
+use Rattle.load_spec.specs.Installing.{count_patterns, enabled_sets}
+use Rattle.ruleset_store.proofs.counts.count_enabled_patterns.Given as goal
+
+abbrev pub invariant-loop-set : goal.invariant-loop-set
+invariant-loop-set l = l.count ≡ count_patterns (enabled_sets (take l.set-index l.sets))

@@ -1,0 +1,8 @@
+use crate::Extension;
+
+/// A change of what is installed.
+#[derive(Debug, Drop)]
+pub enum Update {
+    /// Adds an extension as the newest.
+    Install(Extension),
+}

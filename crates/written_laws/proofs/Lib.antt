@@ -1,0 +1,15 @@
+pub mod Objects
+pub mod Sets
+pub mod Values
+pub mod TypeSets
+pub mod Fields
+pub mod Domains
+pub mod Conditions
+pub mod Transforms
+pub mod Actions
+pub mod Frames
+pub mod Rules
+pub mod Alike
+pub mod Utf8
+pub mod TextsWritten
+pub mod Scans

@@ -1,0 +1,4 @@
+pub mod Normal
+pub mod Read
+pub mod Alike
+pub mod Texts
