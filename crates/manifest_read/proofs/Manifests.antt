@@ -1,5 +1,5 @@
 -- A manifest, from the bytes of its file.
-use Rattle.std.proofs.Common.{◌≡◌, ℕ, ◌<◌, ◌≤◌, List, length, Option, Some, None, Ok, Err, refl, sym, ap, ◌∙◌, subst, false, true, is_some}
+use Rattle.std.proofs.Common.{◌≡◌, ℕ, ◌<◌, ◌≤◌, List, length, Option, Some, None, Ok, Err, refl, sym, ap, ◌∙◌, subst}
 use Rattle.std.specs.Prelude.{IfSome, IsSomeAnd}
 use Rattle.serde_json.specs.Data.{Data}
 use Rattle.dnr_io.specs.Shelf.{Holds, HoldsMore}
@@ -7,8 +7,7 @@ use Rattle.dnr_io.specs.declared.shelf.ShelfRefusal.{ShelfRefusal}
 use Rattle.dnr_io.specs.declared.shelf.ShelfRefusal.TheVariants as shelf
 use Rattle.json_spec.specs.Json.{tree_of}
 use Rattle.json_spec.specs.RulesFile.{max_file}
-use Rattle.load_spec.specs.declared.manifest_path.ManifestPath.{ManifestPath}
-use Rattle.load_spec.specs.Files.{Files, HoldsFile, HoldsLongFile}
+use Rattle.load_spec.specs.Files.{Files, HoldsLongFile}
 use Rattle.load_spec.specs.Manifest.{Resource, ManifestFault, no_json, at, manifest_in, manifest_of, manifest_of_tree, or_fault}
 use Rattle.load_spec.specs.Extensions.{manifest_name, manifest_cause, HoldsManifest, BreaksManifest}
 use Rattle.manifest_read.specs.declared.fault.Fault.{Fault}

@@ -1,22 +1,21 @@
 -- An extension, from its manifest and its rulesets.
-use Rattle.std.proofs.Common.{◌≡◌, ℕ, List, Bool, false, Option, Some, None, refl, sym, subst, inl, inr}
+use Rattle.std.proofs.Common.{◌≡◌, ℕ, List, Option, Some, None, refl, subst, inl, inr}
 use Rattle.std.specs.Prelude.{IfSome}
 use Rattle.std.specs.List.{AllZip}
 use Rattle.rule_spec.specs.declared.rule_kind.RuleKind.TheVariants.{Static}
 use Rattle.rule_spec.specs.Rule.{Rule}
 use Rattle.rule_spec.specs.State.{RuleSet, Extension}
-use Rattle.json_spec.specs.RulesFile.{max_file, bad_json, bad_rules}
+use Rattle.json_spec.specs.RulesFile.{bad_json, bad_rules}
 use Rattle.load_spec.specs.Files.{Files, HoldsLongFile, HoldsRules}
 use Rattle.load_spec.specs.Manifest.{Resource}
-use Rattle.load_spec.specs.Extensions.{bad_rules_file, bad_manifest, extension_of, file_in, manifest_name, set_of, HoldsExtension, HoldsManifest, HoldsSet, BreaksManifest, BreaksSet, EndsAtOne, HasLongFile}
-use Rattle.rules_file.specs.Answers.{refusal_seen}
+use Rattle.load_spec.specs.Extensions.{bad_manifest, extension_of, file_in, manifest_name, set_of, HoldsExtension, HoldsManifest, HoldsSet, BreaksSet}
 use Rattle.rules_file.specs.Load as load_specs
 use Rattle.rules_file.specs.declared.FileRefusal.TheVariants as content
 use Rattle.rules_file.specs.declared.load.LoadRefusal.{LoadRefusal}
 use Rattle.rules_file.specs.declared.load.LoadRefusal.TheVariants as load
 use Rattle.manifest_read.specs.declared.refusal.ManifestRefusal.{ManifestRefusal}
 use Rattle.manifest_read.specs.declared.refusal.ManifestRefusal.TheVariants.{ReadFault, FileTooLong, BadJson, BadManifest, RuleRefused, NoMemory}
-use Rattle.manifest_read.specs.Refusals.{IsLongFile, Refuses, RefusesManifest, RefusesSet, RefusesSets, IsNoMemoryApart, set_refusal}
+use Rattle.manifest_read.specs.Refusals.{Refuses, RefusesManifest, RefusesSet, RefusesSets, IsNoMemoryApart, set_refusal}
 use Rattle.manifest_read.proofs.Sets.{ends_wider}
 
 -- ---- a ruleset

@@ -5,7 +5,7 @@ use Rattle.dnr_io.specs.declared.shelf.ShelfRefusal.TheVariants as shelf
 use Rattle.json_spec.specs.RulesFile.{bad_json, bad_rules}
 use Rattle.load_spec.specs.Files.{Files, HoldsLongFile}
 use Rattle.load_spec.specs.Manifest.{Resource}
-use Rattle.load_spec.specs.Extensions.{RefusedFile, bad_rules_file, bad_manifest, file_in, manifest_name, HoldsSet, BreaksManifest, BreaksSet, EndsAtOne, EndsInSets, RefusesExtension, HasLongFile}
+use Rattle.load_spec.specs.Extensions.{bad_rules_file, bad_manifest, file_in, manifest_name, HoldsSet, BreaksManifest, BreaksSet, EndsAtOne, EndsInSets, RefusesExtension, HasLongFile}
 use Rattle.rules_file.specs.declared.FileRefusal.TheVariants as content
 use Rattle.rules_file.specs.declared.load.LoadRefusal.{LoadRefusal}
 use Rattle.rules_file.specs.declared.load.LoadRefusal.TheVariants as load

@@ -163,7 +163,13 @@ fn set_of(alloc: Global, resource: &Resource, rules: Vec<Rule>) -> Result<RuleSe
     ensures { IfOk result (λ set. set ≡ set_of resource.now rules.items) }
 {
     let id = resource.id().copy(alloc)?;
-    Ok(RuleSet::build(id, resource.is_enabled(), rules, Vec::new(alloc), Vec::new(alloc)))
+    Ok(RuleSet::build(
+        id,
+        resource.is_enabled(),
+        rules,
+        Vec::new(alloc),
+        Vec::new(alloc),
+    ))
 }
 
 fn set_refusal(file: Text, refusal: LoadRefusal) -> ManifestRefusal

@@ -105,7 +105,10 @@ fn enabled_in(tree: &Value) -> Result<bool, Fault>
     ensures read { IfOk result (λ enabled. spec.enabled_in (view tree.now) ≡ Ok enabled) }
     ensures refused { IfErr result (IsFaultOf (spec.enabled_in (view tree.now))) }
 {
-    match tree.get(ManifestPath::Enabled.name()).and_then(Value::as_bool) {
+    match tree
+        .get(ManifestPath::Enabled.name())
+        .and_then(Value::as_bool)
+    {
         Some(enabled) => Ok(enabled),
         None => Err(Fault::At(ManifestPath::Enabled)),
     }

@@ -9,8 +9,7 @@ use std::test::Fail;
 
 const GOOD: &str = r#"[{"id":7,"condition":{},"action":{"type":"block"}}]"#;
 
-const BAD: &str =
-    r#"[{"id":1,"condition":{},"action":{"type":"block"}},{"id":2,"priority":0}]"#;
+const BAD: &str = r#"[{"id":1,"condition":{},"action":{"type":"block"}},{"id":2,"priority":0}]"#;
 
 fn add_file(
     files: &mut Vec<MemoryFile>,
@@ -83,7 +82,8 @@ bad priority at 1 | a/sub/bad.json | {"declarative_net_request":{"rule_resources
 
 #[test]
 fn rulesets_stand_in_the_order_of_the_manifest(rt: HostRuntime) -> Result<(), Fail> {
-    let manifest = r#"{"declarative_net_request":{"rule_resources":[{"id":"z","enabled":true,"path":"good.json"},{"id":"b","enabled":false,"path":"good.json"}]}}"#;
+    let manifest =
+        r#"{"declarative_net_request":{"rule_resources":[{"id":"z","enabled":true,"path":"good.json"},{"id":"b","enabled":false,"path":"good.json"}]}}"#;
     let read = extension(rt.alloc(), manifest, 0)?.ok().ok_or("refused")?;
     assert_eq!(rt; read.name(), "a");
     assert_eq!(rt; read.sets().len(), 2);
@@ -96,7 +96,8 @@ fn rulesets_stand_in_the_order_of_the_manifest(rt: HostRuntime) -> Result<(), Fa
 
 #[test]
 fn a_path_that_leaves_the_folder_opens_no_file(rt: HostRuntime) -> Result<(), Fail> {
-    let manifest = r#"{"declarative_net_request":{"rule_resources":[{"id":"a","enabled":true,"path":"good.json"},{"id":"b","enabled":true,"path":"../good.json"}]}}"#;
+    let manifest =
+        r#"{"declarative_net_request":{"rule_resources":[{"id":"a","enabled":true,"path":"good.json"},{"id":"b","enabled":true,"path":"../good.json"}]}}"#;
     // The second call would be a fault.
     match extension(rt.alloc(), manifest, 2)? {
         Err(ManifestRefusal::BadManifest(field)) => assert_eq!(rt; field.name(), "path"),

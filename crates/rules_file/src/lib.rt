@@ -18,7 +18,6 @@ ghost use Rattle.json_spec.specs.RulesFile.{rules_of};
 ghost use Rattle.rules_file.specs.Answers.{MayRefuse};
 
 pub use load::{LoadRefusal, MAX_FILE, load_rules};
-
 use regex_host::RegexHost;
 use rule_read::{PlacedRefusal, Rule, RuleKind, RuleRefusal};
 use std::alloc::Global;
