@@ -87,8 +87,8 @@ reads_list (Some files) name file l extension held same = record {
   bytes = held.bytes;
   rules = held.compiled.all;
   held = record { file = held.file; few = held.compiled.few; same = held.compiled.same };
-  same = same ∙ ap (λ rules. with_list name rules l.report.origins.items) held.compiled.rules
-      ∙ ap (λ origins. with_list name (rules_in held.compiled.all) origins) held.compiled.origins;
+  same = same ∙ ap (λ rules. with_list name rules l.report.origins.items) held.compiled.are_rules
+      ∙ ap (λ origins. with_list name (rules_in held.compiled.all) origins) held.compiled.are_origins;
 }
 
 -- ---- extensions of folders

@@ -13,14 +13,14 @@ use Rattle.session_spec.specs.Refusals.{refused_file_line}
 
 -- what stops a command where the folder of this name is refused so
 abbrev pub StopsFor : List ℕ → ManifestRefusal → Stop → Type 0
-StopsFor name ReadFault stop = stop ≡ stop.ReadFault
-StopsFor name (FileTooLong file) stop = stop ≡ stop.FileTooLong
-StopsFor name (BadJson file) stop = Prints (refused_file_line (record { file = file; cause = bad_rules_file bad_json })) stop
-StopsFor name (BadManifest field) stop =
-    Prints (refused_file_line (record { file = manifest_name name; cause = bad_manifest field })) stop
-StopsFor name (RuleRefused file refusal) stop =
-    Prints (refused_file_line (record { file = file; cause = bad_rules_file (bad_rules refusal) })) stop
-StopsFor name NoMemory stop = stop ≡ stop.NoMemory
+StopsFor name ReadFault s = s ≡ stop.ReadFault
+StopsFor name (FileTooLong file) s = s ≡ stop.FileTooLong
+StopsFor name (BadJson file) s = Prints (refused_file_line (record { file = file; cause = bad_rules_file bad_json })) s
+StopsFor name (BadManifest field) s =
+    Prints (refused_file_line (record { file = manifest_name name; cause = bad_manifest field })) s
+StopsFor name (RuleRefused file refusal) s =
+    Prints (refused_file_line (record { file = file; cause = bad_rules_file (bad_rules refusal) })) s
+StopsFor name NoMemory s = s ≡ stop.NoMemory
 
 -- the extension of this name whose one ruleset is the list
 abbrev pub extension_in : List ℕ → CompiledList → Extension

@@ -41,9 +41,9 @@ pub record IsCompiledFrom (bytes : List ℕ) (rules : List Rule) (origins : List
   pub all : List CompiledRule
   pub few : length all ≤ max_compiled
   pub same : all ≡ compiled (lines_of bytes)
-  pub rules : rules ≡ rules_in all
-  pub origins : origins ≡ origins_in all
-  pub reported : reported ≡ report (lines_of bytes)
+  pub are_rules : rules ≡ rules_in all
+  pub are_origins : origins ≡ origins_in all
+  pub is_report : reported ≡ report (lines_of bytes)
 
 -- the bytes are a list that is refused, and this line says so
 pub record PrintsBadList (rose : Type 0) (name bytes line : List ℕ) : Type 0 where

@@ -24,8 +24,8 @@ pub(crate) fn load_suffixes<F: Shelf>(
     name: Option<&str>,
     shelf: &mut F,
 ) -> Result<SuffixList, Stop>
-    ensures suffixes { IfOk result (λ list. IfSome (F.Source.files shelf.old) (λ files. ReadsSuffixes files (option_copied name) list)) }
-    ensures stops { IfErr result (StopsInSuffixes (F.Source.files shelf.old) (option_copied name)) }
+    ensures suffixes { IfOk result (λ list. IfSome (F.Source.files shelf.old) (λ files. ReadsSuffixes files (option_copied name.entry) list)) }
+    ensures stops { IfErr result (StopsInSuffixes (F.Source.files shelf.old) (option_copied name.entry)) }
     ensures files { F.Source.files shelf.new ≡ F.Source.files shelf.old }
     ensures cause { HasCauseOf Stop.ReadFault (F.Source.faults shelf.old) (F.Source.faults shelf.new) result }
 {
