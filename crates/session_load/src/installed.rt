@@ -14,6 +14,7 @@ ghost use Rattle.session_spec.specs.Words.{folder, list};
 
 use crate::Stop;
 use crate::lists::{CompiledList, load_list};
+use abp_compile::Report;
 use dnr_base::{NoMemory, Text};
 use dnr_io::Shelf;
 use dnr_words::Installed;
@@ -142,7 +143,9 @@ fn extension_of(alloc: Global, name: &str, list: CompiledList) -> Result<Extensi
     ensures { IfOk result (λ extension. extension ≡ extension_in name.now list) }
 {
     let id = Text::build(String::from_str(alloc, "list")?);
-    let set = RuleSet::build(id, true, list.rules, list.report.origins, Vec::new(alloc));
+    let CompiledList { rules, report } = list;
+    let Report { origins, .. } = report;
+    let set = RuleSet::build(id, true, rules, origins, Vec::new(alloc));
     let mut sets = Vec::new(alloc);
     sets.push(set)?;
     let name = Text::build(String::from_str(alloc, name)?);
