@@ -75,7 +75,7 @@ fn take_lines<H: RegexHost>(
     let mut work = Work::new(alloc);
     let mut rest = lines;
     let mut number = 1;
-    loop {
+    'lines: loop {
         let (line, later) = cut_line(rest);
         take_line(alloc, number, line, &mut work, host)?;
         match later {
