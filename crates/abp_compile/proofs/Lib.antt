@@ -1,5 +1,5 @@
 pub mod Drafts
-pub mod Lines
+pub mod Walk
 pub mod Named
 pub mod Once
 pub mod Parts
