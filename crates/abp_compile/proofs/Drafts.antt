@@ -1,11 +1,13 @@
 -- Rules that come behind others.
 use Rattle.std.proofs.Common.{◌≡◌, ℕ, ◌+◌, ◌<◌, ◌≤◌, List, [], ◌∷◌, ◌++◌, length, map, get_or, refl, sym, ap, ◌∙◌, subst, arith, take, length-append, length-take-le, append_assoc}
 use Rattle.std.proofs.lemmas.List.{map-append, length-map, append-nil, take_more}
+use Rattle.std.specs.Prelude.{Result, Ok, Err, OnOk}
+use Rattle.std.specs.List.{flat_map}
 use Rattle.rule_spec.specs.IsRule.{IsRule}
 use Rattle.list_spec.specs.LineKind.{FilterLine}
-use Rattle.compile_spec.specs.Initiators.{Initiators, single}
+use Rattle.compile_spec.specs.Initiators.{Initiators, single, initiators_of}
 use Rattle.rule_spec.specs.Rule.{Rule}
-use Rattle.compile_spec.specs.Compiled.{Effect, blocks, allows, exempts, Draft, CompiledRule, rule_of, max_compiled, with_ids, rules_in, origins_in}
+use Rattle.compile_spec.specs.Compiled.{Effect, blocks, allows, exempts, effects_of, drafts_with, drafts_of, Draft, CompiledRule, rule_of, max_compiled, with_ids, rules_in, origins_in}
 use Rattle.abp_compile.specs.declared.work.Work.{Work}
 use Rattle.abp_compile.specs.Work.{draft, drafts, IsGiven, GiveRules, HasDrafts, Gains, Keeps}
 
@@ -151,3 +153,14 @@ pub gains_effect : (line : ℕ) (f : FilterLine) (effect : Effect) (list : List 
     → (now.count ≤ max_compiled → Keeps (before.count + 1) (drafts line f effect list) before now) → Gains (drafts line f effect list) before now
 gains_effect line f effect list before now count kept =
     gains_kept (drafts line f effect list) before now (count ∙ ap (λ n. before.count + n) (sym (length-map list (draft line f effect)))) kept
+
+pub both_drafts : (line : ℕ) (f : FilterLine) (first second : Effect) (list : List Initiators) → first ∷ second ∷ [] ≡ effects_of f → list ≡ initiators_of f.domains
+    → drafts line f first list ++ drafts line f second list ≡ drafts_of (line ∷ []) f
+both_drafts line f first second list effects is =
+    (λ i. drafts line f first (is i) ++ drafts line f second (is i))
+    ∙ ap (λ more. drafts line f first (initiators_of f.domains) ++ more) (sym (append-nil (drafts line f second (initiators_of f.domains))))
+    ∙ ap (flat_map (drafts_with (line ∷ []) f)) effects
+
+pub on_ok : {T E : Type 0} {P Q : Type 0} (r : Result T E) → (P → Q) → OnOk r P → OnOk r Q
+on_ok (Ok x) f h = f h
+on_ok (Err e) f h = tt

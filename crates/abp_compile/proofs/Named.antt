@@ -6,12 +6,15 @@ use Rattle.std.proofs.lemmas.Bool.Decides.{nat_tests}
 use Rattle.std.proofs.lemmas.List.{length-map, get_or_append_left, get_or-append-add}
 use Rattle.dnr_spec.specs.Domains.{is_domain, lower_case, domains_of, unless_bad}
 use Rattle.domain_set.proofs.Lowered.{domains_of-lower}
-use Rattle.rule_spec.specs.IsRule.{AreDomains, is_number}
-use Rattle.list_spec.specs.LineKind.{FilterLine}
-use Rattle.compile_spec.specs.Initiators.{Initiators, list_if_any, single}
-use Rattle.compile_spec.specs.Compiled.{Effect}
+use Rattle.rule_spec.specs.IsRule.{AreDomains, IsRule, is_number}
+use Rattle.compile_laws.specs.Laws.{FiltersGiveRules}
+use Rattle.list_spec.specs.LineKind.{FilterLine, filter_line, line_of}
+use Rattle.list_spec.specs.Says.{filter_in, is_usable}
+use Rattle.compile_spec.specs.Initiators.{Initiators, list_if_any, single, initiators_of}
+use Rattle.compile_spec.specs.Compiled.{Effect, Draft, rule_of}
 use Rattle.abp_compile.specs.Parted.{in_common, CanBeNamed}
-use Rattle.abp_compile.specs.Work.{IsGiven, GiveRules}
+use Rattle.abp_compile.specs.Asked.{CanBeRead}
+use Rattle.abp_compile.specs.Work.{draft, IsGiven, GiveRules}
 
 again : (list domains : List (List ℕ)) (bad : Option ℕ) → position (λ entry. not (is_domain entry)) list ≡ bad → unless_bad list bad ≡ Ok domains → domains_of domains ≡ Ok domains
 again list domains None e h =
@@ -83,3 +86,9 @@ pub single_given : (id : ℕ) (filter : FilterLine) (effect : Effect) (excluded 
 single_given id filter effect excluded nested i domain give less is some few =
     subst (λ (d : List ℕ). IsGiven id filter effect (single excluded d)) (sym is)
     (all_unmapped (IsGiven id filter effect) (single excluded) nested (give id (number id some few)) i domain less)
+
+-- the rules of a filter that some text is read as
+pub gives_all : FiltersGiveRules → (f : FilterLine) → CanBeRead (filter_line f) → is_usable f.pattern ≡ true → (effect : Effect) → GiveRules f effect (initiators_of f.domains)
+gives_all law f read usable effect id numbered =
+    let is : filter_in (line_of read.0) ≡ Some f = ap filter_in read.1 ∙ ap (λ b. cond b (Some f) None) usable in
+    all_unmapped (λ (one : Draft). IsRule (rule_of id one)) (draft 0 f effect) (initiators_of f.domains) (law read.0 f is (0 ∷ []) effect id numbered)

@@ -1,10 +1,12 @@
 -- The lines of a list, one after another.
-use Rattle.std.proofs.Common.{◌≡◌, ℕ, zero, suc, ◌+◌, List, [], ◌∷◌, ◌++◌, drop, refl, sym, ap, ◌∙◌, subst, arith, append_assoc, Some, None}
+use Rattle.std.proofs.Common.{◌≡◌, ℕ, zero, suc, ◌+◌, List, [], ◌∷◌, ◌++◌, drop, refl, sym, ap, ◌∙◌, subst, arith, append_assoc, cond, true, false, Option, Some, None}
 use Rattle.std.specs.Prelude.{slice_get}
 use Rattle.std.proofs.lemmas.List.{append-nil}
-use Rattle.list_spec.specs.LineKind.{lines_of, line_of}
-use Rattle.list_spec.specs.Says.{filter_in, reason_of}
-use Rattle.compile_spec.specs.Compiled.{Draft, drafts_in, drafts_from}
+use Rattle.list_spec.specs.LineKind.{FilterLine, filter_line, lines_of, line_of}
+use Rattle.list_spec.specs.Says.{is_usable, filter_in, reason_of}
+use Rattle.compile_spec.specs.Compiled.{Draft, drafts_of, drafts_in, drafts_from}
+use Rattle.list_spec.specs.declared.reason.Reason.TheVariants.{BadRegex}
+use Rattle.compile_spec.specs.declared.reported.Reported.{Reported}
 use Rattle.compile_spec.specs.Report.{report_of, report_from, line_at, StopsAtLine}
 use Rattle.abp_compile.specs.declared.report.CompileRefusal.{CompileRefusal}
 use Rattle.abp_compile.specs.declared.report.CompileRefusal.TheVariants.{TooManyRules, HostFault, NoMemory}
@@ -90,3 +92,18 @@ module _ (lines rest line : List ℕ) (more : List (List ℕ)) (number : ℕ) (o
   stops_there at cut (HostFault place) stops =
       let there : line_at (lines_of lines) place ≡ Some line = ap (line_at (lines_of lines)) (stops.0 ∙ at.number) ∙ get_here at.before (lines_of lines) line more (at.place ∙ cut) in
       record { line = line; filter = stops.1; pattern = stops.3.0; there = there; reads = stops.2; regex = stops.3.1; short = stops.3.2 }
+
+-- ---- a filter
+
+pub usable_drafts : (n : ℕ) (f : FilterLine) (old new : Work) → is_usable f.pattern ≡ true → Gains (drafts_of (n ∷ []) f) old new → Gains (drafts_in n (filter_in (filter_line f))) old new
+usable_drafts n f old new e gains = subst (λ (o : Option FilterLine). Gains (drafts_in n o) old new) (sym (ap (λ b. cond b (Some f) None) e)) gains
+
+pub bad_drafts : (n : ℕ) (f : FilterLine) (old new : Work) → is_usable f.pattern ≡ false → Gains [] old new → Gains (drafts_in n (filter_in (filter_line f))) old new
+bad_drafts n f old new e gains = subst (λ (o : Option FilterLine). Gains (drafts_in n o) old new) (sym (ap (λ b. cond b (Some f) None) e)) gains
+
+pub usable_reported : (n : ℕ) (f : FilterLine) (old new : List Reported) → is_usable f.pattern ≡ true → new ≡ old → new ≡ old ++ report_of n (reason_of (filter_line f))
+usable_reported n f old new e same = same ∙ sym (append-nil old) ∙ ap (λ b. old ++ report_of n (cond b None (Some BadRegex))) (sym e)
+
+pub bad_reported : (n : ℕ) (f : FilterLine) (old new : List Reported) → is_usable f.pattern ≡ false → new ≡ old ++ record { line = n; reason = BadRegex } ∷ []
+    → new ≡ old ++ report_of n (reason_of (filter_line f))
+bad_reported n f old new e more = more ∙ ap (λ b. old ++ report_of n (cond b None (Some BadRegex))) (sym e)
