@@ -1,13 +1,14 @@
 -- The lines of a list, one after another.
-use Rattle.std.proofs.Common.{◌≡◌, ℕ, zero, suc, ◌+◌, List, [], ◌∷◌, ◌++◌, drop, refl, sym, ap, ◌∙◌, subst, arith, append_assoc, cond, true, false, Option, Some, None}
-use Rattle.std.specs.Prelude.{slice_get}
+use Rattle.std.proofs.Common.{◌≡◌, ℕ, zero, suc, ◌+◌, ◌≤◌, List, length, [], ◌∷◌, ◌++◌, drop, refl, sym, ap, ◌∙◌, subst, arith, append_assoc, cond, true, false, Option, Some, None}
+use Rattle.std.specs.Prelude.{slice_get, Result, Ok, Err}
+use Rattle.dnr_base.specs.Faults.{HasCauseOf}
 use Rattle.std.proofs.lemmas.List.{append-nil}
 use Rattle.list_spec.specs.LineKind.{FilterLine, filter_line, lines_of, line_of}
 use Rattle.list_spec.specs.Says.{is_usable, filter_in, reason_of}
-use Rattle.compile_spec.specs.Compiled.{Draft, drafts_of, drafts_in, drafts_from}
+use Rattle.compile_spec.specs.Compiled.{compiled, max_compiled, with_ids, rules_in, origins_in, Draft, drafts_of, drafts_in, drafts_from}
 use Rattle.list_spec.specs.declared.reason.Reason.TheVariants.{BadRegex}
 use Rattle.compile_spec.specs.declared.reported.Reported.{Reported}
-use Rattle.compile_spec.specs.Report.{report_of, report_from, line_at, StopsAtLine}
+use Rattle.compile_spec.specs.Report.{report, report_of, report_from, line_at, StopsAtLine}
 use Rattle.abp_compile.specs.declared.report.CompileRefusal.{CompileRefusal}
 use Rattle.abp_compile.specs.declared.report.CompileRefusal.TheVariants.{TooManyRules, HostFault, NoMemory}
 use Rattle.abp_compile.specs.declared.work.Work.{Work}
@@ -22,7 +23,7 @@ pub record IsAt (lines rest : List ℕ) (number : ℕ) (work : Work) : Type 0 wh
   pub left : drafts_from 1 (lines_of lines) ≡ held ++ drafts_from number (lines_of rest)
   pub reported : report_from 1 (lines_of lines) ≡ work.reported.items ++ report_from number (lines_of rest)
   pub before : ℕ
-  pub number : number ≡ suc before
+  pub follows : number ≡ suc before
   pub place : drop before (lines_of lines) ≡ lines_of rest
 
 pub begins : (lines : List ℕ) (work : Work) → HasDrafts work [] → work.reported.items ≡ [] → IsAt lines lines 1 work
@@ -32,7 +33,7 @@ begins lines work has none = record {
   left = refl;
   reported = ap (λ r. r ++ report_from 1 (lines_of lines)) (sym none);
   before = 0;
-  number = refl;
+  follows = refl;
   place = refl;
 }
 
@@ -73,7 +74,7 @@ module _ (lines rest line : List ℕ) (more : List (List ℕ)) (number : ℕ) (o
     left = left at cut ∙ ap (λ l. (at.held ++ drafts_in number (filter_in (line_of line))) ++ drafts_from (number + 1) l) behind;
     reported = told at cut reports ∙ ap (λ l. new.reported.items ++ report_from (number + 1) l) behind;
     before = suc at.before;
-    number = omega (arith, at.number);
+    follows = omega (arith, at.follows);
     place = drop_next at.before (lines_of lines) line more (at.place ∙ cut) ∙ behind;
   }
 
@@ -90,7 +91,7 @@ module _ (lines rest line : List ℕ) (more : List (List ℕ)) (number : ℕ) (o
   stops_there at cut (TooManyRules count) stops = tt
   stops_there at cut NoMemory stops = tt
   stops_there at cut (HostFault place) stops =
-      let there : line_at (lines_of lines) place ≡ Some line = ap (line_at (lines_of lines)) (stops.0 ∙ at.number) ∙ get_here at.before (lines_of lines) line more (at.place ∙ cut) in
+      let there : line_at (lines_of lines) place ≡ Some line = ap (line_at (lines_of lines)) (stops.0 ∙ at.follows) ∙ get_here at.before (lines_of lines) line more (at.place ∙ cut) in
       record { line = line; filter = stops.1; pattern = stops.3.0; there = there; reads = stops.2; regex = stops.3.1; short = stops.3.2 }
 
 -- ---- a filter
@@ -107,3 +108,33 @@ usable_reported n f old new e same = same ∙ sym (append-nil old) ∙ ap (λ b.
 pub bad_reported : (n : ℕ) (f : FilterLine) (old new : List Reported) → is_usable f.pattern ≡ false → new ≡ old ++ record { line = n; reason = BadRegex } ∷ []
     → new ≡ old ++ report_of n (reason_of (filter_line f))
 bad_reported n f old new e more = more ∙ ap (λ b. old ++ report_of n (cond b None (Some BadRegex))) (sym e)
+
+-- ---- the list
+
+length-with_ids : (id : ℕ) (xs : List Draft) → length (with_ids id xs) ≡ length xs
+length-with_ids id [] = refl
+length-with_ids id (x ∷ xs) = ap suc (length-with_ids (id + 1) xs)
+
+pub length-compiled : (lines : List (List ℕ)) → length (compiled lines) ≡ length (drafts_from 1 lines)
+unfolding compiled
+length-compiled lines = length-with_ids 1 (drafts_from 1 lines)
+
+pub rules_compiled : (lines : List (List ℕ)) (work : Work) → HasDrafts work (drafts_from 1 lines) → work.count ≤ max_compiled → work.rules.items ≡ rules_in (compiled lines)
+unfolding compiled
+rules_compiled lines work has few = has.rules few
+
+pub origins_compiled : (lines : List (List ℕ)) (work : Work) → HasDrafts work (drafts_from 1 lines) → work.count ≤ max_compiled → work.origins.items ≡ origins_in (compiled lines)
+unfolding compiled
+origins_compiled lines work has few = has.origins few
+
+pub reported_whole : (lines : List (List ℕ)) → report_from 1 lines ≡ report lines
+unfolding report
+reported_whole lines = refl
+
+-- ---- a refusal that is handed on
+
+pub same_cause : {T U E : Type 0} (fault : E) (before now : ℕ) (refusal : E) → HasCauseOf {T = T} fault before now (Err refusal) → HasCauseOf {T = U} fault before now (Err refusal)
+same_cause fault before now refusal cause = record {
+  later = cause.later;
+  failed = λ is. let one : refusal ≡ fault = cc in cause.failed (ap Err one);
+}

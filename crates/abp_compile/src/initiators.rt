@@ -56,6 +56,13 @@ impl Parted {
         self.nested.is_empty() || !self.others.is_empty()
     }
 
+    // How many rules there are besides those of single domains.
+    pub(crate) fn common_count(&self) -> u32
+        ensures { result ≡ length (in_common_of self.now) }
+    {
+        u32::from(self.has_common())
+    }
+
     // Whether there are rules of single domains.
     pub(crate) fn has_singles(&self) -> bool
         ensures { result ≡ false → singles_of self.now ≡ [] }

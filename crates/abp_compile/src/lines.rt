@@ -48,7 +48,10 @@ pub fn compile<H: RegexHost>(
     ensures cause { (line : ℕ) → HasCauseOf (CompileRefusal.HostFault line) (H.faults host.old) (H.faults host.new) result }
     ensures calm { IsCalm (H.faults host.old) (H.faults host.new) result }
 {
-    let work = take_lines(alloc, lines, host)?;
+    let work = match take_lines(alloc, lines, host) {
+        Ok(work) => work,
+        Err(refusal) => return Err(refusal),
+    };
     if work.count > MAX_RULES {
         return Err(CompileRefusal::TooManyRules(work.count));
     }
@@ -77,7 +80,10 @@ fn take_lines<H: RegexHost>(
     let mut number = 1;
     'lines: loop {
         let (line, later) = cut_line(rest);
-        take_line(alloc, number, line, &mut work, host)?;
+        match take_line(alloc, number, line, &mut work, host) {
+            Ok(()) => {}
+            Err(refusal) => return Err(refusal),
+        }
         match later {
             Some(later) => rest = later,
             None => return Ok(work),

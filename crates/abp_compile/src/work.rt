@@ -120,7 +120,7 @@ impl Work {
         if domains.has_singles() {
             let copy = copy_filter(alloc, &filter)?;
             self.keep_common(alloc, id, line, copy, effect, domains)?;
-            let next = id + u32::from(domains.has_common());
+            let next = id + domains.common_count();
             self.keep_singles(alloc, next, line, &filter, effect, domains)?;
         } else {
             self.keep_common(alloc, id, line, filter, effect, domains)?;

@@ -1,4 +1,4 @@
-use Rattle.std.proofs.Common.{◌≡◌, ◌+◌, ◌∙◌, ap, length}
+use Rattle.std.proofs.Common.{◌+◌, ap}
 use Rattle.abp_parse.specs.Seen.{filter_seen}
 use Rattle.abp_compile.specs.Seen.{effect_seen, in_common_of, singles_of}
 use Rattle.abp_compile.proofs.Named.{give_left, give_right}
@@ -27,8 +27,7 @@ returns-in_ok-keep_singles-clause-kept c =
     let d = c.args.domains.now in
     let f = filter_seen c.args.filter in
     let effect = effect_seen c.args.effect in
-    let one : c.from.result ≡ length (in_common_of d) = cc (c.from.ensures, c.has_common.ensures) in
-    keeps_both c.args.id (c.args.id + c.from.result) c.args.line f effect (in_common_of d) (singles_of d) c.args.self.now c.keep_common.new.self c.keep_singles.new.self
-    (ap (λ n. c.args.id + n) one)
+    keeps_both c.args.id (c.args.id + c.common_count.result) c.args.line f effect (in_common_of d) (singles_of d) c.args.self.now c.keep_common.new.self c.keep_singles.new.self
+    (ap (λ n. c.args.id + n) c.common_count.ensures)
     (keeps_like c.args.id c.args.line (filter_seen c.in_ok-copy.copy) f effect (in_common_of d) c.args.self.now c.keep_common.new.self c.in_ok-copy.ensures c.in_ok-keep_common.ensures.kept)
     c.in_ok-keep_singles.ensures.kept
