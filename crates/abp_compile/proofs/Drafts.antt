@@ -1,17 +1,15 @@
 -- Rules that come behind others.
-use Rattle.std.proofs.Common.{◌≡◌, ℕ, ◌+◌, ◌<◌, ◌≤◌, List, [], ◌∷◌, ◌++◌, length, map, get_or, refl, sym, ap, ◌∙◌, subst, arith, length-append, length-map, append_assoc}
-use Rattle.std.specs.Prelude.{IsTrue}
-use Rattle.std.proofs.lemmas.Bool.Decides.{nat_tests}
-use Rattle.std.proofs.lemmas.List.{map-append, append-nil, get_or_at}
-use Rattle.rule_spec.specs.IsRule.{IsRule, is_number}
+use Rattle.std.proofs.Common.{◌≡◌, ℕ, ◌+◌, ◌<◌, ◌≤◌, List, [], ◌∷◌, ◌++◌, length, map, get_or, refl, sym, ap, ◌∙◌, subst, arith, take, length-append, length-take-le, append_assoc}
+use Rattle.std.proofs.lemmas.List.{map-append, length-map, append-nil, take_more}
+use Rattle.std.specs.Prelude.{Result, Ok, Err, OnOk}
+use Rattle.std.specs.List.{flat_map}
+use Rattle.rule_spec.specs.IsRule.{IsRule}
 use Rattle.list_spec.specs.LineKind.{FilterLine}
-use Rattle.compile_spec.specs.Initiators.{Initiators}
+use Rattle.compile_spec.specs.Initiators.{Initiators, single, initiators_of}
 use Rattle.rule_spec.specs.Rule.{Rule}
-use Rattle.compile_spec.specs.Compiled.{Effect, blocks, allows, exempts, Draft, CompiledRule, rule_of, max_compiled, with_ids, rules_in, origins_in}
+use Rattle.compile_spec.specs.Compiled.{Effect, blocks, allows, exempts, effects_of, drafts_with, drafts_of, Draft, CompiledRule, rule_of, max_compiled, with_ids, rules_in, origins_in}
 use Rattle.abp_compile.specs.declared.work.Work.{Work}
-use Rattle.abp_compile.specs.declared.initiators.Initiators as seen
-use Rattle.abp_compile.specs.Seen.{initiators_seen}
-use Rattle.abp_compile.specs.Work.{draft, drafts, GiveRules, HasDrafts, Gains, Keeps}
+use Rattle.abp_compile.specs.Work.{draft, drafts, IsGiven, GiveRules, HasDrafts, Gains, Keeps}
 
 pub with_ids-append : (id : ℕ) (xs ys : List Draft) → with_ids id (xs ++ ys) ≡ with_ids id xs ++ with_ids (id + length xs) ys
 with_ids-append id [] ys = ap (λ n. with_ids n ys) (omega arith)
@@ -65,7 +63,7 @@ gains_twice xs ys before mid now first second held has = rw (← append_assoc he
 
 -- ---- filters that differ in their domains alone
 
-like_rule : (id line : ℕ) (f g : FilterLine) (effect : Effect) (initiators : Initiators) → f ≡ record g { domains = [] }
+pub like_rule : (id line : ℕ) (f g : FilterLine) (effect : Effect) (initiators : Initiators) → f ≡ record g { domains = [] }
     → rule_of id (draft line f effect initiators) ≡ rule_of id (draft line g effect initiators)
 like_rule id line f g blocks initiators e = ap (λ (h : FilterLine). rule_of id (draft line h blocks initiators)) e
 like_rule id line f g allows initiators e = ap (λ (h : FilterLine). rule_of id (draft line h allows initiators)) e
@@ -97,17 +95,72 @@ gains_like line f g effect list before now e gains held has =
 pub give_like : (f g : FilterLine) (effect : Effect) (list : List Initiators) → f ≡ record g { domains = [] } → GiveRules g effect list → GiveRules f effect list
 give_like f g effect list e give id number k d less = subst IsRule (sym (like_rule id 0 f g effect (get_or list k d) e)) (give id number k d less)
 
--- ---- the rule for one of several initiators
+-- ---- the rules of an effect
 
-number : (id : ℕ) → 0 < id → id ≤ 300000 → IsTrue (is_number id)
-number id some few = grind (arith, nat_tests)
+pub like_given : (id : ℕ) (f g : FilterLine) (effect : Effect) (initiators : Initiators) → f ≡ record g { domains = [] } → IsGiven id g effect initiators → IsGiven id f effect initiators
+like_given id f g effect initiators e given = subst IsRule (sym (like_rule id 0 f g effect initiators e)) given
 
-pub give_at : (f : FilterLine) (effect : Effect) (list front back : List seen.Initiators) (x : seen.Initiators) (id : ℕ) → GiveRules f effect (map initiators_seen list)
-    → list ≡ front ++ x ∷ back → 0 < id → id ≤ 300000 → IsRule (rule_of id (draft 0 f effect (initiators_seen x)))
-give_at f effect list front back x id give is some few =
-    let there : map initiators_seen list ≡ map initiators_seen front ++ initiators_seen x ∷ map initiators_seen back = ap (map initiators_seen) is ∙ map-append initiators_seen front (x ∷ back) in
-    let place = length (map initiators_seen front) in
-    let at : get_or (map initiators_seen list) place (initiators_seen x) ≡ initiators_seen x =
-    ap (λ xs. get_or xs place (initiators_seen x)) there ∙ get_or_at (map initiators_seen front) (initiators_seen x) (map initiators_seen back) (initiators_seen x) place refl in
-    let less : place < length (map initiators_seen list) = omega (arith, ap length there, length-append (map initiators_seen front) (initiators_seen x ∷ map initiators_seen back)) in
-    subst (λ (i : Initiators). IsRule (rule_of id (draft 0 f effect i))) at (give id (number id some few) place (initiators_seen x) less)
+pub keeps_like : (id line : ℕ) (f g : FilterLine) (effect : Effect) (list : List Initiators) (before now : Work) → f ≡ record g { domains = [] }
+    → Keeps id (drafts line f effect list) before now → Keeps id (drafts line g effect list) before now
+keeps_like id line f g effect list before now e kept = record {
+  rules = kept.rules ∙ ap (λ rules. before.rules.items ++ rules) (like_rules id line f g effect list e);
+  origins = kept.origins ∙ ap (λ origins. before.origins.items ++ origins) (like_origins id line f g effect list);
+}
+
+pub keeps_one : (id line : ℕ) (f : FilterLine) (effect : Effect) (initiators : Initiators) (rule : Rule) (before now : Work)
+    → rule ≡ rule_of id (draft line f effect initiators) → now.rules.items ≡ before.rules.items ++ rule ∷ [] → now.origins.items ≡ before.origins.items ++ (line ∷ []) ∷ []
+    → Keeps id (drafts line f effect (initiators ∷ [])) before now
+keeps_one id line f effect initiators rule before now is r o = record { rules = r ∙ ap (λ one. before.rules.items ++ one ∷ []) is; origins = o }
+
+pub keeps_twice : (id next : ℕ) (xs ys : List Draft) (before mid now : Work) → next ≡ id + length xs → Keeps id xs before mid → Keeps next ys mid now → Keeps id (xs ++ ys) before now
+keeps_twice id next xs ys before mid now n one two =
+    record {
+      rules = two.rules ∙ (λ i. one.rules i ++ rules_in (with_ids (n i) ys)) ∙ append_assoc before.rules.items (rules_in (with_ids id xs)) (rules_in (with_ids (id + length xs) ys))
+      ∙ ap (λ rules. before.rules.items ++ rules) (sym (rules_behind id xs ys));
+      origins = two.origins ∙ (λ i. one.origins i ++ origins_in (with_ids (n i) ys)) ∙ append_assoc before.origins.items (origins_in (with_ids id xs)) (origins_in (with_ids (id + length xs) ys))
+      ∙ ap (λ origins. before.origins.items ++ origins) (sym (origins_behind id xs ys));
+    }
+
+-- those of some initiators, and then of others
+pub keeps_both : (id next line : ℕ) (f : FilterLine) (effect : Effect) (xs ys : List Initiators) (before mid now : Work) → next ≡ id + length xs
+    → Keeps id (drafts line f effect xs) before mid → Keeps next (drafts line f effect ys) mid now → Keeps id (drafts line f effect (xs ++ ys)) before now
+keeps_both id next line f effect xs ys before mid now n one two =
+    let long : length (drafts line f effect xs) ≡ length xs = length-map xs (draft line f effect) in
+    subst (λ (list : List Draft). Keeps id list before now) (sym (map-append (draft line f effect) xs ys))
+    (keeps_twice id next (drafts line f effect xs) (drafts line f effect ys) before mid now (n ∙ ap (λ m. id + m) (sym long)) one two)
+
+-- those of single domains, with one more
+pub keeps_single : (first id line : ℕ) (f : FilterLine) (effect : Effect) (excluded nested : List (List ℕ)) (i : ℕ) (domain : List ℕ) (before mid now : Work)
+    → id ≡ first + i → i < length nested → domain ≡ get_or nested i domain
+    → Keeps first (drafts line f effect (map (single excluded) (take i nested))) before mid
+    → Keeps id (drafts line f effect (single excluded domain ∷ [])) mid now
+    → Keeps first (drafts line f effect (map (single excluded) (take (i + 1) nested))) before now
+keeps_single first id line f effect excluded nested i domain before mid now e less is one two =
+    let taken = map (single excluded) (take i nested) in
+    let long : length taken ≡ i = length-map (take i nested) (single excluded) ∙ length-take-le i nested (omega arith) in
+    let more : map (single excluded) (take (i + 1) nested) ≡ taken ++ single excluded domain ∷ [] =
+    ap (map (single excluded)) (take_more nested i domain less ∙ ap (λ d. take i nested ++ d ∷ []) (sym is)) ∙ map-append (single excluded) (take i nested) (domain ∷ []) in
+    subst (λ (list : List Initiators). Keeps first (drafts line f effect list) before now) (sym more)
+    (keeps_both first id line f effect taken (single excluded domain ∷ []) before mid now (e ∙ ap (λ m. first + m) (sym long)) one two)
+
+pub all_common : (id line : ℕ) (f : FilterLine) (effect : Effect) (xs ys : List Initiators) (before now : Work) → ys ≡ []
+    → Keeps id (drafts line f effect xs) before now → Keeps id (drafts line f effect (xs ++ ys)) before now
+all_common id line f effect xs ys before now none kept =
+    subst (λ (list : List Initiators). Keeps id (drafts line f effect list) before now) (sym (ap (λ l. xs ++ l) none ∙ append-nil xs)) kept
+
+-- the effects of a filter
+pub gains_effect : (line : ℕ) (f : FilterLine) (effect : Effect) (list : List Initiators) (before now : Work) → now.count ≡ before.count + length list
+    → (now.count ≤ max_compiled → Keeps (before.count + 1) (drafts line f effect list) before now) → Gains (drafts line f effect list) before now
+gains_effect line f effect list before now count kept =
+    gains_kept (drafts line f effect list) before now (count ∙ ap (λ n. before.count + n) (sym (length-map list (draft line f effect)))) kept
+
+pub both_drafts : (line : ℕ) (f : FilterLine) (first second : Effect) (list : List Initiators) → first ∷ second ∷ [] ≡ effects_of f → list ≡ initiators_of f.domains
+    → drafts line f first list ++ drafts line f second list ≡ drafts_of (line ∷ []) f
+both_drafts line f first second list effects is =
+    (λ i. drafts line f first (is i) ++ drafts line f second (is i))
+    ∙ ap (λ more. drafts line f first (initiators_of f.domains) ++ more) (sym (append-nil (drafts line f second (initiators_of f.domains))))
+    ∙ ap (flat_map (drafts_with (line ∷ []) f)) effects
+
+pub on_ok : {T E : Type 0} {P Q : Type 0} (r : Result T E) → (P → Q) → OnOk r P → OnOk r Q
+on_ok (Ok x) f h = f h
+on_ok (Err e) f h = tt

@@ -1,4 +1,5 @@
 pub mod Drafts
+pub mod Walk
 pub mod Named
 pub mod Once
 pub mod Parts

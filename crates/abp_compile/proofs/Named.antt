@@ -1,16 +1,20 @@
 -- Domains that a rule may name.
-use Rattle.std.proofs.Common.{◌≡◌, ℕ, ◌+◌, ◌<◌, List, [], ◌∷◌, ◌++◌, length, get_or, map, not, refl, sym, ap, ◌∙◌, subst, arith, Option, Some, None, Ok, length-append, length-map}
+use Rattle.std.proofs.Common.{◌≡◌, ℕ, ◌+◌, ◌<◌, ◌≤◌, Bool, true, false, cond, List, [], ◌∷◌, ◌++◌, length, get_or, map, not, refl, sym, ap, ◌∙◌, subst, arith, Option, Some, None, Ok, length-append}
 use Rattle.std.specs.Prelude.{position, All, IsTrue}
 use Rattle.std.proofs.Math.ListN.{get_or-map}
-use Rattle.std.proofs.lemmas.List.{get_or_append_left, get_or-append-add}
+use Rattle.std.proofs.lemmas.Bool.Decides.{nat_tests}
+use Rattle.std.proofs.lemmas.List.{length-map, get_or_append_left, get_or-append-add}
 use Rattle.dnr_spec.specs.Domains.{is_domain, lower_case, domains_of, unless_bad}
 use Rattle.domain_set.proofs.Lowered.{domains_of-lower}
-use Rattle.rule_spec.specs.IsRule.{AreDomains}
-use Rattle.list_spec.specs.LineKind.{FilterLine}
-use Rattle.compile_spec.specs.Initiators.{Initiators, single}
-use Rattle.compile_spec.specs.Compiled.{Effect}
-use Rattle.abp_compile.specs.Parted.{in_common, parted, CanBeNamed, CanName}
-use Rattle.abp_compile.specs.Work.{GiveRules}
+use Rattle.rule_spec.specs.IsRule.{AreDomains, IsRule, is_number}
+use Rattle.compile_laws.specs.Laws.{FiltersGiveRules}
+use Rattle.list_spec.specs.LineKind.{FilterLine, filter_line, line_of}
+use Rattle.list_spec.specs.Says.{filter_in, is_usable}
+use Rattle.compile_spec.specs.Initiators.{Initiators, list_if_any, single, initiators_of}
+use Rattle.compile_spec.specs.Compiled.{Effect, Draft, rule_of}
+use Rattle.abp_compile.specs.Parted.{in_common, CanBeNamed}
+use Rattle.abp_compile.specs.Asked.{CanBeRead}
+use Rattle.abp_compile.specs.Work.{draft, IsGiven, GiveRules}
 
 again : (list domains : List (List ℕ)) (bad : Option ℕ) → position (λ entry. not (is_domain entry)) list ≡ bad → unless_bad list bad ≡ Ok domains → domains_of domains ≡ Ok domains
 again list domains None e h =
@@ -24,12 +28,26 @@ named_again domains are = again are.0 domains (position (λ entry. not (is_domai
 
 -- ---- those of a rule
 
-pub common_named : (excluded others nested : List (List ℕ)) → All CanBeNamed (in_common excluded others nested) → length (in_common excluded others nested) ≡ 1
-    → AreDomains others × AreDomains excluded
-common_named excluded [] [] named is = (([], refl), (named 0 (record { among = None; not_among = excluded }) (omega arith)).not_among)
-common_named excluded [] (domain ∷ nested) named is = absurd (omega (arith, is))
-common_named excluded (domain ∷ others) nested named is =
-    let one = named 0 (record { among = None; not_among = excluded }) (omega arith) in (one.among, one.not_among)
+pub one_if : (b : Bool) (n : ℕ) → cond b 1 0 ≡ n → b ≡ true → n ≡ 1
+one_if true n e h = sym e
+one_if false n e h = cc
+
+pub others_named : (excluded others nested : List (List ℕ)) → All CanBeNamed (in_common excluded others nested) → length (in_common excluded others nested) ≡ 1
+    → AreDomains others
+others_named excluded [] nested named is = ([], refl)
+others_named excluded (domain ∷ others) nested named is = (named 0 (record { among = None; not_among = excluded }) (omega arith)).among
+
+pub excluded_named : (excluded others nested : List (List ℕ)) → All CanBeNamed (in_common excluded others nested) → length (in_common excluded others nested) ≡ 1
+    → AreDomains excluded
+excluded_named excluded [] [] named is = (named 0 (record { among = None; not_among = excluded }) (omega arith)).not_among
+excluded_named excluded [] (domain ∷ nested) named is = absurd (omega (arith, is))
+excluded_named excluded (domain ∷ others) nested named is = (named 0 (record { among = None; not_among = excluded }) (omega arith)).not_among
+
+pub in_common_is : (excluded others nested : List (List ℕ)) → length (in_common excluded others nested) ≡ 1
+    → in_common excluded others nested ≡ record { among = list_if_any others; not_among = excluded } ∷ []
+in_common_is excluded [] [] is = refl
+in_common_is excluded [] (domain ∷ nested) is = absurd (omega (arith, is))
+in_common_is excluded (domain ∷ others) nested is = refl
 
 all_left : {X : Type 0} (P : X → Type 0) (xs ys : List X) → All P (xs ++ ys) → All P xs
 all_left P xs ys all = λ k d less. subst P (get_or_append_left xs ys d k less) (all k d (omega (arith, length-append xs ys)))
@@ -40,12 +58,37 @@ all_right P xs ys all = λ k d less. subst P (get_or-append-add xs ys k d) (all 
 pub all_unmapped : {X Y : Type 0} (P : Y → Type 0) (f : X → Y) (xs : List X) → All P (map f xs) → All (λ x. P (f x)) xs
 all_unmapped P f xs all = λ k d less. subst P (get_or-map f xs k d) (all k (f d) (omega (arith, length-map xs f)))
 
+pub give_left : (filter : FilterLine) (effect : Effect) (xs ys : List Initiators) → GiveRules filter effect (xs ++ ys) → GiveRules filter effect xs
+give_left filter effect xs ys give id number = all_left (IsGiven id filter effect) xs ys (give id number)
+
+pub give_right : (filter : FilterLine) (effect : Effect) (xs ys : List Initiators) → GiveRules filter effect (xs ++ ys) → GiveRules filter effect ys
+give_right filter effect xs ys give id number = all_right (IsGiven id filter effect) xs ys (give id number)
+
 -- what rules keep of their initiators
-pub can_name : (filter : FilterLine) (effect : Effect) (excluded others nested : List (List ℕ)) → GiveRules filter effect (parted excluded others nested) → CanName excluded others nested
-can_name filter effect excluded others nested give =
-    let common = in_common excluded others nested in
-    let singles = map (single excluded) nested in
-    let named : All CanBeNamed (common ++ singles) = λ k d less.
-    let condition = (give 1 refl k d less).condition in
-    record { among = condition.initiators.1; not_among = condition.not_initiators } in
-    record { common = all_left CanBeNamed common singles named; singles = all_unmapped CanBeNamed (single excluded) nested (all_right CanBeNamed common singles named) }
+pub named_given : (id : ℕ) (filter : FilterLine) (effect : Effect) (initiators : Initiators) → IsGiven id filter effect initiators → CanBeNamed initiators
+named_given id filter effect initiators rule = record { among = rule.condition.initiators.1; not_among = rule.condition.not_initiators }
+
+pub number : (id : ℕ) → 0 < id → id ≤ 300000 → IsTrue (is_number id)
+number id some few = grind (arith, nat_tests)
+
+pub all_named : (filter : FilterLine) (effect : Effect) (list : List Initiators) → GiveRules filter effect list → All CanBeNamed list
+all_named filter effect list give = λ k d less. named_given 1 filter effect (get_or list k d) (give 1 (number 1 (omega arith) (omega arith)) k d less)
+
+-- the one rule of a list
+pub only_given : (id : ℕ) (filter : FilterLine) (effect : Effect) (list : List Initiators) (initiators : Initiators) → GiveRules filter effect list → list ≡ initiators ∷ []
+    → 0 < id → id ≤ 300000 → IsGiven id filter effect initiators
+only_given id filter effect list initiators give is some few =
+    subst (λ (l : List Initiators). All (IsGiven id filter effect) l) is (give id (number id some few)) 0 initiators (omega arith)
+
+-- the rule of a single domain
+pub single_given : (id : ℕ) (filter : FilterLine) (effect : Effect) (excluded nested : List (List ℕ)) (i : ℕ) (domain : List ℕ) → GiveRules filter effect (map (single excluded) nested)
+    → i < length nested → domain ≡ get_or nested i domain → 0 < id → id ≤ 300000 → IsGiven id filter effect (single excluded domain)
+single_given id filter effect excluded nested i domain give less is some few =
+    subst (λ (d : List ℕ). IsGiven id filter effect (single excluded d)) (sym is)
+    (all_unmapped (IsGiven id filter effect) (single excluded) nested (give id (number id some few)) i domain less)
+
+-- the rules of a filter that some text is read as
+pub gives_all : FiltersGiveRules → (f : FilterLine) → CanBeRead (filter_line f) → is_usable f.pattern ≡ true → (effect : Effect) → GiveRules f effect (initiators_of f.domains)
+gives_all law f read usable effect id numbered =
+    let is : filter_in (line_of read.0) ≡ Some f = ap filter_in read.1 ∙ ap (λ b. cond b (Some f) None) usable in
+    all_unmapped (λ (one : Draft). IsRule (rule_of id one)) (draft 0 f effect) (initiators_of f.domains) (law read.0 f is (0 ∷ []) effect id numbered)

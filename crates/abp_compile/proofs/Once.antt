@@ -5,7 +5,7 @@ use Rattle.std.proofs.lemmas.Bool.{cases_Bool}
 use Rattle.std.proofs.lemmas.List.{append-nil}
 use Rattle.std.proofs.lemmas.List.Folds.{list_any-append}
 use Rattle.std.specs.Str.{bytes_eq}
-use Rattle.std.specs.Cmp.Lexicographic.{same, nat_list_eq_equiv}
+use Rattle.std.specs.Cmp.Lexicographic.{same_text, nat_list_eq_equiv}
 use Rattle.list_spec.specs.declared.domain_entry.DomainEntry.{DomainEntry}
 use Rattle.domain_set.specs.Table.{has_text}
 use Rattle.compile_spec.specs.Initiators.{each_once}
@@ -51,7 +51,7 @@ is_new kept other = not (has_text kept other)
 known : (a b : Bool) → (b ≡ true → a ≡ true) → (not b && not a) ≡ not a
 known true true h = refl
 known true false h = refl
-known false true h = ap not (h refl)
+known false true h = h refl
 known false false h = refl
 
 unknown : (a b c : Bool) → b ≡ c → (not b && not a) ≡ not (a || (c || false))
@@ -64,7 +64,7 @@ unknown false b c e = rw (← e) (two b)
     two false = refl
 
 has_same : (kept : List (List ℕ)) (x other : List ℕ) → has_text kept x ≡ true → bytes_eq other x ≡ true → has_text kept other ≡ true
-has_same kept x other there e = subst (λ (t : List ℕ). has_text kept t ≡ true) (sym (same other x e)) there
+has_same kept x other there e = subst (λ (t : List ℕ). has_text kept t ≡ true) (sym (same_text other x (sym e))) there
 
 pub once : (kept xs : List (List ℕ)) → fold with_domain kept xs ≡ kept ++ filter (is_new kept) (each_once xs)
 once kept [] = sym (append-nil kept)

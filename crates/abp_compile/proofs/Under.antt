@@ -3,7 +3,7 @@ use Rattle.std.proofs.Common.{◌≡◌, ℕ, ◌<◌, ◌-◌, List, [], ◌∷
 use Rattle.std.specs.Prelude.{nat_eq}
 use Rattle.std.specs.List.{ends_with}
 use Rattle.std.specs.Str.{bytes_eq}
-use Rattle.std.specs.Cmp.Lexicographic.{pointwise, same, unequal, nat_list_eq_equiv}
+use Rattle.std.specs.Cmp.Lexicographic.{pointwise, same_text, unequal, nat_list_eq_equiv}
 use Rattle.std.proofs.lemmas.Bool.{cases_Bool}
 use Rattle.dnr_spec.specs.Hosts.{is_ip_host}
 use Rattle.domain_set.specs.Rests.{some_rest}
@@ -30,7 +30,7 @@ and_false false = refl
 pub under : (other domain : List ℕ) → lies_under other domain ≡ (not (is_ip_host domain) && ends_with nat_eq domain (46 ∷ other))
 under other domain =
     pick (bytes_eq domain other) (bytes_eq other domain) (not (is_ip_host domain) && ends_with nat_eq domain (46 ∷ other))
-    (λ e. ap (λ b. not (is_ip_host domain) && b) (subst (λ (o : List ℕ). ends_with nat_eq domain (46 ∷ o) ≡ false) (same domain other e) (never domain)) ∙ and_false (not (is_ip_host domain)))
+    (λ e. ap (λ b. not (is_ip_host domain) && b) (subst (λ (o : List ℕ). ends_with nat_eq domain (46 ∷ o) ≡ false) (same_text domain other (sym e)) (never domain)) ∙ and_false (not (is_ip_host domain)))
     (nat_list_eq_equiv.symm domain other)
 
 some_rest-or : (p q : List ℕ → Bool) (host : List ℕ) → some_rest (λ rest. p rest || q rest) host ≡ (some_rest p host || some_rest q host)
@@ -66,6 +66,10 @@ and_true false n h = cc
 pub and_no : (s n : Bool) → s ≡ false → (s && n) ≡ false
 and_no true n h = cc
 and_no false n h = refl
+
+pub and_last_no : (n s : Bool) → s ≡ false → (n && s) ≡ false
+and_last_no n true h = cc
+and_last_no n false h = and_false n
 
 flipped : (a b : Bool) → (a && b) ≡ (b && a)
 flipped true true = refl

@@ -10,9 +10,9 @@ use Rattle.abp_compile.specs.declared.report.CompileRefusal.TheVariants.{TooMany
 abbrev pub IsAsked : lines.FilterPattern → Type 0
 IsAsked filter_pattern = (pattern : List ℕ) × (filter_pattern ≡ regex pattern) × (length pattern ≤ max_regex)
 
--- some line is such a filter
-abbrev pub IsFilter : FilterLine → Type 0
-IsFilter filter = (line : List ℕ) × (line_of line ≡ filter_line filter)
+-- some text is read as such a line
+abbrev pub CanBeRead : lines.Line → Type 0
+CanBeRead line = (text : List ℕ) × (line_of text ≡ line)
 
 abbrev pub IsNotTooMany : CompileRefusal → Type 0
 IsNotTooMany (TooManyRules count) = ⊥

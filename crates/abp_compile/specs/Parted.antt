@@ -1,5 +1,5 @@
 -- The initiators of a filter's rules, where its listed domains are parted into those under an excluded one, and others.
-use Rattle.std.specs.Prelude.{ℕ, List, [], ◌∷◌, ◌++◌, map, All, Option, Some, None, IfSome}
+use Rattle.std.specs.Prelude.{ℕ, List, [], ◌∷◌, ◌++◌, map, Option, Some, None, IfSome}
 use Rattle.rule_spec.specs.IsRule.{AreDomains}
 use Rattle.compile_spec.specs.Initiators.{Initiators, list_if_any, single}
 
@@ -16,7 +16,3 @@ parted excluded others nested = in_common excluded others nested ++ map (single 
 pub record CanBeNamed (initiators : Initiators) : Type 0 where
   pub among : IfSome initiators.among AreDomains
   pub not_among : AreDomains initiators.not_among
-
-pub record CanName (excluded others nested : List (List ℕ)) : Type 0 where
-  pub common : All CanBeNamed (in_common excluded others nested)
-  pub singles : All (λ domain. CanBeNamed (single excluded domain)) nested

@@ -1,11 +1,11 @@
 -- The program's types, as those of the definitions.
-use Rattle.std.specs.Prelude.{ℕ, List, [], ◌∷◌}
+use Rattle.std.specs.Prelude.{ℕ, List, [], ◌∷◌, map}
 use Rattle.abp_parse.specs.Seen.{filter_seen}
 use Rattle.abp_parse.specs.declared.line.FilterLine.{FilterLine}
 use Rattle.rule_spec.specs.Rule.{Rule}
 use Rattle.compile_spec.specs.Initiators as spec_initiators
 use Rattle.compile_spec.specs.Compiled as spec
-use Rattle.abp_compile.specs.Parted.{in_common, parted, CanName}
+use Rattle.abp_compile.specs.Parted.{in_common, parted}
 use Rattle.abp_compile.specs.declared.effects.Effect.{Effect}
 use Rattle.abp_compile.specs.declared.effects.Effect.TheVariants.{Blocks, Allows, Exempts}
 use Rattle.abp_compile.specs.declared.effects.Effects.{Effects}
@@ -34,9 +34,9 @@ in_common_of domains = in_common domains.excluded.items domains.others.items dom
 abbrev pub parted_seen : Parted → List spec_initiators.Initiators
 parted_seen domains = parted domains.excluded.items domains.others.items domains.nested.items
 
--- rules may name them
-abbrev pub CanNameAll : Parted → Type 0
-CanNameAll domains = CanName domains.excluded.items domains.others.items domains.nested.items
+-- those of the rules of single domains
+abbrev pub singles_of : Parted → List spec_initiators.Initiators
+singles_of domains = map (spec_initiators.single domains.excluded.items) domains.nested.items
 
 -- the rule of a filter for these initiators
 abbrev pub rule_seen : ℕ → FilterLine → Effect → Initiators → Rule

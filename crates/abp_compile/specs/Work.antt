@@ -15,9 +15,13 @@ draft line filter effect initiators = record { lines = line ∷ []; filter = fil
 abbrev pub drafts : ℕ → lines.FilterLine → Effect → List Initiators → List Draft
 drafts line filter effect list = map (draft line filter effect) list
 
+-- the rule with this id is a rule
+abbrev pub IsGiven : ℕ → lines.FilterLine → Effect → Initiators → Type 0
+IsGiven id filter effect initiators = IsRule (rule_of id (draft 0 filter effect initiators))
+
 -- whatever its id, the rule of a filter for each of these initiators is a rule
 abbrev pub GiveRules : lines.FilterLine → Effect → List Initiators → Type 0
-GiveRules filter effect list = (id : ℕ) → IsTrue (is_number id) → All (λ initiators. IsRule (rule_of id (draft 0 filter effect initiators))) list
+GiveRules filter effect list = (id : ℕ) → IsTrue (is_number id) → All (IsGiven id filter effect) list
 
 -- the drafts are counted, and kept as rules where they are not too many
 pub record HasDrafts (work : Work) (held : List Draft) : Type 0 where

@@ -1,5 +1,5 @@
 // The domains of a filter's option `domain=`.
-ghost use Rattle.std.specs.Prelude.{◌≡◌, ◌∷◌, List, ℕ, OnOk, IfOk, nat_eq};
+ghost use Rattle.std.specs.Prelude.{◌≡◌, ◌∷◌, OnOk, IfOk, nat_eq};
 ghost use Rattle.std.specs.BTreeSet.{contains_text};
 ghost use Rattle.std.specs.List.{ends_with};
 ghost use Rattle.std.specs.Str.{bytes_eq};
@@ -13,24 +13,12 @@ use dnr_spec::is_ip_host;
 use list_spec::DomainEntry;
 use std::alloc::Global;
 use std::collections::BTreeSet;
-use std::marker::Model;
 
-// Domains, each once. They are looked up in a table, since a line may have some ten thousand. A clause sees the list.
+// Domains, each once. They are looked up in a table of them, since a line may have some ten thousand.
 #[derive(Drop)]
 pub(crate) struct Domains {
-    list: Vec<Text>,
+    pub list: Vec<Text>,
     table: BTreeSet<String>,
-}
-
-impl Model for Domains {
-    ghost use Rattle.std.specs.Prelude.{List, ℕ};
-    ghost use Rattle.domain_set.specs.Table.{HasTexts};
-
-    ghost Value = { List (List ℕ) };
-
-    ghost view = { λ d. d.list.items };
-
-    ghost invariant = { λ d. HasTexts d.table d.list.items };
 }
 
 impl Domains {
@@ -40,7 +28,8 @@ impl Domains {
         entries: &[DomainEntry],
         excluded: bool,
     ) -> Result<Domains, NoMemory>
-        ensures { IfOk result (λ domains. domains ≡ these_in excluded entries.now) }
+        ensures list { IfOk result (λ domains. domains.list.items ≡ these_in excluded entries.now) }
+        ensures table { IfOk result (λ domains. HasTexts domains.table domains.list.items) }
     {
         let mut list = Vec::new(alloc);
         let mut table = BTreeSet::new(alloc);
@@ -52,13 +41,14 @@ impl Domains {
 
     // Whether the domain lies under one of these.
     pub(crate) fn are_above(&self, domain: &str) -> bool
-        ensures { result ≡ spec.lies_under_some self.now domain.now }
+        requires { HasTexts self.now.table self.now.list.items }
+        ensures { result ≡ spec.lies_under_some self.now.list.items domain.now }
     {
         has_rest(&self.table, domain) && !is_ip_host(domain)
     }
 
     pub(crate) fn into_list(self) -> Vec<Text>
-        ensures { result.items ≡ self }
+        ensures { result.items ≡ self.list.items }
     {
         self.list
     }

@@ -1,13 +1,13 @@
 // For which initiators the rules of a filter are.
-ghost use Rattle.std.specs.Prelude.{◌≡◌, ◌++◌, [], ◌∷◌, length, map, IfOk, OnOk, if◌then◌else◌};
+ghost use Rattle.std.specs.Prelude.{◌≡◌, ◌++◌, [], ◌∷◌, false, length, All, IfOk, OnOk, if◌then◌else◌};
+ghost use Rattle.domain_set.specs.Table.{HasTexts};
 ghost use Rattle.rule_spec.specs.IsRule.{AreDomains};
 ghost use Rattle.compile_spec.specs.Initiators as spec;
 ghost use Rattle.abp_compile.specs.Parted.{CanBeNamed};
-ghost use Rattle.abp_compile.specs.Seen.{initiators_seen, in_common_of, parted_seen, CanNameAll};
+ghost use Rattle.abp_compile.specs.Seen.{initiators_seen, in_common_of, singles_of, parted_seen};
 
 use crate::domains::{Domains, those_under};
 use dnr_base::{NoMemory, Text};
-use dnr_spec::DomainRefusal;
 use domain_set::DomainSet;
 use list_spec::DomainEntry;
 use std::alloc::Global;
@@ -38,8 +38,8 @@ impl Parted {
         let listed = Domains::read(alloc, entries, false)?;
         let mut others = Vec::new(alloc);
         let mut nested = Vec::new(alloc);
-        for domain in listed.into_list() {
-            put(&excluded, domain, &mut others, &mut nested)?;
+        for domain in listed.list.as_slice() {
+            put(alloc, &excluded, domain, &mut others, &mut nested)?;
         }
         let excluded = excluded.into_list();
         Ok(Parted {
@@ -50,10 +50,24 @@ impl Parted {
     }
 
     // Whether there is a rule besides those of single domains.
-    fn has_common(&self) -> bool
+    pub(crate) fn has_common(&self) -> bool
         ensures { (if result then 1 else 0) ≡ length (in_common_of self.now) }
     {
         self.nested.is_empty() || !self.others.is_empty()
+    }
+
+    // How many rules there are besides those of single domains.
+    pub(crate) fn common_count(&self) -> u32
+        ensures { result ≡ length (in_common_of self.now) }
+    {
+        u32::from(self.has_common())
+    }
+
+    // Whether there are rules of single domains.
+    pub(crate) fn has_singles(&self) -> bool
+        ensures { result ≡ false → singles_of self.now ≡ [] }
+    {
+        !self.nested.is_empty()
     }
 
     // How many rules they give for each effect.
@@ -63,34 +77,19 @@ impl Parted {
         self.nested.len() + usize::from(self.has_common())
     }
 
-    // The initiators of these rules.
-    pub(crate) fn initiators(&self, alloc: Global) -> Result<Vec<Initiators>, NoMemory>
-        requires { CanNameAll self.now }
-        ensures { IfOk result (λ list. map initiators_seen list.items ≡ parted_seen self.now) }
+    // The initiators of the rule besides those of single domains.
+    pub(crate) fn common(&self, alloc: Global) -> Result<Initiators, NoMemory>
+        requires one { length (in_common_of self.now) ≡ 1 }
+        requires named { All CanBeNamed (in_common_of self.now) }
+        ensures { IfOk result (λ initiators. in_common_of self.now ≡ initiators_seen initiators ∷ []) }
     {
-        let mut list = self.common(alloc)?;
-        for domain in self.nested.as_slice() {
-            list.push(self.single(alloc, domain)?)?;
-        }
-        Ok(list)
-    }
-
-    // Those of the rule besides those of single domains, if there is one.
-    fn common(&self, alloc: Global) -> Result<Vec<Initiators>, NoMemory>
-        requires { CanNameAll self.now }
-        ensures { IfOk result (λ list. map initiators_seen list.items ≡ in_common_of self.now) }
-    {
-        let mut list = Vec::new(alloc);
-        if self.has_common() {
-            let among = set_if_any(alloc, self.others.as_slice())?;
-            let not_among = set_of(alloc, self.excluded.as_slice())?;
-            list.push(Initiators { among, not_among })?;
-        }
-        Ok(list)
+        let among = set_if_any(alloc, self.others.as_slice())?;
+        let not_among = set_of(alloc, self.excluded.as_slice())?;
+        Ok(Initiators { among, not_among })
     }
 
     // Those of the rule of a single domain, which excludes the excluded domains under it.
-    fn single(&self, alloc: Global, domain: &Text) -> Result<Initiators, NoMemory>
+    pub(crate) fn single(&self, alloc: Global, domain: &Text) -> Result<Initiators, NoMemory>
         requires { CanBeNamed (spec.single self.now.excluded.items domain.now) }
         ensures { IfOk result (λ initiators. initiators_seen initiators ≡ spec.single self.now.excluded.items domain.now) }
     {
@@ -103,18 +102,21 @@ impl Parted {
 
 // Puts a listed domain among those that it belongs to.
 fn put(
+    alloc: Global,
     excluded: &Domains,
-    domain: Text,
+    domain: &Text,
     others: &mut Vec<Text>,
     nested: &mut Vec<Text>,
 ) -> Result<(), NoMemory>
-    ensures others { OnOk result (others.new.items ≡ others.old.items ++ spec.not_nested excluded.now (domain ∷ [])) }
-    ensures nested { OnOk result (nested.new.items ≡ nested.old.items ++ spec.nested excluded.now (domain ∷ [])) }
+    requires { HasTexts excluded.now.table excluded.now.list.items }
+    ensures others { OnOk result (others.new.items ≡ others.old.items ++ spec.not_nested excluded.now.list.items (domain.now ∷ [])) }
+    ensures nested { OnOk result (nested.new.items ≡ nested.old.items ++ spec.nested excluded.now.list.items (domain.now ∷ [])) }
 {
+    let copy = domain.copy(alloc)?;
     if excluded.are_above(domain.as_str()) {
-        nested.push(domain)?;
+        nested.push(copy)?;
     } else {
-        others.push(domain)?;
+        others.push(copy)?;
     }
     Ok(())
 }
@@ -136,7 +138,7 @@ fn set_of(alloc: Global, domains: &[Text]) -> Result<DomainSet, NoMemory>
 {
     match DomainSet::read(alloc, domains) {
         Ok(set) => Ok(set),
-        Err(DomainRefusal::NoMemory) => Err(NoMemory),
-        Err(DomainRefusal::BadDomain(_)) => unreachable!("they are domains"),
+        // They are domains, so it is memory that is short.
+        Err(_) => Err(NoMemory),
     }
 }

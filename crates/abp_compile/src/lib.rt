@@ -10,8 +10,8 @@ mod initiators;
 mod lines;
 mod report;
 mod rule;
-
-
+#[cfg(test)]
+mod tests;
 mod work;
 
 pub use compile_spec::Reported;

@@ -2,14 +2,14 @@
 ghost use Rattle.std.specs.Prelude.{◌≡◌, ◌==◌, ◌≤◌, ◌<◌, ◌++◌, ◌∷◌, ℕ, length, position, IfOk, IfErr, IfSome, IsErrOf, OnOk};
 ghost use Rattle.dnr_base.specs.Faults.{HasCauseOf};
 ghost use Rattle.abp_parse.specs.Cut.{pieces_left};
-ghost use Rattle.abp_parse.specs.Seen.{filter_seen, pattern_seen};
+ghost use Rattle.abp_parse.specs.Seen.{filter_seen, line_seen, pattern_seen};
 ghost use Rattle.list_spec.specs.LineKind.{lines_of, line_of, filter_line};
 ghost use Rattle.list_spec.specs.Says.{filter_in, reason_of, is_usable};
 ghost use Rattle.regex_host.specs.Answers as asked;
 ghost use Rattle.compile_spec.specs.Compiled.{compiled, rules_in, origins_in, max_compiled, drafts_in, drafts_from};
 ghost use Rattle.compile_spec.specs.Report.{report, report_of, report_from};
 ghost use Rattle.abp_compile.specs.Answers.{CountsTooMany, StopsAt, IsCalm};
-ghost use Rattle.abp_compile.specs.Asked.{IsAsked, IsFilter, IsNotTooMany, StopsOnlyAt};
+ghost use Rattle.abp_compile.specs.Asked.{CanBeRead, IsAsked, IsNotTooMany, StopsOnlyAt};
 ghost use Rattle.abp_compile.specs.Work.{HasDrafts, Gains};
 
 use crate::report::{CompileRefusal, Report};
@@ -48,7 +48,10 @@ pub fn compile<H: RegexHost>(
     ensures cause { (line : ℕ) → HasCauseOf (CompileRefusal.HostFault line) (H.faults host.old) (H.faults host.new) result }
     ensures calm { IsCalm (H.faults host.old) (H.faults host.new) result }
 {
-    let work = take_lines(alloc, lines, host)?;
+    let work = match take_lines(alloc, lines, host) {
+        Ok(work) => work,
+        Err(refusal) => return Err(refusal),
+    };
     if work.count > MAX_RULES {
         return Err(CompileRefusal::TooManyRules(work.count));
     }
@@ -75,9 +78,12 @@ fn take_lines<H: RegexHost>(
     let mut work = Work::new(alloc);
     let mut rest = lines;
     let mut number = 1;
-    loop {
+    'lines: loop {
         let (line, later) = cut_line(rest);
-        take_line(alloc, number, line, &mut work, host)?;
+        match take_line(alloc, number, line, &mut work, host) {
+            Ok(()) => {}
+            Err(refusal) => return Err(refusal),
+        }
         match later {
             Some(later) => rest = later,
             None => return Ok(work),
@@ -117,7 +123,25 @@ fn take_line<H: RegexHost>(
     ensures cause { HasCauseOf (CompileRefusal.HostFault number) (H.faults host.old) (H.faults host.new) result }
     ensures calm { IsCalm (H.faults host.old) (H.faults host.new) result }
 {
-    match parse_line(alloc, line)? {
+    let parsed = parse_line(alloc, line)?;
+    take_parsed(alloc, number, parsed, work, host)
+}
+
+fn take_parsed<H: RegexHost>(
+    alloc: Global,
+    number: u32,
+    line: Line,
+    work: &mut Work,
+    host: &mut H,
+) -> Result<(), CompileRefusal>
+    requires { CanBeRead (line_seen line) }
+    ensures drafts { OnOk result (Gains (drafts_in number (filter_in (line_seen line))) work.old work.new) }
+    ensures reported { OnOk result (work.new.reported.items ≡ work.old.reported.items ++ report_of number (reason_of (line_seen line))) }
+    ensures stops { IfErr result (StopsOnlyAt number (line_seen line)) }
+    ensures cause { HasCauseOf (CompileRefusal.HostFault number) (H.faults host.old) (H.faults host.new) result }
+    ensures calm { IsCalm (H.faults host.old) (H.faults host.new) result }
+{
+    match line {
         Line::Blank => Ok(()),
         Line::Comment => Ok(()),
         Line::Header => Ok(()),
@@ -137,25 +161,26 @@ fn take_filter<H: RegexHost>(
     work: &mut Work,
     host: &mut H,
 ) -> Result<(), CompileRefusal>
-    requires { IsFilter (filter_seen filter) }
+    requires { CanBeRead (filter_line (filter_seen filter)) }
     ensures drafts { OnOk result (Gains (drafts_in number (filter_in (filter_line (filter_seen filter)))) work.old work.new) }
     ensures reported { OnOk result (work.new.reported.items ≡ work.old.reported.items ++ report_of number (reason_of (filter_line (filter_seen filter)))) }
     ensures stops { IfErr result (StopsOnlyAt number (filter_line (filter_seen filter))) }
     ensures cause { HasCauseOf (CompileRefusal.HostFault number) (H.faults host.old) (H.faults host.new) result }
     ensures calm { IsCalm (H.faults host.old) (H.faults host.new) result }
 {
-    let usable = match is_usable(&filter, host) {
-        Ok(usable) => usable,
-        Err(HostRefusal::HostFault) => return Err(CompileRefusal::HostFault(number)),
-        Err(_) => return Err(CompileRefusal::NoMemory),
-    };
-    filters_give_rules();
-    if usable {
-        work.add_filter(alloc, number, filter)?;
-    } else {
-        work.report(number, Reason::BadRegex)?;
+    match is_usable(&filter, host) {
+        Ok(true) => {
+            filters_give_rules();
+            work.add_filter(alloc, number, filter)?;
+            Ok(())
+        }
+        Ok(false) => {
+            work.report(number, Reason::BadRegex)?;
+            Ok(())
+        }
+        Err(HostRefusal::HostFault) => Err(CompileRefusal::HostFault(number)),
+        Err(_) => Err(CompileRefusal::NoMemory),
     }
-    Ok(())
 }
 
 // Whether the pattern of a filter can be used.

@@ -26,6 +26,7 @@ pub(crate) fn rule_of(
     ensures { IfOk result (λ rule. rule ≡ rule_seen id filter effect initiators) }
 {
     let kinds = effect.kinds(&filter);
+    let third_party = filter.third_party;
     let (url_filter, regex_filter) = filters_of(filter.pattern);
     let condition = ConditionParts {
         url_filter,
@@ -35,7 +36,7 @@ pub(crate) fn rule_of(
         not_initiators: initiators.not_among,
         hosts: None,
         not_hosts: DomainSet::empty(),
-        third_party: filter.third_party,
+        third_party,
         kinds,
         methods: None,
         not_methods: MethodSet::empty(),

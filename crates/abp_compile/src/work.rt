@@ -1,16 +1,17 @@
 // The rules of filters, and the lines that give none.
-ghost use Rattle.std.specs.Prelude.{◌≡◌, ◌+◌, ◌≤◌, ◌++◌, [], ◌∷◌, map, vec_len, OnOk};
+ghost use Rattle.std.specs.Prelude.{◌≡◌, ◌+◌, ◌<◌, ◌≤◌, ◌++◌, [], ◌∷◌, length, vec_len, OnOk};
 ghost use Rattle.abp_parse.specs.Seen.{filter_seen};
 ghost use Rattle.compile_spec.specs.Compiled as spec;
-ghost use Rattle.abp_compile.specs.Seen.{effect_seen, initiators_seen, parted_seen, CanNameAll};
-ghost use Rattle.abp_compile.specs.Work.{drafts, GiveRules, GivesAllRules, HasDrafts, Gains, Keeps};
+ghost use Rattle.compile_spec.specs.Initiators.{single};
+ghost use Rattle.abp_compile.specs.Seen.{effect_seen, in_common_of, singles_of, parted_seen};
+ghost use Rattle.abp_compile.specs.Work.{drafts, IsGiven, GiveRules, GivesAllRules, HasDrafts, Gains, Keeps};
 
 use crate::effects::{Effect, Effects, effects_of};
-use crate::initiators::{Initiators, Parted};
+use crate::initiators::Parted;
 use crate::rule::{copy_filter, rule_of};
 use abp_parse::FilterLine;
 use compile_spec::Reported;
-use dnr_base::{Items, NoMemory};
+use dnr_base::{Items, NoMemory, Text};
 use dnr_rules::Rule;
 use list_spec::Reason;
 use std::alloc::Global;
@@ -82,8 +83,7 @@ impl Work {
         effect: Effect,
         domains: &Parted,
     ) -> Result<(), NoMemory>
-        requires named { CanNameAll domains.now }
-        requires rules { GiveRules (filter_seen filter) (effect_seen effect) (parted_seen domains.now) }
+        requires { GiveRules (filter_seen filter) (effect_seen effect) (parted_seen domains.now) }
         ensures drafts { OnOk result (Gains (drafts line (filter_seen filter) (effect_seen effect) (parted_seen domains.now)) self.old self.new) }
         ensures reported { self.new.reported ≡ self.old.reported }
     {
@@ -96,36 +96,109 @@ impl Work {
         if count > MAX_RULES {
             return Ok(());
         }
-        let list = domains.initiators(alloc)?;
-        self.keep_all(alloc, before as u32, line, filter, effect, list)
+        self.keep_all(alloc, before as u32 + 1, line, filter, effect, domains)?;
+        Ok(())
     }
 
-    // Keeps the rules for these initiators, with ids from the next one on. The last takes the filter as it is.
+    // Keeps the rules of an effect with ids from this one on. A filter that gives one rule is moved into it.
     fn keep_all(
         &mut self,
         alloc: Global,
-        before: u32,
+        id: u32,
         line: u32,
         filter: FilterLine,
         effect: Effect,
-        mut list: Vec<Initiators>,
+        domains: &Parted,
     ) -> Result<(), NoMemory>
-        requires few { before + vec_len list ≤ 300000 }
-        requires rules { GiveRules (filter_seen filter) (effect_seen effect) (map initiators_seen list.items) }
-        ensures kept { OnOk result (Keeps (before + 1) (drafts line (filter_seen filter) (effect_seen effect) (map initiators_seen list.items)) self.old self.new) }
+        requires some { 0 < id }
+        requires few { id + length (parted_seen domains.now) ≤ 300001 }
+        requires rules { GiveRules (filter_seen filter) (effect_seen effect) (parted_seen domains.now) }
+        ensures kept { OnOk result (Keeps id (drafts line (filter_seen filter) (effect_seen effect) (parted_seen domains.now)) self.old self.new) }
         ensures count { self.new.count ≡ self.old.count }
         ensures reported { self.new.reported ≡ self.old.reported }
     {
-        let Some(last) = list.pop() else {
-            return Ok(());
-        };
-        let mut id = before + 1;
-        for initiators in list {
+        if domains.has_singles() {
             let copy = copy_filter(alloc, &filter)?;
-            self.keep(alloc, line, rule_of(alloc, id, copy, effect, initiators)?)?;
+            self.keep_common(alloc, id, line, copy, effect, domains)?;
+            let next = id + domains.common_count();
+            self.keep_singles(alloc, next, line, &filter, effect, domains)?;
+        } else {
+            self.keep_common(alloc, id, line, filter, effect, domains)?;
+        }
+        Ok(())
+    }
+
+    // Keeps the rule besides those of single domains, if there is one.
+    fn keep_common(
+        &mut self,
+        alloc: Global,
+        id: u32,
+        line: u32,
+        filter: FilterLine,
+        effect: Effect,
+        domains: &Parted,
+    ) -> Result<(), NoMemory>
+        requires some { 0 < id }
+        requires few { id + length (in_common_of domains.now) ≤ 300001 }
+        requires rules { GiveRules (filter_seen filter) (effect_seen effect) (in_common_of domains.now) }
+        ensures kept { OnOk result (Keeps id (drafts line (filter_seen filter) (effect_seen effect) (in_common_of domains.now)) self.old self.new) }
+        ensures count { self.new.count ≡ self.old.count }
+        ensures reported { self.new.reported ≡ self.old.reported }
+    {
+        if domains.has_common() {
+            let initiators = domains.common(alloc)?;
+            let rule = rule_of(alloc, id, filter, effect, initiators)?;
+            self.keep(alloc, line, rule)?;
+        }
+        Ok(())
+    }
+
+    // Keeps the rules of single domains.
+    fn keep_singles(
+        &mut self,
+        alloc: Global,
+        first: u32,
+        line: u32,
+        filter: &FilterLine,
+        effect: Effect,
+        domains: &Parted,
+    ) -> Result<(), NoMemory>
+        requires some { 0 < first }
+        requires few { first + vec_len domains.now.nested ≤ 300001 }
+        requires rules { GiveRules (filter_seen filter.now) (effect_seen effect) (singles_of domains.now) }
+        ensures kept { OnOk result (Keeps first (drafts line (filter_seen filter.now) (effect_seen effect) (singles_of domains.now)) self.old self.new) }
+        ensures count { self.new.count ≡ self.old.count }
+        ensures reported { self.new.reported ≡ self.old.reported }
+    {
+        let mut id = first;
+        for domain in domains.nested.as_slice() {
+            self.keep_single(alloc, id, line, filter, effect, domains, domain)?;
             id += 1;
         }
-        self.keep(alloc, line, rule_of(alloc, id, filter, effect, last)?)
+        Ok(())
+    }
+
+    // Keeps the rule of a single domain.
+    fn keep_single(
+        &mut self,
+        alloc: Global,
+        id: u32,
+        line: u32,
+        filter: &FilterLine,
+        effect: Effect,
+        domains: &Parted,
+        domain: &Text,
+    ) -> Result<(), NoMemory>
+        requires { IsGiven id (filter_seen filter.now) (effect_seen effect) (single domains.now.excluded.items domain.now) }
+        ensures kept { OnOk result (Keeps id (drafts line (filter_seen filter.now) (effect_seen effect) (single domains.now.excluded.items domain.now ∷ [])) self.old self.new) }
+        ensures count { self.new.count ≡ self.old.count }
+        ensures reported { self.new.reported ≡ self.old.reported }
+    {
+        let initiators = domains.single(alloc, domain)?;
+        let copy = copy_filter(alloc, filter)?;
+        let rule = rule_of(alloc, id, copy, effect, initiators)?;
+        self.keep(alloc, line, rule)?;
+        Ok(())
     }
 
     fn keep(&mut self, alloc: Global, line: u32, rule: Rule) -> Result<(), NoMemory>

@@ -7,4 +7,4 @@ pub returns : goal.returns
 returns c =
     c.insert-2.ensures.list
     ∙ ap (λ kinds. filter (λ other. same_kind SubFrame other || has_kind kinds other) all_kinds)
-    (c.insert.ensures.list ∙ ap (λ kinds. filter (λ other. same_kind MainFrame other || has_kind kinds other) all_kinds) c.empty.ensures)
+    (c.insert.ensures.list ∙ ap (λ kinds. filter (λ other. same_kind MainFrame other || has_kind kinds other) all_kinds) c.empty-kinds.ensures)

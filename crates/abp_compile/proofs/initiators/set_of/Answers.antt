@@ -1,8 +1,5 @@
 use Rattle.abp_compile.proofs.Named.{named_again}
 use Rattle.abp_compile.proofs.initiators.set_of.Goals as goal
 
-pub unreachable-requires : goal.unreachable-requires
-unreachable-requires c = cc (named_again c.args.domains.now c.requires, c.in-Err-BadDomain.ensures.refused)
-
 pub returns-in-Ok : goal.returns-in-Ok
 returns-in-Ok c = cc (named_again c.args.domains.now c.requires, c.in-Ok.ensures.read)

@@ -8,22 +8,19 @@ use Rattle.abp_compile.proofs.domains.Domains.are_above.Goals as goal
 pub returns-then-has_rest : goal.returns-then-has_rest
 returns-then-has_rest c =
     let domain = c.args.domain.now in
-    let table = c.self.inside.table in
+    let set = c.args.self.now in
     cc (
-      above table c.self.inside.list.items domain c.self.invariant,
-      and_true (some_rest (contains_text table) domain) (not (is_ip_host domain)) (sym c.has_rest.ensures ∙ c.if-has_rest.true),
-      c.self.view_is,
+      above set.table set.list.items domain c.requires,
+      and_true (some_rest (contains_text set.table) domain) (not (is_ip_host domain)) (sym c.has_rest.ensures ∙ c.if-has_rest.true),
       c.is_ip_host.ensures,
     )
 
 pub returns-else-has_rest : goal.returns-else-has_rest
 returns-else-has_rest c =
     let domain = c.args.domain.now in
-    let table = c.self.inside.table in
+    let set = c.args.self.now in
     cc (
-      above table c.self.inside.list.items domain c.self.invariant,
-      and_no (some_rest (contains_text table) domain) (not (is_ip_host domain)) (sym c.has_rest.ensures ∙ c.if-has_rest.false),
-      c.self.view_is,
-      c.has_rest.ensures,
+      above set.table set.list.items domain c.requires,
+      and_no (some_rest (contains_text set.table) domain) (not (is_ip_host domain)) (sym c.has_rest.ensures ∙ c.if-has_rest.false),
       c.if-has_rest.false,
     )

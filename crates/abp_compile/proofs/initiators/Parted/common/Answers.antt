@@ -1,9 +1,14 @@
-use Rattle.std.proofs.Common.{◌∙◌, sym, ap, cond, ℕ}
-use Rattle.abp_compile.proofs.Named.{common_named}
+use Rattle.std.proofs.Common.{List, ℕ, sym, subst}
+use Rattle.rule_spec.specs.IsRule.{AreDomains}
+use Rattle.abp_compile.proofs.Named.{others_named, excluded_named}
 use Rattle.abp_compile.proofs.initiators.Parted.common.Goals as goal
 
 pub set_if_any-requires : goal.set_if_any-requires
-set_if_any-requires c = (common_named _ _ _ c.requires.common (sym c.has_common.ensures ∙ ap (λ b. cond b 1 0) c.if-has_common.true)).0
+set_if_any-requires c =
+    let d = c.args.self.now in
+    subst (λ (l : List (List ℕ)). AreDomains l) (sym c.as_slice.ensures.value) (others_named d.excluded.items d.others.items d.nested.items c.requires.named c.requires.one)
 
 pub set_of-requires : goal.set_of-requires
-set_of-requires c = (common_named _ _ _ c.requires.common (sym c.has_common.ensures ∙ ap (λ b. cond b 1 0) c.if-has_common.true)).1
+set_of-requires c =
+    let d = c.args.self.now in
+    subst (λ (l : List (List ℕ)). AreDomains l) (sym c.as_slice-2.ensures.value) (excluded_named d.excluded.items d.others.items d.nested.items c.requires.named c.requires.one)

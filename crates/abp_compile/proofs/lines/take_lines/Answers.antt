@@ -1,0 +1,23 @@
+use Rattle.std.proofs.Common.{◌≡◌, ◌<◌, ◌∷◌, ◌∙◌, ap, arith, length}
+use Rattle.abp_parse.specs.Cut.{pieces_left}
+use Rattle.list_spec.specs.LineKind.{lines_of}
+use Rattle.abp_compile.proofs.Walk.{goes_on, stops_there}
+use Rattle.abp_compile.proofs.lines.take_lines.Goals as goal
+
+pub lines-preserved : goal.lines-preserved
+lines-preserved g c =
+    let line = c.cut_line.result.0.now in
+    let more = pieces_left 10 c.cut_line.result.1 in
+    let cut : lines_of c.lines.rest.now ≡ line ∷ more = c.cut_line.ensures.lines in
+    let less : length c.in-Some.later.now < length c.lines.rest.now = rw c.in-Some.is at c.cut_line.ensures.shorter in
+    record {
+      at = goes_on c.args.lines.now c.lines.rest.now line more c.lines.number c.lines.work c.take_line.new.work c.in-Some.later.now c.lines.invariant.at cut
+      (ap (pieces_left 10) c.in-Some.is) c.in-Ok.ensures.drafts c.in-Ok.ensures.reported;
+      short = omega (arith, c.lines.invariant.short, less);
+      calm = c.in-Ok.ensures.calm ∙ c.lines.invariant.calm;
+    }
+
+pub returns-in-Err-clause-stops : goal.returns-in-Err-clause-stops
+returns-in-Err-clause-stops g c =
+    stops_there c.args.lines.now c.lines.rest.now c.cut_line.result.0.now (pieces_left 10 c.cut_line.result.1) c.lines.number c.lines.work c.take_line.new.work
+    c.lines.invariant.at c.cut_line.ensures.lines c.in-Err.refusal c.in-Err.ensures.stops
