@@ -9,7 +9,7 @@ use crate::effects::Effect;
 use crate::initiators::Initiators;
 use abp_parse::{FilterLine, FilterPattern};
 use dnr_base::{Items, MethodSet, NoMemory, Text};
-use dnr_rules::{ConditionParts, Rule, RuleParts};
+use dnr_rules::{ConditionParts, RareParts, Rule, RuleParts};
 use domain_set::DomainSet;
 use std::alloc::Global;
 use url_filter::Pattern;
@@ -28,20 +28,23 @@ pub(crate) fn rule_of(
     let kinds = effect.kinds(&filter);
     let third_party = filter.third_party;
     let (url_filter, regex_filter) = filters_of(filter.pattern);
+    let rare = RareParts {
+        regex_filter,
+        not_initiators: initiators.not_among,
+        not_hosts: DomainSet::empty(),
+        tabs: None,
+        not_tabs: Items::build(Vec::new(alloc)),
+    };
     let condition = ConditionParts {
         url_filter,
-        regex_filter,
         case_sensitive: filter.match_case,
         initiators: initiators.among,
-        not_initiators: initiators.not_among,
         hosts: None,
-        not_hosts: DomainSet::empty(),
         third_party,
         kinds,
         methods: None,
         not_methods: MethodSet::empty(),
-        tabs: None,
-        not_tabs: Items::build(Vec::new(alloc)),
+        rare: rare.boxed(alloc)?,
     };
     Ok(Rule::build(RuleParts {
         id,

@@ -1,18 +1,28 @@
 -- What was read, from the bytes of a file to what the file holds.
-use Rattle.std.proofs.Common.{◌≡◌, ◌⊎◌, ℕ, ◌+◌, ◌<◌, ◌≤◌, List, [], ◌∷◌, ◌++◌, length, drop, get_or, map, append_assoc, codes, true, Option, Some, None, Ok, Err, refl, sym, ap, ◌∙◌, subst, inl, inr, arith, string_bytes}
-use Rattle.std.specs.Prelude.{IfSome}
+use Rattle.std.proofs.Common.{◌≡◌, ◌⊎◌, ℕ, ◌+◌, ◌<◌, ◌≤◌, List, [], ◌∷◌, ◌++◌, length, drop, get_or, map, append_assoc, codes, true, Option, Some, None, Result, Ok, Err, refl, sym, ap, ◌∙◌, subst, inl, inr, arith, string_bytes}
+use Rattle.std.specs.Prelude.{IfSome, IfErr}
 use Rattle.std.specs.List.{AllZip}
 use Rattle.std.proofs.lemmas.List.{drop_more, drop_all, append-nil}
 use Rattle.dnr_spec.specs.Suffixes.{SuffixRule, read_suffixes}
 use Rattle.dnr_words.specs.declared.options.Installed.{Installed}
 use Rattle.dnr_words.specs.Seen.{installed_seen}
-use Rattle.compile_spec.specs.Compiled.{rules_in}
+use Rattle.abp_compile.specs.declared.report.CompileRefusal.{CompileRefusal}
+use Rattle.abp_compile.specs.declared.report.CompileRefusal.TheVariants.{TooManyRules, HostFault}
+use Rattle.abp_compile.specs.Answers.{CountsTooMany, StopsAt}
+use Rattle.compile_spec.specs.Compiled.{max_compiled, compiled, rules_in}
+use Rattle.list_spec.specs.LineKind.{lines_of}
+use Rattle.rules_file.specs.declared.FileRefusal.{FileRefusal}
+use Rattle.rules_file.specs.declared.load.LoadRefusal.{LoadRefusal}
+use Rattle.rules_file.specs.declared.load.LoadRefusal.TheVariants.{BadFile}
+use Rattle.rules_file.specs.Load as load
+use Rattle.rules_file.specs.Answers.{refusal_seen}
 use Rattle.load_spec.specs.Extensions.{EndsAtOne, extension_of}
 use Rattle.load_spec.specs.Files.{Files, HoldsFile, HoldsLongFile, HoldsRules, HoldsSuffixes}
 use Rattle.manifest_read.specs.declared.refusal.ManifestRefusal.{ManifestRefusal}
 use Rattle.manifest_read.specs.declared.refusal.ManifestRefusal.TheVariants as refusal
 use Rattle.manifest_read.specs.Refusals as manifest
-use Rattle.manifest_read.proofs.Sets.{IsReadTo, zip_more, ends_behind}
+use Rattle.manifest_read.proofs.Sets.{IsReadTo}
+use Rattle.rule_spec.specs.declared.rule_kind.RuleKind.{RuleKind}
 use Rattle.rule_spec.specs.declared.rule_kind.RuleKind.TheVariants.{Static}
 use Rattle.rule_spec.specs.Rule.{Rule}
 use Rattle.rule_spec.specs.State.{Extension}
@@ -21,10 +31,11 @@ use Rattle.session_load.specs.declared.stop.Stop.{Stop}
 use Rattle.session_load.specs.declared.stop.Stop.TheVariants as stop
 use Rattle.session_load.specs.Extensions.{StopsFor, extension_in}
 use Rattle.session_load.specs.Lists.{HoldsCompiled, IsCompiledList}
-use Rattle.session_load.specs.Loads.{PrintsBadSuffixes, PrintsBadList, StopsInSuffixes, StopsInList, StopsInOne, StopsInExtensions, StopsInServing}
+use Rattle.session_load.specs.Loads.{PrintsBadSuffixes, PrintsBadList, StopsInRules, StopsInSuffixes, StopsInList, StopsInOne, StopsInExtensions, StopsInServing}
 use Rattle.session_load.specs.Stops.{Prints, StopsAs}
 use Rattle.session_load.proofs.Stopped.{printed, stops_map, known_map, one_wider}
-use Rattle.session_spec.specs.Loading.{PrintsRefusedSuffixes, PrintsRefusedList, PrintsRefusedFile, HoldsListExtension, Loaded, Loads, Reads, ReadsSuffixes, Refuses, IsTooLong, RefusesFile, RefusesSuffixes, IsLongSuffixFile, HasLongFileIn}
+use Rattle.session_spec.specs.Refusals.{refusal_line, too_many_rules, host_failed, list_line}
+use Rattle.session_spec.specs.Loading.{PrintsRefusedRules, PrintsRefusedSuffixes, PrintsRefusedList, PrintsRefusedFile, HoldsListExtension, Loaded, Loads, Reads, ReadsSuffixes, Refuses, IsTooLong, RefusesFile, RefusesSuffixes, IsLongSuffixFile, HasLongFileIn}
 use Rattle.session_spec.specs.Out.{LoadsFor, of_rules, loaded_with}
 use Rattle.session_spec.specs.Words as words
 use Rattle.session_spec.specs.Words.{folder, list, Serving}
@@ -44,6 +55,16 @@ pub loads_local : (known : Option Files) (name : List ℕ) (rules : List Rule) (
     → IfSome known (λ files. LoadsFor files (of_rules name) loaded)
 loads_local None name rules loaded held same = tt
 loads_local (Some files) name rules loaded held same = (rules, held, same)
+
+pub bad_rules : (known : Option Files) (rose : Type 0) (kind : RuleKind) (name : List ℕ) (r : LoadRefusal) (refused : FileRefusal) (s : Stop) → r ≡ BadFile refused
+    → IfSome known (λ files. load.Refuses files kind name rose r) → Prints (refusal_line name (refusal_seen refused)) s → StopsInRules known rose kind name s
+bad_rules None rose kind name r refused s is why prints = tt
+bad_rules (Some files) rose kind name r refused s is why prints =
+    printed (PrintsRefusedRules files rose kind name) (HoldsLongFile files name) (refusal_line name (refusal_seen refused)) s prints (record {
+      refusal = refusal_seen refused;
+      broken = subst (load.Refuses files kind name rose) is why;
+      same = refl;
+    })
 
 -- ---- suffix lists
 
@@ -75,6 +96,24 @@ bad_list (Some files) rose name bytes s file why =
     (λ line bad. record { refusal = bad.refusal; cause = record { bytes = bytes; file = file; refused = bad.refused }; same = bad.same })
     (λ none. absurd none) why
 
+pub if_bad_list : {T : Type 0} (result : Result T Stop) (known : Option Files) (rose : Type 0) (name bytes : List ℕ) → IfSome known (λ files. HoldsFile files name bytes)
+    → IfErr result (StopsAs (PrintsBadList rose name bytes) ⊥) → IfErr result (StopsInList known rose name)
+if_bad_list (Ok x) known rose name bytes file why = tt
+if_bad_list (Err s) known rose name bytes file why = bad_list known rose name bytes s file why
+
+pub too_many : (rose : Type 0) (name bytes : List ℕ) (r : CompileRefusal) (count : ℕ) (s : Stop) → r ≡ TooManyRules count → CountsTooMany (compiled (lines_of bytes)) r
+    → Prints (list_line name (too_many_rules count)) s → StopsAs (PrintsBadList rose name bytes) ⊥ s
+too_many rose name bytes r count s is why prints =
+    let counts = subst (CountsTooMany (compiled (lines_of bytes))) is why in
+    printed (PrintsBadList rose name bytes) ⊥ (list_line name (too_many_rules count)) s prints
+    (record { refusal = too_many_rules count; refused = (counts.1, subst (λ n. max_compiled < n) (sym counts.1) counts.0); same = refl })
+
+pub host_fault : (rose : Type 0) (name bytes : List ℕ) (r : CompileRefusal) (line : ℕ) (s : Stop) → r ≡ HostFault line → rose → StopsAt (lines_of bytes) r
+    → Prints (list_line name (host_failed line)) s → StopsAs (PrintsBadList rose name bytes) ⊥ s
+host_fault rose name bytes r line s is rises why prints =
+    printed (PrintsBadList rose name bytes) ⊥ (list_line name (host_failed line)) s prints
+    (record { refusal = host_failed line; refused = (rises, subst (StopsAt (lines_of bytes)) is why); same = refl })
+
 -- the extension of this name with the one ruleset `list`, of these rules and lines
 abbrev with_list : List ℕ → List Rule → List (List ℕ) → Extension
 with_list name rules origins =
@@ -98,15 +137,15 @@ stop_is R T s other same why = subst (StopsAs R T) (sym same) why
 
 folder_stop : (files : Files) (rose : Type 0) (name : List ℕ) (r : ManifestRefusal) (s : Stop) → manifest.Refuses files rose name r → StopsFor name r s
     → StopsAs (λ line. Refuses files rose line (folder name)) (IsTooLong files (folder name)) s
-folder_stop files rose name refusal.ReadFault s why is = stop_is _ _ s stop.ReadFault is tt
-folder_stop files rose name (refusal.FileTooLong file) s why is = stop_is _ _ s stop.FileTooLong is why.0
+folder_stop files rose name refusal.ReadFault s why is = stop_is (λ line. Refuses files rose line (folder name)) (IsTooLong files (folder name)) s stop.ReadFault is tt
+folder_stop files rose name (refusal.FileTooLong file) s why is = stop_is (λ line. Refuses files rose line (folder name)) (IsTooLong files (folder name)) s stop.FileTooLong is why.0
 folder_stop files rose name (refusal.BadJson file) s why is =
     printed (λ line. Refuses files rose line (folder name)) (IsTooLong files (folder name)) _ s is (record { refused = _; cause = why; same = refl })
 folder_stop files rose name (refusal.BadManifest field) s why is =
     printed (λ line. Refuses files rose line (folder name)) (IsTooLong files (folder name)) _ s is (record { refused = _; cause = why; same = refl })
 folder_stop files rose name (refusal.RuleRefused file r) s why is =
     printed (λ line. Refuses files rose line (folder name)) (IsTooLong files (folder name)) _ s is (record { refused = _; cause = why; same = refl })
-folder_stop files rose name refusal.NoMemory s why is = stop_is _ _ s stop.NoMemory is tt
+folder_stop files rose name refusal.NoMemory s why is = stop_is (λ line. Refuses files rose line (folder name)) (IsTooLong files (folder name)) s stop.NoMemory is tt
 
 pub folder_stops : (known : Option Files) (rose : Type 0) (name : List ℕ) (r : ManifestRefusal) (s : Stop) → IfSome known (λ files. manifest.Refuses files rose name r) → StopsFor name r s
     → StopsInOne known rose (folder name) s
@@ -114,6 +153,18 @@ folder_stops None rose name r s why is = tt
 folder_stops (Some files) rose name r s why is = folder_stop files rose name r s why is
 
 -- ---- one after another
+
+zip_more : {X Y : Type 0} (R : X → Y → Type 0) (front : List X) (ys : List Y) (x : X) (y : Y) → AllZip R front ys → R x y → AllZip R (front ++ x ∷ []) (ys ++ y ∷ [])
+zip_more R [] [] x y all one = (one, tt)
+zip_more R [] (other ∷ ys) x y all one = absurd all
+zip_more R (first ∷ front) [] x y all one = absurd all
+zip_more R (first ∷ front) (other ∷ ys) x y all one = (all.0, zip_more R front ys x y all.1 one)
+
+-- what ends one behind those that were read, ends all
+ends_behind : {X Y : Type 0} (R : X → Y → Type 0) (E : X → Type 0) (front : List X) (ys : List Y) (rest : List X) → AllZip R front ys → EndsAtOne R E rest → EndsAtOne R E (front ++ rest)
+ends_behind R E [] ys rest all ends = ends
+ends_behind R E (first ∷ front) [] rest all ends = absurd all
+ends_behind R E (first ∷ front) (y ∷ ys) rest all ends = inr (y, all.0, ends_behind R E front ys rest all.1 ends)
 
 pub record AreLoadedSoFar (known : Option Files) (installed : List Installed) (all : List Extension) (next : ℕ) : Type 0 where
   pub same : IfSome known (λ files. IsReadTo (Reads files) (map installed_seen installed) all (map installed_seen (drop next installed)))

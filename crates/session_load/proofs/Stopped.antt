@@ -1,6 +1,7 @@
 -- Why a command stops: from a part that is read to the whole.
-use Rattle.std.proofs.Common.{◌≡◌, ◌⊎◌, ℕ, List, [], ◌∷◌, ◌++◌, Option, Some, None, refl, sym, subst, inl, inr, ⊎_elim, string_bytes}
-use Rattle.std.specs.Prelude.{IfSome}
+use Rattle.std.proofs.Common.{◌≡◌, ◌⊎◌, ℕ, ◌+◌, ◌-◌, ◌^◌, ◌≤◌, List, arith, Option, Some, None, refl, sym, subst, inl, inr, ⊎_elim, string_bytes}
+use Rattle.std.specs.Prelude.{IfSome, min}
+use Rattle.dnr_base.specs.Faults.{Rose}
 use Rattle.std.specs.List.{AllZip}
 use Rattle.manifest_read.proofs.Sets.{ends_wider}
 use Rattle.load_spec.specs.Extensions.{HoldsSet, BreaksSet, RefusedFile, RefusesExtension}
@@ -111,3 +112,11 @@ stops_in_serving_wider known A B serving s wider why =
     known_map known (λ files. RefusesFile files A serving) (λ files. RefusesFile files B serving)
     (λ files. HasLongFileIn files serving) (λ files. HasLongFileIn files serving) s
     (λ files line r. file_wider files A B serving line wider r) (λ files long. long) why
+
+-- ---- counts of faults
+
+min_grows : (a b end : ℕ) → a ≤ b → min (a + 1) end ≤ min (b + 1) end
+min_grows a b end h = omega arith
+
+pub rose_since : (a b now : ℕ) → a ≤ b → Rose b now → Rose a now
+rose_since a b now before rose = omega (arith, min_grows a b (2 ^ 64 - 1) before, rose)

@@ -49,6 +49,7 @@ pub fn load_serving<F: Shelf, H: RegexHost>(
 }
 
 // Reads the extensions, one after another.
+#[tactic(auto, using(crate::proofs::Read::extensions_begin, crate::proofs::Read::extensions_go, crate::proofs::Read::extensions_end, crate::proofs::Stopped::rose_since))]
 fn load_extensions<F: Shelf, H: RegexHost>(
     alloc: Global,
     installed: &[Installed<'_>],
