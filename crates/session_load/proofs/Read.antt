@@ -1,10 +1,11 @@
 -- What was read, from the bytes of a file to what the file holds.
-use Rattle.std.proofs.Common.{◌≡◌, ◌⊎◌, ℕ, ◌+◌, ◌<◌, ◌≤◌, List, [], ◌∷◌, ◌++◌, length, drop, get_or, map, append_assoc, codes, true, Option, Some, None, Result, Ok, Err, refl, sym, ap, ◌∙◌, subst, inl, inr, arith, string_bytes}
+use Rattle.std.proofs.Common.{◌≡◌, ◌⊎◌, ℕ, zero, suc, ◌+◌, ◌<◌, ◌≤◌, List, [], ◌∷◌, ◌++◌, length, drop, get_or, map, append_assoc, codes, true, Option, Some, None, Result, Ok, Err, refl, sym, ap, ◌∙◌, subst, inl, inr, arith, string_bytes}
 use Rattle.std.specs.Prelude.{IfSome, IfErr}
 use Rattle.std.specs.List.{AllZip}
 use Rattle.std.proofs.lemmas.List.{drop_more, drop_all, append-nil}
 use Rattle.dnr_spec.specs.Suffixes.{SuffixRule, read_suffixes}
 use Rattle.dnr_words.specs.declared.options.Installed.{Installed}
+use Rattle.dnr_words.specs.declared.options.Installed.TheVariants.{Folder}
 use Rattle.dnr_words.specs.Seen.{installed_seen}
 use Rattle.abp_compile.specs.declared.report.CompileRefusal.{CompileRefusal}
 use Rattle.abp_compile.specs.declared.report.CompileRefusal.TheVariants.{TooManyRules, HostFault}
@@ -159,6 +160,16 @@ zip_more R [] [] x y all one = (one, tt)
 zip_more R [] (other ∷ ys) x y all one = absurd all
 zip_more R (first ∷ front) [] x y all one = absurd all
 zip_more R (first ∷ front) (other ∷ ys) x y all one = (all.0, zip_more R front ys x y all.1 one)
+
+-- what stands for one that is not there
+abbrev pub no_one : Installed
+no_one = Folder (record { ref_ptr = (0, 0); now = [] })
+
+-- an element that is there is the same whatever stands for one that is not
+pub get_or_again : {X : Type 0} (xs : List X) (n : ℕ) (d : X) → get_or xs n d ≡ get_or xs n (get_or xs n d)
+get_or_again [] n d = refl
+get_or_again (x ∷ xs) zero d = refl
+get_or_again (x ∷ xs) (suc n) d = get_or_again xs n d
 
 -- what ends one behind those that were read, ends all
 ends_behind : {X Y : Type 0} (R : X → Y → Type 0) (E : X → Type 0) (front : List X) (ys : List Y) (rest : List X) → AllZip R front ys → EndsAtOne R E rest → EndsAtOne R E (front ++ rest)
