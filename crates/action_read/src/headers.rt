@@ -40,7 +40,10 @@ pub(crate) fn read_changes(alloc: Global, action: &Value) -> Result<Action, Rule
     let response = changes_of(alloc, response)?;
     let request = read_ops(alloc, Direction::Request, request.as_slice())?;
     let response = read_ops(alloc, Direction::Response, response.as_slice())?;
-    Ok(Action::ModifyHeaders(Items::build(request), Items::build(response)))
+    match Action::modify_headers(alloc, Items::build(request), Items::build(response)) {
+        Ok(action) => Ok(action),
+        Err(_) => Err(RuleRefusal::NoMemory),
+    }
 }
 
 fn have_no_changes(request: Option<&Value>, response: Option<&Value>) -> bool

@@ -139,8 +139,8 @@ fn told_action(alloc: Global, action: &Action) -> Result<String, AllocError> {
         Action::Redirect(redirect) => told_redirect(alloc, redirect),
         Action::Allow => String::from_str(alloc, "allow"),
         Action::UpgradeScheme => String::from_str(alloc, "upgrade"),
-        Action::ModifyHeaders(request, response) => {
-            told_changes(alloc, request.as_slice(), response.as_slice())
+        Action::ModifyHeaders(ops) => {
+            told_changes(alloc, ops.request.as_slice(), ops.response.as_slice())
         }
         Action::AllowAllRequests => String::from_str(alloc, "allow all"),
     }

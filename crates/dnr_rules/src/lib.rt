@@ -6,12 +6,13 @@
 mod action;
 mod condition;
 mod parts;
+mod rest;
 mod rule;
 #[cfg(test)]
 mod tests;
 
-pub use action::Action;
+pub use action::{Action, HeaderOps};
 pub use condition::Condition;
-pub use parts::{ConditionParts, RuleParts};
+pub use parts::{ConditionParts, RareParts, RuleParts};
 pub use rule::Rule;
 pub use rule_spec::{HeaderCause, PlacedRefusal, RuleKind, RulePath, RuleRefusal};

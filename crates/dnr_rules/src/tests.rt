@@ -5,7 +5,7 @@ ghost use Rattle.dnr_base.specs.MethodSet.{methods_of};
 ghost use Rattle.dnr_spec.specs.UrlFilter.{pattern_of};
 ghost use Rattle.rule_spec.specs.IsRule.{AreDomains};
 
-use crate::{Action, Condition, ConditionParts, Rule, RuleParts};
+use crate::{Action, Condition, ConditionParts, RareParts, Rule, RuleParts};
 use dnr_base::{
     Copied, Direction, Items, Kind, KindSet, Method, MethodSet, NoMemory, Operation, Redirect, Text,
 };
@@ -31,8 +31,8 @@ fn threads_share_rules() {
 
 #[test]
 fn a_rule_is_small(rt: HostRuntime) {
-    assert_eq!(rt; size_of::<Action>(), 56);
-    assert_eq!(rt; size_of::<Rule>(), 296);
+    assert_eq!(rt; size_of::<Action>(), 16);
+    assert_eq!(rt; size_of::<Rule>(), 136);
 }
 
 fn text(alloc: Global, text: &str) -> Option<Text>
@@ -76,26 +76,44 @@ fn post_alone() -> MethodSet
     methods
 }
 
-// A rule with every field of a condition but `regexFilter`.
-fn whole_rule(alloc: Global) -> Option<Rule> {
+// A condition with every field but `regexFilter`.
+fn whole_condition(alloc: Global) -> Option<Condition> {
     let mut kinds = KindSet::empty();
     kinds.insert(Kind::Script);
     let mut not_methods = MethodSet::empty();
     not_methods.insert(Method::Head);
-    let condition = ConditionParts {
-        url_filter: Some(filter(alloc, "||host^")?),
+    let rare = RareParts {
         regex_filter: None,
+        not_initiators: domain(alloc, "not-from.test")?,
+        not_hosts: domain(alloc, "not-to.test")?,
+        tabs: Some(no_tab_and_seven(alloc)?),
+        not_tabs: Items::build(Vec::new(alloc)),
+    };
+    Some(Condition::build(ConditionParts {
+        url_filter: Some(filter(alloc, "||host^")?),
         case_sensitive: true,
         initiators: Some(domain(alloc, "from.test")?),
-        not_initiators: domain(alloc, "not-from.test")?,
         hosts: Some(domain(alloc, "to.test")?),
-        not_hosts: domain(alloc, "not-to.test")?,
         third_party: Some(false),
         kinds,
         methods: Some(post_alone()),
         not_methods,
-        tabs: Some(no_tab_and_seven(alloc)?),
-        not_tabs: Items::build(Vec::new(alloc)),
+        rare: rare.boxed(alloc).ok()?,
+    }))
+}
+
+// A rule with a filter and domains.
+fn filter_rule(alloc: Global) -> Option<Rule> {
+    let condition = ConditionParts {
+        url_filter: Some(filter(alloc, "||host^")?),
+        case_sensitive: true,
+        initiators: Some(domain(alloc, "from.test")?),
+        hosts: None,
+        third_party: None,
+        kinds: KindSet::all_but_main_frame(),
+        methods: None,
+        not_methods: MethodSet::empty(),
+        rare: None,
     };
     Some(Rule::build(RuleParts {
         id: 5,
@@ -113,13 +131,13 @@ fn covers(set: Option<&DomainSet>, host: &str) -> bool {
     }
 }
 
-// Whether these are the numbers and the filter of `whole_rule`.
-fn has_filter(rule: &Rule) -> bool {
-    let filter = match rule.condition().url_filter() {
+// Whether this is its filter.
+fn has_filter(condition: &Condition) -> bool {
+    let filter = match condition.url_filter() {
         Some(filter) => filter.text() == "||host^",
         None => false,
     };
-    filter && rule.condition().case_sensitive() && (rule.id(), rule.priority()) == (5, 3)
+    filter && condition.case_sensitive()
 }
 
 // Whether these are its domains.
@@ -147,18 +165,28 @@ fn has_tabs(condition: &Condition) -> bool {
         Some(tabs) => tabs.as_slice() == [-1, 7].as_slice(),
         None => false,
     };
-    tabs && condition.not_tabs().as_slice().is_empty()
+    tabs && condition.not_tabs().is_empty()
 }
 
 #[test]
-fn a_rule_and_its_copy_have_the_fields_given(rt: HostRuntime) -> Result<(), Fail> {
-    let rule = whole_rule(rt.alloc()).ok_or("a rule")?;
+fn a_condition_and_its_copy_have_the_fields_given(rt: HostRuntime) -> Result<(), Fail> {
+    let condition = whole_condition(rt.alloc()).ok_or("a condition")?;
+    let copy = condition.copy(rt.alloc())?;
+    for condition in [&condition, &copy] {
+        let fields = has_domains(condition) && has_sets(condition) && has_tabs(condition);
+        assert!(rt; fields && has_filter(condition), "its fields");
+        assert!(rt; condition.third_party() == Some(false), "its party");
+    }
+    Ok(())
+}
+
+#[test]
+fn a_rule_and_its_copy_have_the_numbers_given(rt: HostRuntime) -> Result<(), Fail> {
+    let rule = filter_rule(rt.alloc()).ok_or("a rule")?;
     let copy = rule.copied(rt.alloc())?;
     for rule in [&rule, &copy] {
-        let condition = rule.condition();
-        let fields = has_domains(condition) && has_sets(condition) && has_tabs(condition);
-        assert!(rt; fields && has_filter(rule), "its fields");
-        assert!(rt; condition.third_party() == Some(false), "its party");
+        assert!(rt; (rule.id(), rule.priority()) == (5, 3), "its numbers");
+        assert!(rt; has_filter(rule.condition()), "its filter");
         assert!(rt; !rule.uses_regex() && !rule.is_unsafe(), "its kind");
     }
     Ok(())
@@ -178,7 +206,7 @@ fn redirect(alloc: Global) -> Option<Action> {
 
 fn changes(alloc: Global) -> Option<Action> {
     let request = headers(alloc, "a")?;
-    Some(Action::ModifyHeaders(request, headers(alloc, "b")?))
+    Action::modify_headers(alloc, request, headers(alloc, "b")?).ok()
 }
 
 // Whether the action and its copy are unsafe.

@@ -1,4 +1,4 @@
-ghost use Rattle.std.specs.Prelude.{◌≡◌, IfOk, max};
+ghost use Rattle.std.specs.Prelude.{◌≡◌, OnOk, max};
 ghost use Rattle.generation.specs.Kept as spec;
 
 use crate::live::Live;
@@ -61,34 +61,31 @@ impl<'a> Kept<'a> {
     }
 
     // Takes in a candidate that gives this verdict.
-    fn add_deciding(self, live: Live<'a>, verb: Verb) -> Kept<'a>
-        ensures { result ≡ spec.with_deciding self.entry live.entry verb }
+    fn add_deciding(&mut self, live: Live<'a>, verb: Verb)
+        ensures { self.new ≡ spec.with_deciding self.old live.entry verb }
     {
-        let allowed = greater(live.allowed_priority(), self.allowed);
+        self.allowed = greater(live.allowed_priority(), self.allowed);
         let candidate = live.candidate(verb);
-        Kept {
-            name: self.name,
-            age: self.age,
-            best: better(self.best, (live, candidate)),
-            changing: self.changing,
-            allowed,
-        }
+        self.best = better(self.best.take(), (live, candidate));
     }
 
     // Takes in a candidate that changes headers.
-    fn add_changing(mut self, live: Live<'a>) -> Result<Kept<'a>, NoMemory>
-        ensures { IfOk result (λ kept. kept ≡ spec.with_changing self.entry live.entry) }
+    fn add_changing(&mut self, live: Live<'a>) -> Result<(), NoMemory>
+        ensures { OnOk result (self.new ≡ spec.with_changing self.old live.entry) }
     {
         self.changing.push(live)?;
-        Ok(self)
+        Ok(())
     }
 
     // Takes in a candidate.
-    pub(crate) fn add(self, live: Live<'a>) -> Result<Kept<'a>, NoMemory>
-        ensures { IfOk result (λ kept. kept ≡ spec.with_candidate self.entry live.entry) }
+    pub(crate) fn add(&mut self, live: Live<'a>) -> Result<(), NoMemory>
+        ensures { OnOk result (self.new ≡ spec.with_candidate self.old live.entry) }
     {
         match live.verb() {
-            Some(verb) => Ok(self.add_deciding(live, verb)),
+            Some(verb) => {
+                self.add_deciding(live, verb);
+                Ok(())
+            }
             None => self.add_changing(live),
         }
     }

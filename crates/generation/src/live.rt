@@ -35,7 +35,7 @@ fn verb_of(action: &Action) -> Option<Verb>
         Action::Redirect(_) => Some(Verb::Redirect),
         Action::Allow => Some(Verb::Allow),
         Action::UpgradeScheme => Some(Verb::UpgradeScheme),
-        Action::ModifyHeaders(_, _) => None,
+        Action::ModifyHeaders(_) => None,
         Action::AllowAllRequests => Some(Verb::AllowAllRequests),
     }
 }

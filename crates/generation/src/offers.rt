@@ -45,7 +45,7 @@ fn add_live<'a>(
 ) -> Result<Vec<Offer<'a>>, NoMemory>
     ensures { IfOk result (λ new. new.items ≡ offers.entry.items ++ choice.offers_by_live kept.now live.now) }
 {
-    let Action::ModifyHeaders(request, response) = live.rule.action() else {
+    let Action::ModifyHeaders(ops) = live.rule.action() else {
         return Ok(offers);
     };
     let (age, name, set, id) = (kept.age, kept.name, live.set, live.rule.id());
@@ -56,7 +56,7 @@ fn add_live<'a>(
         set,
         id,
         Direction::Request,
-        request.as_slice(),
+        ops.request.as_slice(),
     )?;
     add_ops(
         offers,
@@ -65,7 +65,7 @@ fn add_live<'a>(
         set,
         id,
         Direction::Response,
-        response.as_slice(),
+        ops.response.as_slice(),
     )
 }
 

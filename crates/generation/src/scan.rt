@@ -1,4 +1,4 @@
-ghost use Rattle.std.specs.Prelude.{◌≡◌, ◌≤◌, [], ◌∷◌, length, option_to_list, IsSome, IfOk, IfSome, IsErrOf};
+ghost use Rattle.std.specs.Prelude.{◌≡◌, ◌≤◌, [], ◌∷◌, length, option_to_list, IsSome, OnOk, IfOk, IfSome, IsErrOf};
 ghost use Rattle.dnr_base.specs.Faults.{HasCauseOf};
 ghost use Rattle.rule_match.specs.Answers.{IsCalm};
 ghost use Rattle.rule_spec.specs.Scan.{is_candidate};
@@ -101,24 +101,25 @@ impl<'r> Scan<'r> {
     // Takes the rule at a place of a block in, if it is in force and a candidate.
     fn take_at<'a, H: RegexHost, L: Ledger>(
         &self,
-        kept: Kept<'a>,
+        kept: &mut Kept<'a>,
         block: &Block<'a>,
         place: usize,
         rule: &'a Rule,
         host: &mut H,
         steps: &mut Steps<L>,
-    ) -> Result<Kept<'a>, DecideRefusal>
-        ensures kept { IfOk result (λ new. new ≡ spec.with_some self.now.suffixes self.now.request kept.entry (live_in block.now place rule.now)) }
-        ensures ends { Ends (IsPattern kept.entry.name (option_to_list (live_in block.now place rule.now))) (H.faults host.old) (H.faults host.new) result }
+    ) -> Result<(), DecideRefusal>
+        ensures kept { OnOk result (kept.new ≡ spec.with_some self.now.suffixes self.now.request kept.old (live_in block.now place rule.now)) }
+        ensures ends { Ends (IsPattern kept.old.name (option_to_list (live_in block.now place rule.now))) (H.faults host.old) (H.faults host.new) result }
     {
         if block.is_off(rule) {
-            return Ok(kept);
+            return Ok(());
         }
         match self.is_candidate(kept.name, rule, host, steps) {
-            Ok(true) => kept
-                .add(block.live(place, rule))
-                .map_err(|_| DecideRefusal::NoMemory),
-            Ok(false) => Ok(kept),
+            Ok(true) => match kept.add(block.live(place, rule)) {
+                Ok(()) => Ok(()),
+                Err(_) => Err(DecideRefusal::NoMemory),
+            },
+            Ok(false) => Ok(()),
             Err(refusal) => {
                 let live = block.live(place, rule);
                 Err(refusal_at(self.alloc, refusal, kept.name, &live))
@@ -139,8 +140,8 @@ impl<'r> Scan<'r> {
     {
         let mut kept = kept;
         for (place, rule) in block.rules.iter().enumerate() {
-            match self.take_at(kept, block, place, rule, host, steps) {
-                Ok(more) => kept = more,
+            match self.take_at(&mut kept, block, place, rule, host, steps) {
+                Ok(()) => {}
                 Err(refusal) => return Err(refusal),
             }
         }

@@ -23,9 +23,6 @@ read_again text filter h =
     let same = same_text (length text == 0) (nat_lt max_pattern (length text)) (starts_with nat_eq text (codes "||*")) (list_all is_ascii text) text filter h in
     subst (λ t. pattern_of t ≡ Ok filter) same h
 
-pub no_domains : AreDomains []
-no_domains = ([], refl)
-
 -- ---- texts in ASCII alone
 
 and_false : (a b : Bool) → b ≡ false → (a && b) ≡ false

@@ -33,10 +33,10 @@ pub(crate) fn is_not_by(methods: MethodSet, scheme: Scheme, method: Method) -> b
     !has_methods(scheme) || !methods.contains(method)
 }
 
-pub(crate) fn has_tab(tabs: &Items<i32>, tab: i32) -> bool
+pub(crate) fn has_tab(tabs: &[i32], tab: i32) -> bool
     ensures { result ≡ spec.has_tab tabs.now tab }
 {
-    tabs.as_slice().iter().any(|other| tab == *other)
+    tabs.iter().any(|other| tab == *other)
 }
 
 pub(crate) fn is_in(tabs: Option<&Items<i32>>, tab: i32) -> bool
@@ -44,7 +44,7 @@ pub(crate) fn is_in(tabs: Option<&Items<i32>>, tab: i32) -> bool
 {
     match tabs {
         None => true,
-        Some(tabs) => has_tab(tabs, tab),
+        Some(tabs) => has_tab(tabs.as_slice(), tab),
     }
 }
 

@@ -64,44 +64,47 @@ impl<'a> PreparedPart<'a> {
         PreparedPart { part, list, third }
     }
 
-    // Whether all of the condition holds but for its pattern: cheap tests first.
+    // Whether all of the condition holds but for its pattern. Cheap tests come first, and the urlFilter last.
     #[tactic(auto, using(crate::proofs::PatternLast::holds_by_groups))]
     fn holds_but_pattern(&self, condition: &Condition) -> bool
         ensures { result
             ≡ holds_on self.now.suffixes (without_pattern condition.now) self.now.part }
     {
         self.holds_by_type(condition)
-            && self.holds_by_url(condition)
-            && self.holds_by_initiator(condition)
+            && self.holds_by_domains(condition)
+            && self.holds_by_rest(condition)
+            && fits(
+                condition.url_filter(),
+                !condition.case_sensitive(),
+                self.part.view,
+            )
     }
 
     fn holds_by_type(&self, condition: &Condition) -> bool
-        ensures { result ≡ groups.holds_by_type condition.now self.now.part }
+        ensures { result ≡ groups.holds_by_type self.now.suffixes condition.now self.now.part }
     {
         let part = &self.part;
         condition.kinds().contains(part.kind)
             && is_by(condition.methods(), part.view.scheme(), part.method)
             && is_not_by(condition.not_methods(), part.view.scheme(), part.method)
+            && is_party(condition.third_party(), self.third)
+    }
+
+    fn holds_by_domains(&self, condition: &Condition) -> bool
+        ensures { result ≡ groups.holds_by_domains condition.now self.now.part }
+    {
+        is_among(condition.hosts(), self.part.view)
+            && is_from(condition.initiators(), self.part.initiator)
+    }
+
+    fn holds_by_rest(&self, condition: &Condition) -> bool
+        ensures { result ≡ groups.holds_by_rest condition.now self.now.part }
+    {
+        let part = &self.part;
+        is_not_among(condition.not_hosts(), part.view)
+            && is_not_from(condition.not_initiators(), part.initiator)
             && is_in(condition.tabs(), part.tab)
             && !has_tab(condition.not_tabs(), part.tab)
-    }
-
-    fn holds_by_url(&self, condition: &Condition) -> bool
-        ensures { result ≡ groups.holds_by_url condition.now self.now.part.view }
-    {
-        let view = self.part.view;
-        is_among(condition.hosts(), view)
-            && is_not_among(condition.not_hosts(), view)
-            && fits(condition.url_filter(), !condition.case_sensitive(), view)
-    }
-
-    fn holds_by_initiator(&self, condition: &Condition) -> bool
-        ensures { result ≡ groups.holds_by_initiator self.now.suffixes condition.now self.now.part }
-    {
-        let initiator = self.part.initiator;
-        is_from(condition.initiators(), initiator)
-            && is_not_from(condition.not_initiators(), initiator)
-            && is_party(condition.third_party(), self.third)
     }
 
     // Whether a pattern has a match in the URL.

@@ -11,7 +11,7 @@ ghost use Rattle.dnr_rules.specs.Seen.{condition_seen};
 
 use crate::{MatchRefusal, Reach, matches, plain_matches, plain_reaches, reaches};
 use dnr_base::{Frame, Items, Kind, KindSet, Method, MethodSet, Request, Steps, Text, View};
-use dnr_rules::{Action, ConditionParts, Rule, RuleParts};
+use dnr_rules::{Action, ConditionParts, RareParts, Rule, RuleParts};
 use domain_set::DomainSet;
 use regex_host::{ListHost, PackHost, RegexHost};
 use std::alloc::Global;
@@ -22,14 +22,6 @@ use suffix_list::SuffixList;
 use url_filter::Pattern;
 
 // ---- rules
-
-// The set of no domain.
-#[tactic(auto, using(crate::proofs::Tested::no_domains))]
-fn no_domains() -> DomainSet
-    ensures { AreDomains result }
-{
-    DomainSet::empty()
-}
 
 // The set of a domain.
 fn domain(alloc: Global, entry: &str) -> Option<DomainSet>
@@ -52,26 +44,12 @@ fn filter(alloc: Global, text: &str) -> Option<Pattern>
 }
 
 // A condition that holds on all types but `main_frame`.
-fn condition(alloc: Global) -> ConditionParts
+fn condition() -> ConditionParts
     ensures whole { IsCondition (condition_seen result) }
     ensures url_filter { result.url_filter ≡ None }
-    ensures regex_filter { result.regex_filter ≡ None }
+    ensures rare { result.rare ≡ None }
 {
-    ConditionParts {
-        url_filter: None,
-        regex_filter: None,
-        case_sensitive: false,
-        initiators: None,
-        not_initiators: no_domains(),
-        hosts: None,
-        not_hosts: no_domains(),
-        third_party: None,
-        kinds: KindSet::all_but_main_frame(),
-        methods: None,
-        not_methods: MethodSet::empty(),
-        tabs: None,
-        not_tabs: Items::build(Vec::new(alloc)),
-    }
+    ConditionParts::of_kinds(KindSet::all_but_main_frame())
 }
 
 fn block(condition: ConditionParts) -> Rule
@@ -87,9 +65,11 @@ fn block(condition: ConditionParts) -> Rule
 }
 
 fn on_domain(alloc: Global, entry: &str, other: &str) -> Option<Rule> {
-    let mut condition = condition(alloc);
+    let mut condition = condition();
     condition.hosts = Some(domain(alloc, entry)?);
-    condition.not_hosts = domain(alloc, other)?;
+    let mut rare = RareParts::none(alloc);
+    rare.not_hosts = domain(alloc, other)?;
+    condition.rare = rare.boxed(alloc).ok()?;
     Some(block(condition))
 }
 
@@ -101,26 +81,26 @@ fn get_alone() -> MethodSet
     methods
 }
 
-fn by_get(alloc: Global) -> Rule {
-    let mut condition = condition(alloc);
+fn by_get() -> Rule {
+    let mut condition = condition();
     condition.methods = Some(get_alone());
     block(condition)
 }
 
-fn not_by_get(alloc: Global) -> Rule {
-    let mut condition = condition(alloc);
+fn not_by_get() -> Rule {
+    let mut condition = condition();
     condition.not_methods = get_alone();
     block(condition)
 }
 
-fn of_party(alloc: Global, third: bool) -> Rule {
-    let mut condition = condition(alloc);
+fn of_party(third: bool) -> Rule {
+    let mut condition = condition();
     condition.third_party = Some(third);
     block(condition)
 }
 
 fn from_domain(alloc: Global, entry: &str) -> Option<Rule> {
-    let mut condition = condition(alloc);
+    let mut condition = condition();
     condition.initiators = Some(domain(alloc, entry)?);
     Some(block(condition))
 }
@@ -135,7 +115,7 @@ fn pages() -> KindSet
 
 // An `allowAllRequests` for pages.
 fn exempting(alloc: Global, pattern: &str) -> Option<Rule> {
-    let mut condition = condition(alloc);
+    let mut condition = condition();
     condition.url_filter = Some(filter(alloc, pattern)?);
     condition.kinds = pages();
     Some(Rule::build(RuleParts {
@@ -174,8 +154,10 @@ fn regex(alloc: Global, text: &str) -> Option<Text>
 }
 
 fn on_match(alloc: Global, pattern: &str) -> Option<Rule> {
-    let mut condition = condition(alloc);
-    condition.regex_filter = Some(regex(alloc, pattern)?);
+    let mut condition = condition();
+    let mut rare = RareParts::none(alloc);
+    rare.regex_filter = Some(regex(alloc, pattern)?);
+    condition.rare = rare.boxed(alloc).ok()?;
     Some(block(condition))
 }
 
@@ -329,11 +311,11 @@ fn a_web_socket_has_no_method(rt: HostRuntime) {
     let alloc = rt.alloc();
     for (url, given, excluded) in [("ws://a.com/", false, true), ("http://a.com/", true, false)] {
         assert!(rt;
-            holds(alloc, &by_get(alloc), url, "") == Some(given),
+            holds(alloc, &by_get(), url, "") == Some(given),
             "{url}"
         );
         assert!(rt;
-            holds(alloc, &not_by_get(alloc), url, "") == Some(excluded),
+            holds(alloc, &not_by_get(), url, "") == Some(excluded),
             "{url}"
         );
     }
@@ -349,7 +331,7 @@ fn who_asks_decides(rt: HostRuntime) -> Result<(), Fail> {
         ("b.org", true, false),
         ("", true, false),
     ] {
-        let (other, own) = (of_party(alloc, true), of_party(alloc, false));
+        let (other, own) = (of_party(true), of_party(false));
         assert!(rt;
             holds(alloc, &other, url, initiator) == Some(third),
             "{initiator}"

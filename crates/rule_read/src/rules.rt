@@ -22,7 +22,7 @@ use crate::frames::test_frames;
 use crate::numbers::{Numbers, id_of, read_numbers};
 use action_read::read_action;
 use dnr_base::{Items, MethodSet};
-use dnr_rules::{ConditionParts, PlacedRefusal, Rule, RuleKind, RuleParts, RuleRefusal};
+use dnr_rules::{ConditionParts, PlacedRefusal, RareParts, Rule, RuleKind, RuleParts, RuleRefusal};
 use regex_host::RegexHost;
 use rule_fields::{Fields, read_fields};
 use rule_laws::rules_keep_their_form;
@@ -82,11 +82,12 @@ fn read_among<H: RegexHost>(
     test_frames(action, &fields)?;
     test_tabs(kind, &fields)?;
     let action = read_action(alloc, action, filters.groups)?;
+    let condition = condition_of(alloc, fields, filters, lists)?;
     rules_keep_their_form();
     Ok(Rule::build(RuleParts {
         id: numbers.id,
         priority: numbers.priority,
-        condition: condition_of(alloc, fields, filters, lists),
+        condition,
         action,
     }))
 }
@@ -97,32 +98,39 @@ fn condition_of(
     fields: Fields<'_>,
     filters: Filters,
     lists: DomainLists,
-) -> ConditionParts
+) -> Result<ConditionParts, RuleRefusal>
     requires url_filter { filters.url_filter ≡ option_copied fields.url_filter }
     requires regex_filter { filters.regex_filter ≡ option_copied fields.regex_filter }
-    ensures { condition_seen result
-        ≡ spec.condition_of (fields_seen fields.entry) (lists_seen lists) }
+    ensures ok { IfOk result (λ condition. condition_seen condition
+        ≡ spec.condition_of (fields_seen fields.entry) (lists_seen lists)) }
+    ensures refused { IfErr result (λ refusal. refusal ≡ RuleRefusal.NoMemory) }
 {
     let Filters {
         url_filter,
         regex_filter,
         groups: _,
     } = filters;
-    ConditionParts {
-        url_filter,
+    let rare = RareParts {
         regex_filter,
+        not_initiators: lists.not_initiators,
+        not_hosts: lists.not_hosts,
+        tabs: fields.tabs,
+        not_tabs: tabs_or_none(alloc, fields.not_tabs),
+    };
+    let Ok(rare) = rare.boxed(alloc) else {
+        return Err(RuleRefusal::NoMemory);
+    };
+    Ok(ConditionParts {
+        url_filter,
         case_sensitive: fields.case_sensitive.unwrap_or(false),
         initiators: lists.initiators,
-        not_initiators: lists.not_initiators,
         hosts: lists.hosts,
-        not_hosts: lists.not_hosts,
         third_party: fields.third_party,
         kinds: kinds_in(fields.kinds, fields.not_kinds),
         methods: fields.methods,
         not_methods: methods_or_none(fields.not_methods),
-        tabs: fields.tabs,
-        not_tabs: tabs_or_none(alloc, fields.not_tabs),
-    }
+        rare,
+    })
 }
 
 fn methods_or_none(methods: Option<MethodSet>) -> MethodSet

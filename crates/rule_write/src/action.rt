@@ -31,7 +31,7 @@ fn type_name(action: &Action) -> &'static str
         Action::Redirect(_) => "redirect",
         Action::Allow => "allow",
         Action::UpgradeScheme => "upgradeScheme",
-        Action::ModifyHeaders(_, _) => "modifyHeaders",
+        Action::ModifyHeaders(_) => "modifyHeaders",
         Action::AllowAllRequests => "allowAllRequests",
     }
 }
@@ -50,10 +50,10 @@ fn put_target(
             let target = redirect_value(alloc, target)?;
             put(alloc, members, "redirect", Some(target))
         }
-        Action::ModifyHeaders(request, response) => {
-            let request = op_values(alloc, request.as_slice())?;
+        Action::ModifyHeaders(ops) => {
+            let request = op_values(alloc, ops.request.as_slice())?;
             put(alloc, members, "requestHeaders", unless_empty(request))?;
-            let response = op_values(alloc, response.as_slice())?;
+            let response = op_values(alloc, ops.response.as_slice())?;
             put(alloc, members, "responseHeaders", unless_empty(response))
         }
         _ => Ok(()),

@@ -213,7 +213,7 @@ fn put_tabs(
 {
     let tabs = given_tabs(alloc, condition.tabs())?;
     put(alloc, members, "tabIds", tabs)?;
-    let excluded = tab_values(alloc, condition.not_tabs().as_slice())?;
+    let excluded = tab_values(alloc, condition.not_tabs())?;
     put(alloc, members, "excludedTabIds", unless_empty(excluded))
 }
 

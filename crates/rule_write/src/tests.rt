@@ -5,7 +5,7 @@ ghost use Rattle.rule_spec.specs.IsRule.{AreDomains};
 
 use crate::{Rule, write_rules};
 use dnr_base::{Items, Kind, KindSet, Method, MethodSet, Text};
-use dnr_rules::{Action, ConditionParts, RuleParts};
+use dnr_rules::{Action, ConditionParts, RareParts, RuleParts};
 use domain_set::DomainSet;
 use std::alloc::Global;
 use std::test::Fail;
@@ -26,21 +26,8 @@ fn frames() -> KindSet {
 }
 
 fn page_rule(alloc: Global) -> Option<Rule> {
-    let condition = ConditionParts {
-        url_filter: Some(filter(alloc, "||a.com^")?),
-        regex_filter: None,
-        case_sensitive: false,
-        initiators: None,
-        not_initiators: DomainSet::empty(),
-        hosts: None,
-        not_hosts: DomainSet::empty(),
-        third_party: None,
-        kinds: frames(),
-        methods: None,
-        not_methods: MethodSet::empty(),
-        tabs: None,
-        not_tabs: Items::build(Vec::new(alloc)),
-    };
+    let mut condition = ConditionParts::of_kinds(frames());
+    condition.url_filter = Some(filter(alloc, "||a.com^")?);
     Some(Rule::build(RuleParts {
         id: 1,
         priority: 3,
@@ -85,20 +72,18 @@ fn post_alone() -> MethodSet {
 }
 
 fn list_rule(alloc: Global) -> Option<Rule> {
+    let mut rare = RareParts::none(alloc);
+    rare.not_tabs = two_tabs(alloc)?;
     let condition = ConditionParts {
         url_filter: None,
-        regex_filter: None,
         case_sensitive: true,
         initiators: Some(two_domains(alloc)?),
-        not_initiators: DomainSet::empty(),
         hosts: None,
-        not_hosts: DomainSet::empty(),
         third_party: Some(true),
         kinds: KindSet::all_but_main_frame(),
         methods: None,
         not_methods: post_alone(),
-        tabs: None,
-        not_tabs: two_tabs(alloc)?,
+        rare: rare.boxed(alloc).ok()?,
     };
     Some(Rule::build(RuleParts {
         id: 2,

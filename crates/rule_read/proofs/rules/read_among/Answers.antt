@@ -149,9 +149,9 @@ build-requires g c =
     let framed = frames_pass is_taken d n f a begun c.get-action.ensures listed c.in_ok-test_frames.ensures.ok in
     let tabbed = tabs_pass c.args.kind is_taken d n f begun framed c.in_ok-test_tabs.ensures.ok in
     let groups = c.in_ok-filters.filters.groups in
-    c.rules_keep_their_form.ensures c.args.kind is_taken d (rule_of n.id n.priority (condition_seen c.condition_of.result) c.in_ok-action.action)
-    (rule_is c.args.kind is_taken d n f lists groups a (condition_seen c.condition_of.result) (action_seen c.in_ok-action.action) begun c.in_ok-lists.ensures.ok c.in_ok-filters.ensures.groups
-    c.get-action.ensures tabbed c.in_ok-action.ensures.ok c.condition_of.ensures)
+    c.rules_keep_their_form.ensures c.args.kind is_taken d (rule_of n.id n.priority (condition_seen c.in_ok-condition.condition) c.in_ok-action.action)
+    (rule_is c.args.kind is_taken d n f lists groups a (condition_seen c.in_ok-condition.condition) (action_seen c.in_ok-action.action) begun c.in_ok-lists.ensures.ok c.in_ok-filters.ensures.groups
+    c.get-action.ensures tabbed c.in_ok-action.ensures.ok c.in_ok-condition.ensures.ok)
 
 pub returns-clause-ok : goal.returns-clause-ok
 returns-clause-ok g c =
@@ -169,8 +169,8 @@ returns-clause-ok g c =
     let framed = frames_pass is_taken d n f a begun c.get-action.ensures listed c.in_ok-test_frames.ensures.ok in
     let tabbed = tabs_pass c.args.kind is_taken d n f begun framed c.in_ok-test_tabs.ensures.ok in
     let groups = c.in_ok-filters.filters.groups in
-    rule_is c.args.kind is_taken d n f lists groups a (condition_seen c.condition_of.result) (action_seen c.in_ok-action.action) begun c.in_ok-lists.ensures.ok c.in_ok-filters.ensures.groups
-    c.get-action.ensures tabbed c.in_ok-action.ensures.ok c.condition_of.ensures ∙ ap Ok (sym c.build.ensures)
+    rule_is c.args.kind is_taken d n f lists groups a (condition_seen c.in_ok-condition.condition) (action_seen c.in_ok-action.action) begun c.in_ok-lists.ensures.ok c.in_ok-filters.ensures.groups
+    c.get-action.ensures tabbed c.in_ok-action.ensures.ok c.in_ok-condition.ensures.ok ∙ ap Ok (sym c.build.ensures)
 
 pub returns-in_err-numbers-clause-later : goal.returns-in_err-numbers-clause-later
 returns-in_err-numbers-clause-later g c = omega arith

@@ -15,7 +15,7 @@ loop-place-preserved g c =
     let test = live_at block.rank block.set.now block.disabled.now in
     let rest : List Live = filter_map test (with_lines (drop place block.rules.now) (drop place block.origins.now)) in
     let more : List Live = filter_map test (with_lines (drop (place + 1) block.rules.now) (drop (place + 1) block.origins.now)) in (
-      walked_more c.args.self.now.suffixes c.args.self.now.request c.args.kept (lives_in block) (option_to_list live) rest more c.loop-place.kept c.in-Ok.more c.loop-place.invariant.0
+      walked_more c.args.self.now.suffixes c.args.self.now.request c.args.kept (lives_in block) (option_to_list live) rest more c.loop-place.kept c.take_at.new.kept c.loop-place.invariant.0
           (block_step test block.rules.now block.origins.now place c.rule-item.result (omega arith) c.rule-item.is ∙ cons_is live more)
           (c.in-Ok.ensures.kept ∙ some_is c.args.self.now.suffixes c.args.self.now.request c.loop-place.kept live),
       c.in-Ok.ensures.ends ∙ c.loop-place.invariant.1,
