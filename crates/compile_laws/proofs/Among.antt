@@ -1,19 +1,18 @@
 -- The initiators of a filter's rules are those of the filter.
-use Rattle.std.proofs.Common.{◌≡◌, ℕ, ◌+◌, ◌≤◌, ◌<◌, List, [], ◌∷◌, ◌++◌, length, map, Bool, true, false, cond, not, ◌||◌, ◌&&◌, Option, Some, None, ◌⊎◌, inl, inr, refl, sym, ap, ◌∙◌, subst, ⊎_elim, arith}
-use Rattle.std.specs.Prelude.{filter, nat_le}
-use Rattle.std.specs.List.{list_all, list_any, AllByRecursion}
+use Rattle.std.proofs.Common.{◌≡◌, ℕ, ◌≤◌, ◌<◌, List, [], ◌∷◌, ◌++◌, length, map, Bool, true, false, not, ◌||◌, ◌&&◌, Option, Some, ◌⊎◌, inl, inr, sym, ap, ◌∙◌, subst, ⊎_elim, arith}
+use Rattle.std.specs.Prelude.{filter}
+use Rattle.std.specs.List.{list_any}
 use Rattle.std.specs.Str.{bytes_eq}
-use Rattle.std.proofs.lemmas.Bool.{and_parts, and_from, and_left, and_right, or_left, or_right, not_from_true, not_from_false, not-true, le-leb, leb-true, cases_lt, true≢false, false_from_ne_true}
-use Rattle.std.proofs.lemmas.Bool.Decides.{nat_tests, same_from_decides}
+use Rattle.std.proofs.lemmas.Bool.{and_parts, and_from, or_left, not_from_false, not-true, cases_lt, true≢false, false_from_ne_true}
 use Rattle.std.proofs.lemmas.Slice.Eq.{bytes_eq-Decides}
 use Rattle.dnr_spec.specs.Domains.{is_domain, covers, covers_some}
 use Rattle.rule_spec.specs.Holds.{is_from, is_not_from}
 use Rattle.list_spec.specs.declared.domain_entry.DomainEntry.{DomainEntry}
-use Rattle.list_spec.specs.Entries.{is_excluded, has_conflict}
-use Rattle.list_spec.specs.Says.{covering, is_longest, lists_none, longest_is_listed, is_for}
-use Rattle.compile_spec.specs.Initiators.{Initiators, each_once, listed_in, excluded_in, lies_under, lies_under_some, those_under, nested, not_nested, list_if_any, in_one, shared, single, in_several, initiators_of}
-use Rattle.compile_laws.proofs.Lists.{Has, In, has_passing, any_passes, true_or_false, has_in, in_has, each_in, in_each, any_in, any_out, none_in, none_out, in_filtered, in_unfiltered, has_mapped, has_unmapped, has_filtered, has_unfiltered, has_weaker, has_left, has_right, has_either, each_passes, all_pass}
-use Rattle.compile_laws.proofs.Covered.{Covered, reads_covers, is_covered, same_length, is_longer, shorter_covers}
+use Rattle.list_spec.specs.Entries.{is_excluded}
+use Rattle.compile_spec.specs.Initiators.{Initiators, each_once, listed_in, excluded_in, lies_under, lies_under_some, those_under, nested, not_nested, in_one, shared, single, in_several}
+use Rattle.compile_laws.proofs.Bools.{or_nothing}
+use Rattle.compile_laws.proofs.Lists.{Has, In, has_passing, any_passes, true_or_false, has_in, in_has, each_in, any_in, any_out, none_in, none_out, in_filtered, in_unfiltered, has_mapped, has_unmapped, has_unfiltered, has_weaker, has_left, has_right, has_either}
+use Rattle.compile_laws.proofs.Covered.{reads_covers, is_covered, same_length, is_longer, shorter_covers}
 use Rattle.compile_laws.proofs.Supported.{IsEntry, AreEntries}
 
 -- ---- each domain once
@@ -117,10 +116,6 @@ admits host initiators = is_from initiators.among host && is_not_from initiators
 
 abbrev pub admits_host : List ℕ → Initiators → Bool
 admits_host host initiators = admits (Some host) initiators
-
-or_nothing : (b : Bool) → (b || false) ≡ true → b ≡ true
-or_nothing true h = refl
-or_nothing false h = h
 
 any_left : {X : Type 0} (test : X → Bool) (xs ys : List X) → list_any test xs ≡ true → list_any test (xs ++ ys) ≡ true
 any_left test xs ys h = any_passes test (xs ++ ys) (has_left (λ x. test x ≡ true) xs ys (has_passing test xs h))

@@ -1,12 +1,12 @@
 -- What an entry of a list of domains covers: of two domains that cover one host, the longer lies under the shorter.
-use Rattle.std.proofs.Common.{◌≡◌, ℕ, zero, suc, ◌+◌, ◌-◌, ◌≤◌, ◌<◌, List, [], ◌∷◌, ◌++◌, length, take, drop, get_or, Bool, true, false, cond, not, ◌||◌, ◌&&◌, ◌==◌, ◌⊎◌, inl, inr, refl, sym, ap, ◌∙◌, subst, ⊎_elim, arith, append_assoc, length-append}
+use Rattle.std.proofs.Common.{◌≡◌, ℕ, zero, suc, ◌+◌, ◌-◌, ◌≤◌, ◌<◌, List, [], ◌∷◌, ◌++◌, length, take, drop, get_or, Bool, true, false, not, ◌||◌, ◌&&◌, ◌==◌, ◌⊎◌, inl, inr, refl, sym, ap, ◌∙◌, subst, ⊎_elim, arith, append_assoc, length-append}
 use Rattle.std.specs.Prelude.{codes, nat_lt, nat_le, nat_eq, slice_index, slice_range}
-use Rattle.std.specs.List.{list_all, starts_with, ends_with, slice_split, onto_first}
+use Rattle.std.specs.List.{list_all, starts_with, ends_with, onto_first}
 use Rattle.std.specs.Str.{bytes_eq}
 use Rattle.std.proofs.lemmas.Bool.{and_parts, and_from, or_cases, or_left, or_right, or_from, or_parts, not-true, not_from_false, eqb-true, true≢false}
 use Rattle.std.proofs.lemmas.Bool.Decides.{nat_tests}
 use Rattle.std.proofs.lemmas.Slice.Eq.{bytes_eq-Decides}
-use Rattle.dnr_spec.specs.Hosts.{labels_of, is_ip_host, is_number, ends_in_number}
+use Rattle.dnr_spec.specs.Hosts.{labels_of, is_ip_host, ends_in_number}
 use Rattle.dnr_spec.specs.Domains.{is_label_byte, is_label, is_name, is_address_byte, is_address, is_domain, covers}
 use Rattle.compile_laws.proofs.Lists.{true_or_false}
 

@@ -1,3 +1,4 @@
+pub mod Bools
 pub mod Lists
 pub mod Supported
 pub mod Covered
@@ -5,4 +6,8 @@ pub mod Among
 pub mod Meant
 pub mod Matching
 pub mod Origins
+pub mod Reached
+pub mod Said
+pub mod Scanned
+pub mod Reports
 pub mod Rules

@@ -1,8 +1,8 @@
 -- What holds of each element of a list, and of some element, by recursion on the list.
-use Rattle.std.proofs.Common.{◌≡◌, ℕ, List, [], ◌∷◌, ◌++◌, map, Bool, true, false, cond, not, ◌||◌, ◌&&◌, Option, Some, None, ◌⊎◌, inl, inr, refl, sym, ap, ◌∙◌, subst, ⊎_elim}
+use Rattle.std.proofs.Common.{◌≡◌, List, [], ◌∷◌, ◌++◌, map, Bool, true, false, cond, ◌||◌, ◌⊎◌, inl, inr, refl, sym, ap, ◌∙◌, subst, ⊎_elim}
 use Rattle.std.specs.Prelude.{filter}
 use Rattle.std.specs.List.{list_any, list_all, flat_map, AllByRecursion}
-use Rattle.std.proofs.lemmas.Bool.{and_parts, and_from, or_cases, or_left, or_right, not_from_true, not_from_false}
+use Rattle.std.proofs.lemmas.Bool.{and_parts, and_from, or_cases, or_parts, or_left, or_right}
 
 -- P holds of some element
 abbrev pub Has : {X : Type 0} → (X → Type 0) → List X → Type 0
@@ -12,10 +12,6 @@ Has P (x ∷ xs) = P x ⊎ Has P xs
 pub true_or_false : (b : Bool) → (b ≡ true) ⊎ (b ≡ false)
 true_or_false true = inl refl
 true_or_false false = inr refl
-
-none_of_two : (a b : Bool) → (a || b) ≡ false → (a ≡ false) × (b ≡ false)
-none_of_two true b h = cc
-none_of_two false b h = (refl, h)
 
 each_kept : {X : Type 0} (P : X → Type 0) (b : Bool) (x : X) (xs : List X) → P x → AllByRecursion P xs → AllByRecursion P (cond b (x ∷ xs) xs)
 each_kept P true x xs h e = (h, e)
@@ -57,7 +53,7 @@ module _ {X : Type 0} where
   -- where none passes
   pub each_fails : (test : X → Bool) (xs : List X) → list_any test xs ≡ false → AllByRecursion (λ x. test x ≡ false) xs
   each_fails test [] h = tt
-  each_fails test (x ∷ xs) h = let p = none_of_two (test x) (list_any test xs) h in (p.0, each_fails test xs p.1)
+  each_fails test (x ∷ xs) h = let p = or_parts (test x) (list_any test xs) h in (p.0, each_fails test xs p.1)
 
   pub none_passes : (test : X → Bool) (xs : List X) → AllByRecursion (λ x. test x ≡ false) xs → list_any test xs ≡ false
   none_passes test [] h = refl

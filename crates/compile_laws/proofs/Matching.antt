@@ -1,40 +1,25 @@
 -- A filter matches a part exactly where one of its rules holds there.
-use Rattle.std.proofs.Common.{◌≡◌, ℕ, ◌+◌, List, [], ◌∷◌, ◌++◌, map, Bool, true, false, cond, not, ◌||◌, ◌&&◌, Option, Some, None, option_map, ◌⊎◌, inl, inr, refl, sym, ap, ◌∙◌, subst, ⊎_elim}
-use Rattle.std.specs.Prelude.{is_some, ◌==◌}
+use Rattle.std.proofs.Common.{◌≡◌, List, [], ◌∷◌, Bool, true, false, not, ◌||◌, ◌&&◌, Option, Some, None, refl, sym, ap, ◌∙◌}
 use Rattle.std.specs.List.{list_any}
-use Rattle.std.proofs.lemmas.Bool.{and_parts, or_right}
+use Rattle.std.proofs.lemmas.Bool.{and_parts}
 use Rattle.dnr_base.specs.declared.kind.Kind.{Kind}
-use Rattle.dnr_base.specs.declared.kind.Kind.TheVariants.{MainFrame, SubFrame}
-use Rattle.dnr_base.specs.declared.method.Method.{Method}
-use Rattle.dnr_base.specs.declared.scheme.Scheme.{Scheme}
-use Rattle.dnr_base.specs.declared.frame.Frame.{Frame}
-use Rattle.dnr_base.specs.declared.request.Request.{Request}
-use Rattle.dnr_base.specs.Kind.{has_kind, same_kind}
+use Rattle.dnr_base.specs.Kind.{has_kind}
 use Rattle.dnr_base.specs.View.{View, text_of, host_of}
-use Rattle.dnr_base.specs.Request.{Part, own_part, frame_part_of, frame_kind}
+use Rattle.dnr_base.specs.Request.{Part}
 use Rattle.dnr_spec.specs.UrlFilter.{fits}
-use Rattle.dnr_spec.specs.Patterns.{found}
 use Rattle.dnr_spec.specs.Suffixes.{SuffixRule}
 use Rattle.dnr_spec.specs.Party.{is_third_party}
 use Rattle.rule_spec.specs.Holds as rules
 use Rattle.rule_spec.specs.Holds.{fits_url, has_match, is_from, is_not_from, has_methods, is_not_by, holds_on, holds}
 use Rattle.list_spec.specs.LineKind.{FilterPattern, every_url, plain, regex, FilterLine}
-use Rattle.list_spec.specs.Says.{matches_url, is_party, is_for, matches, matches_part, matches_frame}
+use Rattle.list_spec.specs.Says.{matches_url, is_party, is_for, matches}
 use Rattle.compile_spec.specs.Initiators.{Initiators, initiators_of}
 use Rattle.compile_spec.specs.Compiled.{url_filter_of, regex_filter_of, condition_of}
-use Rattle.compile_laws.proofs.Lists.{Has, In, any_in, true_or_false}
-use Rattle.compile_laws.proofs.Supported.{AreEntries, IsSupported}
+use Rattle.compile_laws.proofs.Bools.{and_true, and_turned}
+use Rattle.compile_laws.proofs.Lists.{In, any_in}
+use Rattle.compile_laws.proofs.Supported.{AreEntries}
 use Rattle.compile_laws.proofs.Among.{admits}
 use Rattle.compile_laws.proofs.Meant.{is_for_rules}
-
-and_true : (b : Bool) → (b && true) ≡ b
-and_true true = refl
-and_true false = refl
-
-turned : (a b : Bool) → (a && b) ≡ (b && a)
-turned true b = sym (and_true b)
-turned false true = refl
-turned false false = refl
 
 merged : (kind a b asked : Bool) → ((kind && (a && asked)) || (kind && (b && asked))) ≡ (kind && ((a || b) && asked))
 merged false a b asked = refl
@@ -95,7 +80,7 @@ factored false asked test [] = refl
 factored true asked test [] = refl
 factored kind asked test (x ∷ xs) = ap (λ b. (kind && (test x && asked)) || b) (factored kind asked test xs) ∙ merged kind (test x) (list_any test xs) asked
 
-all_alike : {X : Type 0} (p q : X → Bool) (xs : List X) → ((x : X) → p x ≡ q x) → list_any p xs ≡ list_any q xs
+pub all_alike : {X : Type 0} (p q : X → Bool) (xs : List X) → ((x : X) → p x ≡ q x) → list_any p xs ≡ list_any q xs
 all_alike p q [] same = refl
 all_alike p q (x ∷ xs) same = ap (λ b. b || list_any p xs) (same x) ∙ ap (λ b. q x || b) (all_alike p q xs same)
 
@@ -106,7 +91,7 @@ holds_some suffixes filter kinds part are =
     (initiators_of filter.domains) (λ initiators. holds_parts suffixes filter kinds initiators part)
     ∙ factored (has_kind kinds part.kind) (asks suffixes filter part) (admits part.initiator) (initiators_of filter.domains)
     ∙ ap (λ b. has_kind kinds part.kind && (b && asks suffixes filter part)) (is_for_rules filter.domains are part.initiator)
-    ∙ ap (λ b. has_kind kinds part.kind && b) (turned (is_for filter.domains part.initiator) (asks suffixes filter part))
+    ∙ ap (λ b. has_kind kinds part.kind && b) (and_turned (is_for filter.domains part.initiator) (asks suffixes filter part))
 
 -- where one of the rules holds, the filter matches
 pub one_matches : (suffixes : List SuffixRule) (filter : FilterLine) (kinds : List Kind) (initiators : Initiators) (part : Part) → AreEntries filter.domains

@@ -1,21 +1,18 @@
 -- The filter is for an initiator exactly where one of its rules holds there.
-use Rattle.std.proofs.Common.{◌≡◌, ℕ, ◌+◌, ◌≤◌, ◌<◌, List, [], ◌∷◌, ◌++◌, length, map, Bool, true, false, cond, not, ◌||◌, ◌&&◌, Option, Some, None, ◌⊎◌, inl, inr, refl, sym, ap, ◌∙◌, subst, ⊎_elim, arith}
-use Rattle.std.specs.Prelude.{filter, nat_le}
-use Rattle.std.specs.List.{list_all, list_any, AllByRecursion}
-use Rattle.std.proofs.lemmas.Bool.{and_parts, and_from, or_left, not_from_true, not_from_false, not-true, not-false, le-leb, leb-true, cases_lt, true≢false, false_from_ne_true, true_from_ne_false, and_left}
+use Rattle.std.proofs.Common.{◌≡◌, ℕ, ◌≤◌, ◌<◌, List, [], ◌∷◌, ◌++◌, length, map, true, false, not, ◌&&◌, Option, Some, None, inl, inr, refl, sym, ap, ◌∙◌, subst, ⊎_elim, arith}
+use Rattle.std.specs.Prelude.{nat_le}
+use Rattle.std.specs.List.{list_any}
+use Rattle.std.proofs.lemmas.Bool.{and_parts, and_from, not_from_true, not_from_false, not-true, le-leb, leb-true, cases_lt, true≢false, false_from_ne_true, true_from_ne_false, and_left}
 use Rattle.std.proofs.lemmas.Bool.Decides.{same_from_decides}
 use Rattle.dnr_spec.specs.Domains.{covers, covers_some}
 use Rattle.list_spec.specs.declared.domain_entry.DomainEntry.{DomainEntry}
 use Rattle.list_spec.specs.Says.{covering, is_longest, lists_none, longest_is_listed, is_for}
-use Rattle.compile_spec.specs.Initiators.{Initiators, listed_in, excluded_in, nested, not_nested, in_one, shared, single, in_several, initiators_of}
-use Rattle.compile_laws.proofs.Lists.{Has, In, has_passing, any_passes, true_or_false, has_in, in_has, each_in, in_each, any_in, any_out, none_in, none_out, in_filtered, in_unfiltered, each_passes, all_pass, has_mapped, has_unmapped}
+use Rattle.compile_spec.specs.Initiators.{listed_in, excluded_in, nested, not_nested, shared, single, in_several, initiators_of}
+use Rattle.compile_laws.proofs.Bools.{or_false}
+use Rattle.compile_laws.proofs.Lists.{In, each_in, in_each, any_in, any_out, none_out, in_filtered, in_unfiltered, each_passes, all_pass}
 use Rattle.compile_laws.proofs.Covered.{reads_covers, same_length}
 use Rattle.compile_laws.proofs.Supported.{AreEntries}
 use Rattle.compile_laws.proofs.Among.{Names, listed_is_in, listed_names, excluded_is_in, excluded_names, AreApart, are_apart, IsMeant, admits, admits_host, rules_mean, meant_rules}
-
-nothing_or : (b : Bool) → ((true && b) || false) ≡ b
-nothing_or true = refl
-nothing_or false = refl
 
 -- ---- the longest entry
 
@@ -145,7 +142,7 @@ listed_need_one excluded domain domains (first ∷ under) = shared_none excluded
 both_same : (entries : List DomainEntry) (are : AreEntries entries) (listed : List (List ℕ)) → listed_in entries ≡ listed → (initiator : Option (List ℕ))
     → list_any (admits initiator) (in_several (excluded_in entries) listed (nested (excluded_in entries) listed)) ≡ is_for entries initiator
 both_same entries are [] none None = sym (none_listed entries none)
-both_same entries are [] none (Some host) = nothing_or _ ∙ only_excluded entries host (covering entries host) refl (none_listed entries none)
+both_same entries are [] none (Some host) = or_false _ ∙ only_excluded entries host (covering entries host) refl (none_listed entries none)
 both_same entries are (domain ∷ domains) some None = listed_need_one (excluded_in entries) domain domains (nested (excluded_in entries) (domain ∷ domains)) ∙ sym (some_listed entries domain domains some)
 both_same entries are (domain ∷ domains) some (Some host) =
     let apart = subst (λ (l : List (List ℕ)). AreApart l (excluded_in entries)) some (are_apart entries are) in

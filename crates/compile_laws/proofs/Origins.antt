@@ -1,22 +1,22 @@
 -- The rules of a list and the lines that they come from.
-use Rattle.std.proofs.Common.{◌≡◌, ℕ, zero, suc, ◌+◌, ◌<◌, List, [], ◌∷◌, ◌++◌, length, get_or, map, Bool, true, false, cond, not, ◌||◌, ◌&&◌, Option, Some, None, ◌⊎◌, inl, inr, refl, sym, ap, ◌∙◌, subst, ⊎_elim, arith}
+use Rattle.std.proofs.Common.{◌≡◌, ℕ, zero, suc, ◌+◌, List, [], ◌∷◌, ◌++◌, Bool, true, false, cond, Option, Some, None, inl, inr, refl, sym, ap, ◌∙◌, subst, arith}
 use Rattle.std.specs.Prelude.{slice_get, option_and_then, All}
-use Rattle.std.specs.List.{Contains, AllByRecursion, flat_map, list_any}
-use Rattle.std.proofs.lemmas.Bool.{and_parts, and_from, true≢false}
+use Rattle.std.specs.List.{Contains, AllByRecursion}
+use Rattle.std.proofs.lemmas.Bool.{and_parts}
 use Rattle.std.proofs.lemmas.List.Elements.{All-from_recursion}
 use Rattle.dnr_base.specs.declared.kind.Kind.{Kind}
 use Rattle.dnr_base.specs.declared.request.Request.{Request}
 use Rattle.dnr_base.specs.Kind.{has_kind}
-use Rattle.dnr_base.specs.Request.{Part, own_part}
+use Rattle.dnr_base.specs.Request.{own_part}
 use Rattle.dnr_spec.specs.Suffixes.{SuffixRule}
 use Rattle.rule_spec.specs.Holds.{holds, holds_on}
 use Rattle.list_spec.specs.LineKind.{FilterLine, line_of}
 use Rattle.list_spec.specs.Says.{filter_in, matches, fits_request}
 use Rattle.compile_spec.specs.Initiators.{Initiators, initiators_of}
-use Rattle.compile_spec.specs.Compiled.{Effect, blocks, allows, exempts, action_of, kinds_for, on_types, on_pages, effects_of, condition_of, Draft, drafts_with, drafts_of, drafts_in, drafts_from, CompiledRule, rule_of, with_ids, compiled}
+use Rattle.compile_spec.specs.Compiled.{Effect, blocks, allows, action_of, kinds_for, on_types, on_pages, effects_of, condition_of, Draft, drafts_with, drafts_of, drafts_in, drafts_from, CompiledRule, rule_of, with_ids, compiled}
 use Rattle.compile_laws.specs.Origins.{filter_at, HasOrigin, HasRule, DoesAs, IsDoneFor}
 use Rattle.compile_laws.specs.Laws.{RulesHoldByTheirLines, LinesHoldByTheirRules, RulesDoAsTheirLines}
-use Rattle.compile_laws.proofs.Lists.{Has, In, has_in, in_has, each_in, in_each, any_out, each_joined, each_weaker, each_mapped, each_flat, has_left, has_right, has_mapped, has_flat, has_weaker}
+use Rattle.compile_laws.proofs.Lists.{Has, In, has_in, in_has, each_in, in_each, any_out, each_joined, each_weaker, each_mapped, each_flat, has_left, has_right, has_mapped, has_flat}
 use Rattle.compile_laws.proofs.Supported.{IsSupported, supported}
 use Rattle.compile_laws.proofs.Matching.{holds_some, one_matches}
 
@@ -96,7 +96,7 @@ has_numbered P Q f id [] h = h
 has_numbered P Q f id (draft ∷ drafts) (inl h) = inl (f id draft h)
 has_numbered P Q f id (draft ∷ drafts) (inr h) = inr (has_numbered P Q f (id + 1) drafts h)
 
-contains : {X : Type 0} (x : X) (xs : List X) → In x xs → Contains xs x
+pub contains : {X : Type 0} (x : X) (xs : List X) → In x xs → Contains xs x
 contains x [] i = absurd i
 contains x (y ∷ ys) (inl e) = (0, omega arith, e)
 contains x (y ∷ ys) (inr i) = let c = contains x ys i in (suc c.0, omega (arith, c.1), c.2)

@@ -1,22 +1,21 @@
 -- The rules of a filter list are rules.
-use Rattle.std.proofs.Common.{◌≡◌, ℕ, ◌+◌, ◌≤◌, ◌<◌, List, [], ◌∷◌, suc, length, map, Bool, true, false, cond, not, ◌&&◌, Option, Some, None, Result, Ok, Err, refl, sym, ap, ◌∙◌, subst, arith}
-use Rattle.std.specs.Prelude.{IsTrue, is_none, ◌||◌, IfSome, filter, position, nat_lt, nat_le, All}
+use Rattle.std.proofs.Common.{◌≡◌, ℕ, ◌+◌, ◌≤◌, List, [], ◌∷◌, suc, length, map, true, false, not, Option, Some, None, Ok, refl, ap, ◌∙◌, arith}
+use Rattle.std.specs.Prelude.{IsTrue, is_none, ◌||◌, IfSome, filter, nat_lt, nat_le}
 use Rattle.std.specs.List.{position_or_len, AllByRecursion}
 use Rattle.std.proofs.lemmas.Bool.{and_from, cond-true, cond-false, le-leb}
 use Rattle.std.proofs.lemmas.Bool.Decides.{nat_tests}
 use Rattle.std.proofs.lemmas.List.Elements.{All-from_recursion}
 use Rattle.dnr_base.specs.declared.kind.Kind.{Kind}
-use Rattle.dnr_spec.specs.Domains.{is_domain, lower_case, domains_of, unless_bad, covers}
-use Rattle.rule_spec.specs.Rule.{Condition}
+use Rattle.dnr_spec.specs.Domains.{is_domain, lower_case, unless_bad}
 use Rattle.rule_spec.specs.IsRule.{IsRule, IsCondition, AreDomains, IsGivenWhole, is_number}
 use Rattle.list_spec.specs.declared.domain_entry.DomainEntry.{DomainEntry}
 use Rattle.list_spec.specs.LineKind.{FilterPattern, every_url, plain, regex, FilterLine, line_of}
 use Rattle.list_spec.specs.Says.{filter_in}
-use Rattle.compile_spec.specs.Initiators.{Initiators, each_once, listed_in, excluded_in, lies_under, lies_under_some, those_under, nested, not_nested, list_if_any, in_one, shared, single, in_several, initiators_of}
-use Rattle.compile_spec.specs.Compiled.{effects_of, Effect, blocks, allows, exempts, url_filter_of, regex_filter_of, priority_of, kinds_for, condition_of, Draft, drafts_with, drafts_of, drafts_in, drafts_from, rule_of, with_ids, compiled, CompiledRule}
+use Rattle.compile_spec.specs.Initiators.{Initiators, each_once, listed_in, excluded_in, lies_under, those_under, nested, not_nested, in_one, shared, single, in_several, initiators_of}
+use Rattle.compile_spec.specs.Compiled.{effects_of, Effect, blocks, allows, exempts, url_filter_of, regex_filter_of, condition_of, Draft, drafts_with, drafts_in, drafts_from, rule_of, with_ids, compiled}
 use Rattle.compile_laws.specs.Laws.{FiltersGiveRules, ListsGiveRules}
 use Rattle.compile_laws.proofs.Lists.{each_weaker, each_filtered, each_mapped, each_joined, each_flat}
-use Rattle.compile_laws.proofs.Supported.{IsEntry, AreEntries, IsPattern, IsSupported, supported}
+use Rattle.compile_laws.proofs.Supported.{IsEntry, IsPattern, IsSupported, supported}
 
 -- ---- domains
 

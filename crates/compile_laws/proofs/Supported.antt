@@ -1,9 +1,9 @@
 -- What a line says that is a supported filter.
-use Rattle.std.proofs.Common.{◌≡◌, ℕ, zero, suc, ◌-◌, ◌≤◌, List, [], ◌∷◌, length, map, fold, take, drop, Bool, true, false, cond, not, ◌||◌, ◌&&◌, Option, Some, None, Result, Ok, Err, ◌⊎◌, inl, inr, refl, sym, ap, ◌∙◌, subst, ⊎_elim, arith}
+use Rattle.std.proofs.Common.{◌≡◌, ℕ, zero, suc, ◌-◌, List, [], ◌∷◌, length, map, fold, take, drop, Bool, true, false, cond, not, ◌||◌, ◌&&◌, Option, Some, None, Ok, Err, refl, subst, arith}
 use Rattle.std.specs.Prelude.{codes, nat_lt, nat_le, nat_eq, is_some, unwrap_or, IfSome, IsTrue, ◌==◌}
 use Rattle.std.specs.List.{list_all, list_any, starts_with, ends_with, AllByRecursion}
 use Rattle.std.specs.Char.{is_ascii, to_ascii_lowercase}
-use Rattle.std.proofs.lemmas.Bool.{and_parts, and_from, not-false, eqb-false}
+use Rattle.std.proofs.lemmas.Bool.{and_parts, and_from, or_parts, not-true, not-false}
 use Rattle.std.proofs.lemmas.Bool.Decides.{nat_tests}
 use Rattle.std.proofs.lemmas.List.{length-take, length-drop}
 use Rattle.std.proofs.lemmas.Str.Ascii.{lowercase-lowercase}
@@ -17,12 +17,12 @@ use Rattle.compile_spec.specs.Compiled.{url_filter_of, regex_filter_of}
 use Rattle.list_spec.specs.declared.domain_entry.DomainEntry.{DomainEntry}
 use Rattle.list_spec.specs.declared.reason.Reason.{Reason}
 use Rattle.list_spec.specs.declared.reason.Reason.TheVariants as reason
-use Rattle.list_spec.specs.Pieces.{pieces_of, before_place, behind_place, is_inverse, without_tilde}
+use Rattle.list_spec.specs.Pieces.{pieces_of, before_place, behind_place, without_tilde}
 use Rattle.list_spec.specs.Entries.{entry_of, entries_of, is_domain_list, is_empty_entry, has_conflict}
-use Rattle.list_spec.specs.Options.{Written, Subject, on_types, on_party, on_domains, on_case, on_document, subject_named, option_fault, subject_fault, domain_fault, value_fault, entries_fault, document_fault, plain_fault, first_fault, or_else, speaks_of_domains, Asked, nothing_asked, asked_of, after_option, after_subject, options_in, options_place}
-use Rattle.list_spec.specs.LineKind.{FilterPattern, FilterLine, Line, blank, comment, header, filter_line, unsupported, trimmed, pattern_of, every_url, plain, regex, is_regex, filter_asked, line_of_pattern, line_of_options, line_cut, is_exception, filter_body, filter_of, line_of_trimmed, line_of, max_list_line, is_header, hides, is_space}
+use Rattle.list_spec.specs.Options.{Written, Subject, on_types, on_party, on_domains, on_case, on_document, subject_named, option_fault, subject_fault, value_fault, entries_fault, first_fault, or_else, speaks_of_domains, Asked, nothing_asked, asked_of, after_option, after_subject, options_in, options_place}
+use Rattle.list_spec.specs.LineKind.{FilterPattern, FilterLine, Line, trimmed, pattern_of, every_url, plain, regex, is_regex, filter_asked, line_of_pattern, line_of_options, line_cut, is_exception, filter_body, filter_of, line_of_trimmed, line_of, max_list_line, is_header, hides, is_space}
 use Rattle.list_spec.specs.Says.{max_regex, is_usable, filter_in}
-use Rattle.compile_laws.proofs.Lists.{each_passes, each_weaker, each_mapped}
+use Rattle.compile_laws.proofs.Lists.{each_passes}
 
 -- ---- the domains
 
@@ -40,11 +40,6 @@ lower_again : (text : List ℕ) → lower_case (map to_ascii_lowercase text) ≡
 lower_again [] = refl
 lower_again (b ∷ text) = cc (lowercase-lowercase b, lower_again text)
 
-none_of_two : (a b : Bool) → not (a || b) ≡ true → (a ≡ false) × (b ≡ false)
-none_of_two true b h = cc
-none_of_two false true h = cc
-none_of_two false false h = (refl, refl)
-
 entries_pass : (pieces : List (List ℕ)) → AllByRecursion (λ entry. is_domain entry.domain ≡ true) (map entry_of pieces) → AllByRecursion IsEntry (map entry_of pieces)
 entries_pass [] h = tt
 entries_pass (piece ∷ pieces) h = (record { domain = h.0; lower = lower_again (without_tilde piece) }, entries_pass pieces h.1)
@@ -59,7 +54,7 @@ good_entries : (name value : List ℕ) → entries_fault name (entries_of value)
 good_entries name value h =
     let entries = entries_of value in
     let good = all_good name (is_domain_list entries) (list_all (λ entry. is_domain entry.domain) entries) h in
-    let apart = none_of_two (list_any is_empty_entry entries) (has_conflict entries) good.0 in
+    let apart = or_parts (list_any is_empty_entry entries) (has_conflict entries) (not-true (list_any is_empty_entry entries || has_conflict entries) good.0) in
     record { each = entries_pass (pieces_of 124 value) (each_passes (λ entry. is_domain entry.domain) entries good.1); apart = apart.1 }
 
 -- ---- the options

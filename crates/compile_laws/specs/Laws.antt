@@ -1,6 +1,8 @@
 -- What holds of the rules of a filter list. The rules are those of `compile_spec`, `specs/Compiled.antt`, and what the
 -- list says is that of `list_spec`, `specs/Says.antt`, by Adblock Plus, "How to write filters".
-use Rattle.std.specs.Prelude.{◌≡◌, ℕ, ◌≤◌, List, [], ◌∷◌, length, true, IsTrue, All, Option, Some}
+use Rattle.std.specs.Bool.{Decides}
+use Rattle.std.specs.Prelude.{◌≡◌, ℕ, ◌+◌, ◌<◌, ◌≤◌, List, [], ◌∷◌, length, slice_get, true, IsTrue, All, Some}
+use Rattle.std.specs.List.{Contains, AllPairs}
 use Rattle.dnr_base.specs.declared.request.Request.{Request}
 use Rattle.dnr_base.specs.Request.{Part, own_part}
 use Rattle.dnr_spec.specs.Suffixes.{SuffixRule}
@@ -9,11 +11,13 @@ use Rattle.rule_spec.specs.Holds.{holds}
 use Rattle.rule_spec.specs.IsRule.{IsRule, is_number}
 use Rattle.rule_spec.specs.Scan.{scan}
 use Rattle.rule_spec.specs.State.{State}
+use Rattle.list_spec.specs.declared.reason.Reason.{Reason}
 use Rattle.list_spec.specs.LineKind.{FilterLine, line_of}
 use Rattle.list_spec.specs.Says.{filter_in, matches, fits_request, says}
-use Rattle.compile_spec.specs.Compiled.{max_compiled, Effect, drafts_with, rule_of, compiled}
+use Rattle.compile_spec.specs.Compiled.{max_compiled, Effect, drafts_with, rule_of, CompiledRule, compiled}
+use Rattle.compile_spec.specs.Report.{report}
 use Rattle.compile_spec.specs.Installed.{list_extension}
-use Rattle.compile_laws.specs.Origins.{filter_at, HasOrigin, HasRule, IsDoneFor}
+use Rattle.compile_laws.specs.Origins.{filter_at, reason_at, HasOrigin, HasRule, IsDoneFor}
 
 -- ---- each rule is a rule
 
@@ -26,6 +30,18 @@ FiltersGiveRules =
 -- and so does each rule of a list within the limit
 abbrev pub ListsGiveRules : Type 0
 ListsGiveRules = (lines : List (List ℕ)) → length (compiled lines) ≤ max_compiled → All (λ one. IsRule one.rule) (compiled lines)
+
+-- ids count from 1
+abbrev pub RulesAreCounted : Type 0
+RulesAreCounted = (lines : List (List ℕ)) (place : ℕ) (one : CompiledRule) → slice_get (compiled lines) place ≡ Some one → one.rule.id ≡ place + 1
+
+-- ---- the report
+
+-- the report names a line with a reason exactly where the line gives nothing for that reason, each once, in their order
+pub record ReportIsWhole : Type 0 where
+  pub named : (lines : List (List ℕ)) (number : ℕ) (reason : Reason) → Contains (report lines) (record { line = number; reason = reason }) → reason_at lines number ≡ Some reason
+  pub whole : (lines : List (List ℕ)) (number : ℕ) (reason : Reason) → reason_at lines number ≡ Some reason → Contains (report lines) (record { line = number; reason = reason })
+  pub order : (lines : List (List ℕ)) → AllPairs (λ first second. first.line < second.line) (report lines)
 
 -- ---- rules and their lines
 
@@ -44,3 +60,12 @@ LinesHoldByTheirRules =
 -- each line that a rule comes from says what the rule does
 abbrev pub RulesDoAsTheirLines : Type 0
 RulesDoAsTheirLines = (lines : List (List ℕ)) → All (λ one. All (IsDoneFor lines one.rule.action) one.lines) (compiled lines)
+
+-- ---- what a list blocks
+
+-- The list says that a request is blocked exactly where the scan blocks it, if the extension of the list is the only one.
+-- The ids of the rules decide nothing here, so it holds of lists beyond the limit too.
+abbrev pub ListsBlockWhatTheySay : Type 0
+ListsBlockWhatTheySay =
+    (name : List ℕ) (lines : List (List ℕ)) (suffixes : List SuffixRule) (state : State) (request : Request)
+    → state.extensions ≡ list_extension name (compiled lines) ∷ [] → Decides (says lines suffixes request) ((scan suffixes state request).outcome ≡ outcome.Block)

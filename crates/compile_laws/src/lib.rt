@@ -4,7 +4,7 @@
 //! The laws stand in `specs/Laws.antt`.
 #![tactic(auto)]
 
-ghost use Rattle.compile_laws.specs.Laws.{FiltersGiveRules, ListsGiveRules, RulesHoldByTheirLines, LinesHoldByTheirRules, RulesDoAsTheirLines};
+ghost use Rattle.compile_laws.specs.Laws.{FiltersGiveRules, ListsGiveRules, ListsBlockWhatTheySay, RulesAreCounted, ReportIsWhole, RulesHoldByTheirLines, LinesHoldByTheirRules, RulesDoAsTheirLines};
 
 /// The rules of a supported filter keep what every rule keeps.
 pub fn filters_give_rules()
@@ -14,6 +14,16 @@ pub fn filters_give_rules()
 /// The rules of a list keep what every rule keeps.
 pub fn lists_give_rules()
     ensures { ListsGiveRules }
+{}
+
+/// The ids of the rules of a list count from 1.
+pub fn rules_are_counted()
+    ensures { RulesAreCounted }
+{}
+
+/// The report names each line that gives nothing, with its reason, and no other.
+pub fn report_is_whole()
+    ensures { ReportIsWhole }
 {}
 
 /// Where a rule of a list holds on a part, a line that it comes from is a supported filter that matches there.
@@ -29,4 +39,10 @@ pub fn lines_hold_by_their_rules()
 /// Rules that block come from blocking filters, and rules that allow from exceptions.
 pub fn rules_do_as_their_lines()
     ensures { RulesDoAsTheirLines }
+{}
+
+/// A list blocks what it says: where its extension is the only one, the scan blocks a request exactly where a
+/// blocking filter fits it, no exception fits it and no exception for pages matches its page.
+pub fn lists_block_what_they_say()
+    ensures { ListsBlockWhatTheySay }
 {}
