@@ -9,7 +9,7 @@ use crate::effects::Effect;
 use crate::initiators::Initiators;
 use abp_parse::{FilterLine, FilterPattern};
 use dnr_base::{Items, MethodSet, NoMemory, Text};
-use dnr_rules::{ConditionParts, Rule, RuleParts};
+use dnr_rules::{ConditionParts, RareParts, Rule, RuleParts};
 use domain_set::DomainSet;
 use std::alloc::Global;
 use url_filter::Pattern;
@@ -27,26 +27,30 @@ pub(crate) fn rule_of(
 {
     let kinds = effect.kinds(&filter);
     let third_party = filter.third_party;
+    let case_sensitive = filter.match_case;
     let (url_filter, regex_filter) = filters_of(filter.pattern);
-    let condition = ConditionParts {
-        url_filter,
+    let rare = RareParts {
         regex_filter,
-        case_sensitive: filter.match_case,
-        initiators: initiators.among,
         not_initiators: initiators.not_among,
-        hosts: None,
         not_hosts: DomainSet::empty(),
-        third_party,
-        kinds,
-        methods: None,
-        not_methods: MethodSet::empty(),
         tabs: None,
         not_tabs: Items::build(Vec::new(alloc)),
     };
+    let rare = rare.boxed(alloc)?;
     Ok(Rule::build(RuleParts {
         id,
         priority: effect.priority(),
-        condition,
+        condition: ConditionParts {
+            url_filter,
+            case_sensitive,
+            initiators: initiators.among,
+            hosts: None,
+            third_party,
+            kinds,
+            methods: None,
+            not_methods: MethodSet::empty(),
+            rare,
+        },
         action: effect.action(),
     }))
 }
