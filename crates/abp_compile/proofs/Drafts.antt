@@ -9,7 +9,7 @@ use Rattle.compile_spec.specs.Initiators.{Initiators, single, initiators_of}
 use Rattle.rule_spec.specs.Rule.{Rule}
 use Rattle.compile_spec.specs.Compiled.{Effect, blocks, allows, exempts, effects_of, drafts_with, drafts_of, Draft, CompiledRule, rule_of, max_compiled, with_ids, rules_in, origins_in}
 use Rattle.abp_compile.specs.declared.work.Work.{Work}
-use Rattle.abp_compile.specs.Work.{draft, drafts, IsGiven, GiveRules, HasDrafts, Gains, Keeps}
+use Rattle.abp_compile.specs.Work.{draft, drafts, IsGiven, GiveRules, Gains, Keeps}
 
 pub with_ids-append : (id : ℕ) (xs ys : List Draft) → with_ids id (xs ++ ys) ≡ with_ids id xs ++ with_ids (id + length xs) ys
 with_ids-append id [] ys = ap (λ n. with_ids n ys) (omega arith)
@@ -36,9 +36,9 @@ keeps_more id xs draft rule before mid now kept is r o =
     let lines = before.origins.items in
     record {
       rules = r ∙ (λ i. kept.rules i ++ is i ∷ []) ∙ append_assoc old (rules_in (with_ids id xs)) (rule_of (id + length xs) draft ∷ [])
-      ∙ ap (λ rules. old ++ rules) (sym (rules_behind id xs (draft ∷ [])));
+          ∙ ap (λ rules. old ++ rules) (sym (rules_behind id xs (draft ∷ [])));
       origins = o ∙ ap (λ held. held ++ draft.lines ∷ []) kept.origins ∙ append_assoc lines (origins_in (with_ids id xs)) (draft.lines ∷ [])
-      ∙ ap (λ origins. lines ++ origins) (sym (origins_behind id xs (draft ∷ [])));
+          ∙ ap (λ origins. lines ++ origins) (sym (origins_behind id xs (draft ∷ [])));
     }
 
 pub gains_kept : (more : List Draft) (before now : Work) → now.count ≡ before.count + length more
@@ -49,9 +49,9 @@ gains_kept more before now count kept held has =
     record {
       counted = count ∙ ap (λ n. n + length more) has.counted ∙ sym (length-append held more);
       rules = λ few. (kept few).rules ∙ ap (λ old. old ++ rules_in (with_ids (before.count + 1) more)) (has.rules (fits few))
-      ∙ ap (λ n. rules_in (with_ids 1 held) ++ rules_in (with_ids n more)) first ∙ sym (rules_behind 1 held more);
+          ∙ ap (λ n. rules_in (with_ids 1 held) ++ rules_in (with_ids n more)) first ∙ sym (rules_behind 1 held more);
       origins = λ few. (kept few).origins ∙ ap (λ old. old ++ origins_in (with_ids (before.count + 1) more)) (has.origins (fits few))
-      ∙ ap (λ n. origins_in (with_ids 1 held) ++ origins_in (with_ids n more)) first ∙ sym (origins_behind 1 held more);
+          ∙ ap (λ n. origins_in (with_ids 1 held) ++ origins_in (with_ids n more)) first ∙ sym (origins_behind 1 held more);
     }
 
 -- nothing was gained
@@ -116,9 +116,9 @@ pub keeps_twice : (id next : ℕ) (xs ys : List Draft) (before mid now : Work) �
 keeps_twice id next xs ys before mid now n one two =
     record {
       rules = two.rules ∙ (λ i. one.rules i ++ rules_in (with_ids (n i) ys)) ∙ append_assoc before.rules.items (rules_in (with_ids id xs)) (rules_in (with_ids (id + length xs) ys))
-      ∙ ap (λ rules. before.rules.items ++ rules) (sym (rules_behind id xs ys));
+          ∙ ap (λ rules. before.rules.items ++ rules) (sym (rules_behind id xs ys));
       origins = two.origins ∙ (λ i. one.origins i ++ origins_in (with_ids (n i) ys)) ∙ append_assoc before.origins.items (origins_in (with_ids id xs)) (origins_in (with_ids (id + length xs) ys))
-      ∙ ap (λ origins. before.origins.items ++ origins) (sym (origins_behind id xs ys));
+          ∙ ap (λ origins. before.origins.items ++ origins) (sym (origins_behind id xs ys));
     }
 
 -- those of some initiators, and then of others

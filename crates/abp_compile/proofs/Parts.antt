@@ -1,7 +1,7 @@
 -- The listed domains of a filter, parted into those under an excluded one, and others.
-use Rattle.std.proofs.Common.{◌≡◌, ℕ, List, [], ◌∷◌, ◌++◌, map, filter, Bool, true, false, cond, not, refl, sym, ap, ◌∙◌, append_assoc}
+use Rattle.std.proofs.Common.{◌≡◌, ℕ, List, [], ◌∷◌, ◌++◌, filter, Bool, true, false, cond, not, refl, sym, ap, ◌∙◌, append_assoc}
 use Rattle.list_spec.specs.declared.domain_entry.DomainEntry.{DomainEntry}
-use Rattle.compile_spec.specs.Initiators.{Initiators, excluded_in, listed_in, nested, not_nested, lies_under_some, in_several, in_one, initiators_of}
+use Rattle.compile_spec.specs.Initiators.{excluded_in, listed_in, nested, not_nested, lies_under_some, in_several, in_one, initiators_of}
 use Rattle.abp_compile.specs.Parted.{parted}
 
 -- where a filter keeps nothing, its opposite keeps all

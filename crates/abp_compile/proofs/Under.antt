@@ -1,10 +1,9 @@
 -- Domains that lie under others.
-use Rattle.std.proofs.Common.{◌≡◌, ℕ, ◌<◌, ◌-◌, List, [], ◌∷◌, length, drop, Bool, true, false, not, ◌||◌, ◌&&◌, ◌==◌, refl, sym, ap, ◌∙◌, ⊎_elim, arith, subst, length-drop}
+use Rattle.std.proofs.Common.{◌≡◌, ℕ, ◌-◌, List, [], ◌∷◌, length, drop, Bool, true, false, not, ◌||◌, ◌&&◌, ◌==◌, refl, sym, ap, ◌∙◌, arith, subst, length-drop}
 use Rattle.std.specs.Prelude.{nat_eq}
 use Rattle.std.specs.List.{ends_with}
 use Rattle.std.specs.Str.{bytes_eq}
-use Rattle.std.specs.Cmp.Lexicographic.{pointwise, same_text, unequal, nat_list_eq_equiv}
-use Rattle.std.proofs.lemmas.Bool.{cases_Bool}
+use Rattle.std.specs.Cmp.Lexicographic.{same_text, unequal, nat_list_eq_equiv}
 use Rattle.dnr_spec.specs.Hosts.{is_ip_host}
 use Rattle.domain_set.specs.Rests.{some_rest}
 use Rattle.std.specs.Prelude.{String}

@@ -1,6 +1,6 @@
 -- The lines of a list, one after another.
 use Rattle.std.proofs.Common.{◌≡◌, ℕ, zero, suc, ◌+◌, ◌≤◌, List, length, [], ◌∷◌, ◌++◌, drop, refl, sym, ap, ◌∙◌, subst, arith, append_assoc, cond, true, false, Option, Some, None}
-use Rattle.std.specs.Prelude.{slice_get, Result, Ok, Err}
+use Rattle.std.specs.Prelude.{slice_get, Err}
 use Rattle.dnr_base.specs.Faults.{HasCauseOf}
 use Rattle.std.proofs.lemmas.List.{append-nil}
 use Rattle.list_spec.specs.LineKind.{FilterLine, filter_line, lines_of, line_of}
@@ -8,7 +8,7 @@ use Rattle.list_spec.specs.Says.{is_usable, filter_in, reason_of}
 use Rattle.compile_spec.specs.Compiled.{compiled, max_compiled, with_ids, rules_in, origins_in, Draft, drafts_of, drafts_in, drafts_from}
 use Rattle.list_spec.specs.declared.reason.Reason.TheVariants.{BadRegex}
 use Rattle.compile_spec.specs.declared.reported.Reported.{Reported}
-use Rattle.compile_spec.specs.Report.{report, report_of, report_from, line_at, StopsAtLine}
+use Rattle.compile_spec.specs.Report.{report, report_of, report_from, line_at}
 use Rattle.abp_compile.specs.declared.report.CompileRefusal.{CompileRefusal}
 use Rattle.abp_compile.specs.declared.report.CompileRefusal.TheVariants.{TooManyRules, HostFault, NoMemory}
 use Rattle.abp_compile.specs.declared.work.Work.{Work}

@@ -1,7 +1,7 @@
 -- The initiators of a filter's rules, where its listed domains are parted into those under an excluded one, and others.
-use Rattle.std.specs.Prelude.{ℕ, List, [], ◌∷◌, ◌++◌, map, Option, Some, None, IfSome}
+use Rattle.std.specs.Prelude.{ℕ, List, [], ◌∷◌, ◌++◌, map, Some, None, IfSome}
 use Rattle.rule_spec.specs.IsRule.{AreDomains}
-use Rattle.compile_spec.specs.Initiators.{Initiators, list_if_any, single}
+use Rattle.compile_spec.specs.Initiators.{Initiators, single}
 
 -- those of the rule that the others share, or of the one rule where nothing is nested, if there is such a rule
 abbrev pub in_common : List (List ℕ) → List (List ℕ) → List (List ℕ) → List Initiators

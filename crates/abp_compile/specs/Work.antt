@@ -1,5 +1,5 @@
 -- What was made of the lines so far, and what a line adds to it.
-use Rattle.std.specs.Prelude.{◌≡◌, ℕ, ◌+◌, ◌≤◌, List, [], ◌∷◌, ◌++◌, length, map, All, IsTrue}
+use Rattle.std.specs.Prelude.{◌≡◌, ℕ, ◌≤◌, List, [], ◌∷◌, ◌++◌, length, map, All, IsTrue}
 use Rattle.rule_spec.specs.IsRule.{IsRule, is_number}
 use Rattle.abp_parse.specs.Seen.{filter_seen}
 use Rattle.abp_parse.specs.declared.line.FilterLine.{FilterLine}

@@ -24,9 +24,19 @@ fn push_domains(told: &mut String, domains: &[Text]) -> Result<(), AllocError> {
 }
 
 // The rule, and the lines that it comes from.
-fn push_rule(alloc: Global, told: &mut String, rule: &Rule, lines: &[u32]) -> Result<(), AllocError> {
+fn push_rule(
+    alloc: Global,
+    told: &mut String,
+    rule: &Rule,
+    lines: &[u32],
+) -> Result<(), AllocError> {
     let condition = rule.condition();
-    let head = format!(in alloc; "{}.{} {}", rule.id(), rule.priority(), told_action(rule.action()))?;
+    let head = format!(in alloc;
+        "{}.{} {}",
+        rule.id(),
+        rule.priority(),
+        told_action(rule.action())
+    )?;
     told.push_str(head.as_str())?;
     if let Some(filter) = condition.url_filter() {
         told.push_str(" ")?;
@@ -101,7 +111,8 @@ fn outcome(alloc: Global, row: &str, failing: u64) -> Result<String, Fail> {
 // Each row is a list, an arrow, and its rules and reported lines.
 #[test]
 fn lists_are_compiled(rt: HostRuntime) -> Result<(), Fail> {
-    let rows = r"[Adblock Plus 2.0];! Title: t;a.com##.ad;@@||a.com^$document;||pop.com^$popup;/banner[0-9]+\.gif/ -> 1.3 exempt ||a.com^ but @4, 2.1 block regex banner[0-9]+\.gif but @6, 3 hiding, 5 unknown, 
+    let rows =
+        r"[Adblock Plus 2.0];! Title: t;a.com##.ad;@@||a.com^$document;||pop.com^$popup;/banner[0-9]+\.gif/ -> 1.3 exempt ||a.com^ but @4, 2.1 block regex banner[0-9]+\.gif but @6, 3 hiding, 5 unknown, 
 ||ads.com^$third-party,domain=b.com|~c.b.com|d.c.b.com -> 1.1 block ||ads.com^ for b.com but c.b.com @1, 2.1 block ||ads.com^ for d.c.b.com but @1, 
 x$domain=d.c.b.com|~c.b.com|~e.d.c.b.com|f.e.d.c.b.com -> 1.1 block x for d.c.b.com but e.d.c.b.com @1, 2.1 block x for f.e.d.c.b.com but @1, 
 x$domain=b.com|~c.b.com|a.com|B.com -> 1.1 block x for b.com a.com but c.b.com @1, 
@@ -121,8 +132,11 @@ x$script=1 -> 1 value,
 fn a_host_that_fails_is_named_by_its_line(rt: HostRuntime) -> Result<(), Fail> {
     let alloc = rt.alloc();
     let list = "/a/;b;/c/";
-    assert_eq!(rt; outcome(alloc, list, 1)?, "fault at 1");
-    assert_eq!(rt; outcome(alloc, list, 2)?, "fault at 3");
-    assert_eq!(rt; outcome(alloc, list, 3)?, "1.1 block regex a but @1, 2.1 block b but @2, 3.1 block regex c but @3, ");
+    assert_eq!(rt; outcome(alloc, list, 1)?.as_str(), "fault at 1");
+    assert_eq!(rt; outcome(alloc, list, 2)?.as_str(), "fault at 3");
+    assert_eq!(rt;
+        outcome(alloc, list, 3)?.as_str(),
+        "1.1 block regex a but @1, 2.1 block b but @2, 3.1 block regex c but @3, "
+    );
     Ok(())
 }

@@ -1,6 +1,6 @@
-use Rattle.std.proofs.Common.{◌≡◌, ◌≤◌, ◌<◌, ◌∙◌, length, sym, arith}
+use Rattle.std.proofs.Common.{◌≡◌, ◌∙◌, length, sym, arith}
 use Rattle.list_spec.specs.LineKind.{lines_of}
-use Rattle.compile_spec.specs.Compiled.{compiled, max_compiled}
+use Rattle.compile_spec.specs.Compiled.{compiled}
 use Rattle.abp_compile.specs.declared.report.CompileRefusal.TheVariants.{HostFault}
 use Rattle.abp_compile.proofs.Walk.{same_cause, length-compiled, rules_compiled, origins_compiled, reported_whole}
 use Rattle.abp_compile.proofs.lines.compile.Goals as goal

@@ -1,4 +1,4 @@
-use Rattle.std.proofs.Common.{◌≡◌, ◌∙◌, sym, true}
+use Rattle.std.proofs.Common.{◌≡◌, true}
 use Rattle.abp_parse.specs.Seen.{filter_seen, pattern_seen}
 use Rattle.list_spec.specs.Says.{is_usable}
 use Rattle.abp_compile.proofs.Named.{gives_all}

@@ -12,7 +12,7 @@ lines-preserved g c =
     let less : length c.in-Some.later.now < length c.lines.rest.now = rw c.in-Some.is at c.cut_line.ensures.shorter in
     record {
       at = goes_on c.args.lines.now c.lines.rest.now line more c.lines.number c.lines.work c.take_line.new.work c.in-Some.later.now c.lines.invariant.at cut
-      (ap (pieces_left 10) c.in-Some.is) c.in-Ok.ensures.drafts c.in-Ok.ensures.reported;
+          (ap (pieces_left 10) c.in-Some.is) c.in-Ok.ensures.drafts c.in-Ok.ensures.reported;
       short = omega (arith, c.lines.invariant.short, less);
       calm = c.in-Ok.ensures.calm ∙ c.lines.invariant.calm;
     }

@@ -1,4 +1,4 @@
-use Rattle.std.proofs.Common.{◌∙◌, [], fold, ap, length, arith}
+use Rattle.std.proofs.Common.{◌∙◌, [], fold, ap, arith}
 use Rattle.std.proofs.lemmas.List.{take_all}
 use Rattle.abp_compile.specs.Domains.{with_entry}
 use Rattle.abp_compile.proofs.Once.{these}

@@ -1,4 +1,4 @@
-use Rattle.std.proofs.Common.{◌≡◌, ◌∙◌, ap, take, length, arith}
+use Rattle.std.proofs.Common.{◌≡◌, ◌∙◌, ap, take, arith}
 use Rattle.std.proofs.lemmas.List.{take_all}
 use Rattle.compile_spec.specs.Initiators.{nested, not_nested, excluded_in, listed_in}
 use Rattle.abp_compile.proofs.Parts.{parts}

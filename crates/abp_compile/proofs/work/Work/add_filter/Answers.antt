@@ -1,4 +1,4 @@
-use Rattle.std.proofs.Common.{◌≡◌, ◌∙◌, ◌∷◌, [], List, sym, ap, subst}
+use Rattle.std.proofs.Common.{◌≡◌, ◌∙◌, List, sym, ap, subst}
 use Rattle.abp_parse.specs.Seen.{filter_seen}
 use Rattle.compile_spec.specs.Initiators.{Initiators, initiators_of}
 use Rattle.compile_spec.specs.Compiled.{Draft}

@@ -1,4 +1,4 @@
-use Rattle.std.proofs.Common.{◌≡◌, ◌∙◌, sym, ap, length, arith}
+use Rattle.std.proofs.Common.{◌≡◌, length, arith}
 use Rattle.abp_parse.specs.Seen.{filter_seen}
 use Rattle.abp_compile.specs.Seen.{effect_seen, initiators_seen, in_common_of}
 use Rattle.abp_compile.proofs.Named.{one_if, all_named, only_given}

@@ -1,11 +1,11 @@
-use Rattle.std.proofs.Common.{◌≡◌, ◌∙◌, sym, ap, subst}
+use Rattle.std.proofs.Common.{sym, subst}
 use Rattle.abp_parse.specs.Seen.{filter_seen}
 use Rattle.compile_spec.specs.Initiators as spec
 use Rattle.compile_spec.specs.Initiators.{single}
-use Rattle.abp_compile.specs.Seen.{effect_seen, initiators_seen}
+use Rattle.abp_compile.specs.Seen.{effect_seen}
 use Rattle.abp_compile.specs.Work.{IsGiven}
 use Rattle.abp_compile.proofs.Named.{named_given}
-use Rattle.abp_compile.proofs.Drafts.{like_given, like_rule, keeps_one}
+use Rattle.abp_compile.proofs.Drafts.{like_given}
 use Rattle.abp_compile.proofs.work.Work.keep_single.Goals as goal
 
 pub single-requires : goal.single-requires

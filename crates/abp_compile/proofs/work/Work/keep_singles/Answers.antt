@@ -1,4 +1,4 @@
-use Rattle.std.proofs.Common.{◌≡◌, ◌<◌, ◌≤◌, ◌∙◌, List, ℕ, ap, get_or, length, arith}
+use Rattle.std.proofs.Common.{◌≡◌, ◌<◌, ◌∙◌, List, ℕ, ap, get_or, length, arith}
 use Rattle.abp_parse.specs.Seen.{filter_seen}
 use Rattle.abp_compile.specs.Seen.{effect_seen}
 use Rattle.abp_compile.proofs.Named.{single_given}
@@ -28,5 +28,5 @@ loop-domain-preserved c =
       count = c.in_ok-keep_single.ensures.count ∙ c.loop-domain.invariant.count;
       reported = c.in_ok-keep_single.ensures.reported ∙ c.loop-domain.invariant.reported;
       kept = keeps_single c.args.first c.loop-domain.id c.args.line (filter_seen c.args.filter.now) (effect_seen c.args.effect) d.excluded.items d.nested.items i domain
-      c.args.self.now c.loop-domain.self c.keep_single.new.self c.loop-domain.invariant.next less is c.loop-domain.invariant.kept c.in_ok-keep_single.ensures.kept;
+          c.args.self.now c.loop-domain.self c.keep_single.new.self c.loop-domain.invariant.next less is c.loop-domain.invariant.kept c.in_ok-keep_single.ensures.kept;
     }
