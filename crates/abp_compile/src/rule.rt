@@ -27,6 +27,7 @@ pub(crate) fn rule_of(
 {
     let kinds = effect.kinds(&filter);
     let third_party = filter.third_party;
+    let case_sensitive = filter.match_case;
     let (url_filter, regex_filter) = filters_of(filter.pattern);
     let rare = RareParts {
         regex_filter,
@@ -35,21 +36,21 @@ pub(crate) fn rule_of(
         tabs: None,
         not_tabs: Items::build(Vec::new(alloc)),
     };
-    let condition = ConditionParts {
-        url_filter,
-        case_sensitive: filter.match_case,
-        initiators: initiators.among,
-        hosts: None,
-        third_party,
-        kinds,
-        methods: None,
-        not_methods: MethodSet::empty(),
-        rare: rare.boxed(alloc)?,
-    };
+    let rare = rare.boxed(alloc)?;
     Ok(Rule::build(RuleParts {
         id,
         priority: effect.priority(),
-        condition,
+        condition: ConditionParts {
+            url_filter,
+            case_sensitive,
+            initiators: initiators.among,
+            hosts: None,
+            third_party,
+            kinds,
+            methods: None,
+            not_methods: MethodSet::empty(),
+            rare,
+        },
         action: effect.action(),
     }))
 }
