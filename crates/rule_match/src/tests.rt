@@ -7,7 +7,7 @@ ghost use Rattle.dnr_base.specs.declared.kind.Kind.TheVariants.{MainFrame};
 ghost use Rattle.dnr_spec.specs.UrlFilter.{pattern_of};
 ghost use Rattle.rule_spec.specs.IsRule as spec;
 ghost use Rattle.rule_spec.specs.IsRule.{AreDomains, IsCondition};
-ghost use Rattle.dnr_rules.specs.Seen.{condition_seen};
+ghost use Rattle.dnr_rules.specs.Seen.{condition_seen, rare_seen};
 
 use crate::{MatchRefusal, Reach, matches, plain_matches, plain_reaches, reaches};
 use dnr_base::{Frame, Items, Kind, KindSet, Method, MethodSet, Request, Steps, Text, View};
@@ -44,10 +44,11 @@ fn filter(alloc: Global, text: &str) -> Option<Pattern>
 }
 
 // A condition that holds on all types but `main_frame`.
+#[tactic(auto, using(crate::proofs::Tested::plain_is))]
 fn condition() -> ConditionParts
     ensures whole { IsCondition (condition_seen result) }
     ensures url_filter { result.url_filter ≡ None }
-    ensures rare { result.rare ≡ None }
+    ensures regex_filter { (rare_seen result.rare).regex_filter ≡ None }
 {
     ConditionParts::of_kinds(KindSet::all_but_main_frame())
 }
@@ -64,12 +65,29 @@ fn block(condition: ConditionParts) -> Rule
     })
 }
 
+// What few conditions give: a regexFilter, and domains that the host must not belong to.
+fn rare(
+    alloc: Global,
+    regex_filter: Option<Text>,
+    not_hosts: DomainSet,
+) -> Option<Option<Box<RareParts>>>
+    ensures regex_filter { IfSome result (λ rare. (rare_seen rare).regex_filter ≡ regex_filter) }
+    ensures not_hosts { IfSome result (λ rare. (rare_seen rare).not_hosts ≡ not_hosts) }
+    ensures not_initiators { IfSome result (λ rare. (rare_seen rare).not_initiators ≡ []) }
+    ensures tabs { IfSome result (λ rare. (rare_seen rare).tabs ≡ None) }
+    ensures not_tabs { IfSome result (λ rare. (rare_seen rare).not_tabs ≡ []) }
+{
+    let mut rare = RareParts::none(alloc);
+    rare.regex_filter = regex_filter;
+    rare.not_hosts = not_hosts;
+    rare.boxed(alloc).ok()
+}
+
+#[tactic(auto, using(crate::proofs::Tested::rare_whole))]
 fn on_domain(alloc: Global, entry: &str, other: &str) -> Option<Rule> {
     let mut condition = condition();
     condition.hosts = Some(domain(alloc, entry)?);
-    let mut rare = RareParts::none(alloc);
-    rare.not_hosts = domain(alloc, other)?;
-    condition.rare = rare.boxed(alloc).ok()?;
+    condition.rare = rare(alloc, None, domain(alloc, other)?)?;
     Some(block(condition))
 }
 
@@ -153,11 +171,11 @@ fn regex(alloc: Global, text: &str) -> Option<Text>
     Some(Text::build(String::from_str(alloc, text).ok()?))
 }
 
+#[tactic(auto, using(crate::proofs::Tested::rare_whole, crate::proofs::Tested::no_domains))]
 fn on_match(alloc: Global, pattern: &str) -> Option<Rule> {
     let mut condition = condition();
-    let mut rare = RareParts::none(alloc);
-    rare.regex_filter = Some(regex(alloc, pattern)?);
-    condition.rare = rare.boxed(alloc).ok()?;
+    let pattern = regex(alloc, pattern)?;
+    condition.rare = rare(alloc, Some(pattern), DomainSet::empty())?;
     Some(block(condition))
 }
 

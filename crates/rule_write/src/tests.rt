@@ -1,7 +1,8 @@
 //! The text of rules in the form of Chrome's reference, as it is written by hand.
-ghost use Rattle.std.specs.Prelude.{◌≡◌, ◌<◌, pos, negsuc, [], ◌∷◌, length, Ok, IfSome};
+ghost use Rattle.std.specs.Prelude.{◌≡◌, ◌<◌, pos, negsuc, None, [], ◌∷◌, length, Ok, IfSome};
 ghost use Rattle.dnr_spec.specs.UrlFilter.{pattern_of};
-ghost use Rattle.rule_spec.specs.IsRule.{AreDomains};
+ghost use Rattle.rule_spec.specs.IsRule.{AreDomains, IsCondition};
+ghost use Rattle.dnr_rules.specs.Seen.{condition_seen, rare_seen};
 
 use crate::{Rule, write_rules};
 use dnr_base::{Items, Kind, KindSet, Method, MethodSet, Text};
@@ -25,8 +26,17 @@ fn frames() -> KindSet {
     kinds
 }
 
+// A condition that gives these types alone.
+#[tactic(auto, using(crate::proofs::Tested::plain_is))]
+fn on_kinds(kinds: KindSet) -> ConditionParts
+    ensures whole { IsCondition (condition_seen result) }
+    ensures regex_filter { (rare_seen result.rare).regex_filter ≡ None }
+{
+    ConditionParts::of_kinds(kinds)
+}
+
 fn page_rule(alloc: Global) -> Option<Rule> {
-    let mut condition = ConditionParts::of_kinds(frames());
+    let mut condition = on_kinds(frames());
     condition.url_filter = Some(filter(alloc, "||a.com^")?);
     Some(Rule::build(RuleParts {
         id: 1,
@@ -71,9 +81,21 @@ fn post_alone() -> MethodSet {
     methods
 }
 
-fn list_rule(alloc: Global) -> Option<Rule> {
+// What few conditions give: tabs from which the request must not come.
+fn outside(alloc: Global, not_tabs: Items<i32>) -> Option<Option<Box<RareParts>>>
+    ensures not_tabs { IfSome result (λ rare. (rare_seen rare).not_tabs ≡ not_tabs) }
+    ensures regex_filter { IfSome result (λ rare. (rare_seen rare).regex_filter ≡ None) }
+    ensures not_initiators { IfSome result (λ rare. (rare_seen rare).not_initiators ≡ []) }
+    ensures not_hosts { IfSome result (λ rare. (rare_seen rare).not_hosts ≡ []) }
+    ensures tabs { IfSome result (λ rare. (rare_seen rare).tabs ≡ None) }
+{
     let mut rare = RareParts::none(alloc);
-    rare.not_tabs = two_tabs(alloc)?;
+    rare.not_tabs = not_tabs;
+    rare.boxed(alloc).ok()
+}
+
+#[tactic(auto, using(crate::proofs::Tested::rare_whole))]
+fn list_rule(alloc: Global) -> Option<Rule> {
     let condition = ConditionParts {
         url_filter: None,
         case_sensitive: true,
@@ -83,7 +105,7 @@ fn list_rule(alloc: Global) -> Option<Rule> {
         kinds: KindSet::all_but_main_frame(),
         methods: None,
         not_methods: post_alone(),
-        rare: rare.boxed(alloc).ok()?,
+        rare: outside(alloc, two_tabs(alloc)?)?,
     };
     Some(Rule::build(RuleParts {
         id: 2,
