@@ -74,7 +74,15 @@ pub fn answer_lines<O: Sink, H: RegexHost>(
 {
     let mut text = String::new(alloc);
     for (index, line) in lines.iter().enumerate() {
-        answer(alloc, generation, postpones, (index + 1) as u32, line, host, &mut text)?;
+        answer(
+            alloc,
+            generation,
+            postpones,
+            (index + 1) as u32,
+            line,
+            host,
+            &mut text,
+        )?;
         write_if_long(out, &mut text)?;
     }
     write_all(out, text.as_bytes())?;

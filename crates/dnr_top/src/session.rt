@@ -75,11 +75,7 @@ fn refused(alloc: Global, extension: &str, refusal: &Refusal) -> Stop
 }
 
 // Reads the lines of a script, all before the first is answered.
-fn load_script<F: Shelf>(
-    alloc: Global,
-    name: &str,
-    shelf: &mut F,
-) -> Result<Vec<Vec<u8>>, Stop>
+fn load_script<F: Shelf>(alloc: Global, name: &str, shelf: &mut F) -> Result<Vec<Vec<u8>>, Stop>
     ensures lines { IfOk result (λ lines. IfSome (F.Source.files shelf.old) (λ files. HoldsLines files name.now (lines_seen lines.items))) }
     ensures count { IfOk result (λ lines. length lines.items ≤ max_lines) }
     ensures stops { IfErr result (λ stop. IfSome (F.Source.files shelf.old) (λ files. StopsAs (λ _. ⊥) (HoldsTooMuch files name.now) stop)) }
@@ -93,11 +89,7 @@ fn load_script<F: Shelf>(
     }
 }
 
-fn lines_of<F: Shelf>(
-    alloc: Global,
-    name: &str,
-    shelf: &mut F,
-) -> Result<Vec<Vec<u8>>, LineRefusal>
+fn lines_of<F: Shelf>(alloc: Global, name: &str, shelf: &mut F) -> Result<Vec<Vec<u8>>, LineRefusal>
     ensures lines { IfOk result (λ lines. IfSome (F.Source.files shelf.old) (λ files. HoldsLines files name.now (lines_seen lines.items))) }
     ensures count { IfOk result (λ lines. length lines.items ≤ max_lines) }
     ensures too_long { IsErrOf result LineRefusal.LineTooLong → IfSome (F.Source.files shelf.old) (λ files. HoldsTooMuch files name.now) }

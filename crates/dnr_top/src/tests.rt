@@ -44,11 +44,20 @@ fn add_file(
 
 // An extension of a folder, a list and a suffix list.
 const FILES: &[(&str, &str)] = &[
-    ("shop/manifest.json", r#"{"declarative_net_request":{"rule_resources":[{"id":"s","enabled":true,"path":"s.json"}]}}"#),
-    ("shop/s.json", r#"[{"id":1,"condition":{"urlFilter":"||c.org^","domainType":"thirdParty"},"action":{"type":"block"}}]"#),
+    (
+        "shop/manifest.json",
+        r#"{"declarative_net_request":{"rule_resources":[{"id":"s","enabled":true,"path":"s.json"}]}}"#,
+    ),
+    (
+        "shop/s.json",
+        r#"[{"id":1,"condition":{"urlFilter":"||c.org^","domainType":"thirdParty"},"action":{"type":"block"}}]"#,
+    ),
     ("l.txt", "a.com##.ad\n||b.com^\n||b.com^$popup\n"),
     ("psl.dat", "com\norg\n"),
-    ("s.jsonl", "{\"url\":\"http://x.c.org/\",\"type\":\"script\",\"initiator\":\"http://c.org\"}\n{\"url\":\"http://b.com/\",\"type\":\"script\"}\n{\"cmd\":\"sync\"}\n"),
+    (
+        "s.jsonl",
+        "{\"url\":\"http://x.c.org/\",\"type\":\"script\",\"initiator\":\"http://c.org\"}\n{\"url\":\"http://b.com/\",\"type\":\"script\"}\n{\"cmd\":\"sync\"}\n",
+    ),
     ("bad/manifest.json", "[]"),
 ];
 
@@ -140,7 +149,8 @@ fn extensions_and_lists_are_served(rt: HostRuntime) -> Result<(), Fail> {
     let command = "serve --list l=l.txt --psl psl.dat --ext shop s.jsonl";
     let (status, written) = ended(alloc, command, RULES, NOTHING)?;
     assert_eq!(rt; status, Status::Done);
-    let want = "{\"line\":1,\"generation\":0,\"verdict\":\"none\"}\n{\"line\":2,\"generation\":0,\"verdict\":\"block\",\"rule\":[\"l\",\"list\",1]}\n{\"line\":3,\"bad\":\"not-yet-supported\"}\n";
+    let want =
+        "{\"line\":1,\"generation\":0,\"verdict\":\"none\"}\n{\"line\":2,\"generation\":0,\"verdict\":\"block\",\"rule\":[\"l\",\"list\",1]}\n{\"line\":3,\"bad\":\"not-yet-supported\"}\n";
     assert_eq!(rt; written.as_slice(), want.as_bytes());
     Ok(())
 }
@@ -148,7 +158,8 @@ fn extensions_and_lists_are_served(rt: HostRuntime) -> Result<(), Fail> {
 #[test]
 fn what_is_refused_is_named(rt: HostRuntime) -> Result<(), Fail> {
     let alloc = rt.alloc();
-    let table = r#"serve --ext bad s.jsonl|{"file":"bad/manifest.json","refused":"bad-manifest","path":"manifest"}
+    let table =
+        r#"serve --ext bad s.jsonl|{"file":"bad/manifest.json","refused":"bad-manifest","path":"manifest"}
 serve --ext shop --list shop=l.txt s.jsonl|{"extension":"shop","refused":"extension-there"}
 serve --psl shop/s.json s.jsonl|{"file":"shop/s.json","refused":"bad-suffix","line":1}"#;
     for row in table.lines() {
