@@ -18,7 +18,7 @@ use Rattle.session_spec.specs.Answers.{Setting, Answers}
 use Rattle.session_spec.specs.Loading.{Loaded}
 use Rattle.session_spec.specs.Out.{Counts, HostRose, HoldsLines, HoldsTooMuch, Session, LoadsFor, postpones, setting_for, IsServed, SaysAll, RefusesSession, SessionWrites, IsBeginning, SessionHasTooMuch, EndsBy}
 use Rattle.dnr_top.specs.Answers.{setting_by, WritesAnswers, WritesAnswersInPart}
-use Rattle.dnr_top.specs.Run.{IsRun, EndsText, EndsStop, EndsWith, EndsAnswers, IsOpened, PrintsInstall, HasLongLines, SessionEnds, SaysNoLess, Serves}
+use Rattle.dnr_top.specs.Run.{IsRun, EndsText, EndsStop, EndsWith, EndsAnswers, IsOpened, PrintsInstall, SessionEnds, SaysNoLess, Serves}
 use Rattle.dnr_top.proofs.Answered.{answers_wider}
 
 -- ---- what was written
@@ -95,7 +95,7 @@ not_installed (Some files) loaded postponed script before now shelf sink rose s 
     stop_ends counts (IsServed files counts session script) (RefusesSession files counts session) (SessionHasTooMuch files session script) before now s ended
     (stops_map (PrintsInstall loaded) (RefusesSession files counts session) ⊥ (SessionHasTooMuch files session script) s
     (λ line install. inr (record { loaded = loaded; read = loads; refused = install.refused; judged = install.judged; output = install.same })) (λ none. absurd none) why)
-    (λ is. absurd (no_fault is)) (sink_of before now s ended counts.sink sink less.sink ends)
+    (λ is. absurd (no_fault is)) (sink_of before now s ended counts.sink sink less.same_sink ends)
 
 -- the script is not read
 pub not_started : (known : Option Files) (loaded : Loaded) (basis : Basis) (postponed : Bool) (script : List ℕ) (before now : Option (List ℕ)) (shelf sink : Count) (rose : Type 0) (s : Stop) (ended : Status)
@@ -107,7 +107,7 @@ not_started (Some files) loaded basis postponed script before now shelf sink ros
     (stops_map (λ line. ⊥) (RefusesSession files counts session) (HoldsTooMuch files script) (SessionHasTooMuch files session script) s
     (λ line none. absurd none)
     (λ long. inr (record { loaded = loaded; first = basis.state; opens = record { read = loads; installed = opened.installed }; script = long })) why)
-    (λ is. less.shelf (fault is)) (sink_of before now s ended counts.sink sink less.sink ends)
+    (λ is. less.shelf_rose (fault is)) (sink_of before now s ended counts.sink sink less.same_sink ends)
 
 -- answers by what was seen are answers by what the counts of the run say
 answers_for : (counts : Counts) (session : Session) (loaded : Loaded) (basis : Basis) (postponed : Bool) (rose : Type 0) (first : State) (lines : List (List ℕ)) (written : List ℕ) (last : State)
@@ -160,4 +160,4 @@ pub session_ends : (known : Option Files) (loaded : Loaded) (basis : Basis) (pos
 session_ends None loaded basis postponed script lines before now shelf sink rose ended opened held ends = tt
 session_ends (Some files) loaded basis postponed script lines before now shelf sink rose ended opened held ends = λ session counts loads post less.
     answered_ends files counts session loaded basis postponed rose script lines before now ended loads opened held post less.host
-    (subst (λ (s : Count). EndsAnswers before now s (setting_by basis rose postponed) basis.state lines ended) (sym less.sink) ends)
+    (subst (λ (s : Count). EndsAnswers before now s (setting_by basis rose postponed) basis.state lines ended) (sym less.same_sink) ends)

@@ -42,7 +42,7 @@ not_postponed_from number d (Some (boolean b)) c is = refl
 not_postponed_from number d (Some (numeral n)) c is = refl
 not_postponed_from number d (Some (string name)) c is = not_postponed_name number d name c is
 not_postponed_from number d (Some (array items)) c is = refl
-not_postponed_from number d (Some (object members)) c is = refl
+not_postponed_from number d (Some (object _)) c is = refl
 
 named_so : (field : Option Data) → option_map_or is_postponed_name (option_and_then as_str field) false ≡ name_at field
 named_so None = refl
@@ -50,7 +50,7 @@ named_so (Some d) = refl
 
 not_postponed_members : (number : ℕ) (d : Data) (members : Option Members) (c : Command) → command_of_members number d members ≡ Ok c → names_postponed d ≡ false
 not_postponed_members number d None c is = absurd (cc)
-not_postponed_members number d (Some members) c is = named_so (get (codes "cmd") d) ∙ not_postponed_from number d (field_at path.Cmd d) c is
+not_postponed_members number d (Some _) c is = named_so (get (codes "cmd") d) ∙ not_postponed_from number d (field_at path.Cmd d) c is
 
 not_postponed_tree : (is_blank : Bool) (number : ℕ) (tree : Option Data) (c : Command) → (if is_blank then Ok blank else command_of_tree number tree) ≡ Ok c
     → not is_blank && option_map_or names_postponed tree false ≡ false

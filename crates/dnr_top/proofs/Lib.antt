@@ -2,3 +2,5 @@ pub mod Answered
 pub mod LaterCommands
 pub mod Ended
 pub mod Hosts
+pub mod Commands
+pub mod Listed

@@ -15,7 +15,7 @@ use Rattle.session_load.specs.declared.stop.Stop.{Stop}
 use Rattle.session_load.specs.declared.stop.Stop.TheVariants as stop
 use Rattle.session_spec.specs.Answers.{Setting}
 use Rattle.session_spec.specs.Loading.{Loaded}
-use Rattle.session_spec.specs.Out.{Counts, HasRisen, HostRose, HoldsTooMuch, Session, LoadsFor, postpones, SessionWrites, SessionHasTooMuch, EndsBy}
+use Rattle.session_spec.specs.Out.{Counts, HasRisen, HostRose, Session, LoadsFor, postpones, SessionWrites, SessionHasTooMuch, EndsBy}
 use Rattle.session_spec.specs.Refusals.{install_line, count_line, unsupported_lines}
 use Rattle.dnr_top.specs.Answers.{WritesAnswers, WritesAnswersInPart}
 
@@ -84,12 +84,6 @@ pub record PrintsInstall (loaded : Loaded) (line : List ℕ) : Type 0 where
   pub judged : opening loaded.extensions ≡ Err refused
   pub same : line ≡ install_line refused
 
--- all is installed, and the script is too long
-pub record HasLongLines (files : Files) (loaded : Loaded) (script : List ℕ) : Type 0 where
-  pub first : State
-  pub installed : opening loaded.extensions ≡ Ok first
-  pub script : HoldsTooMuch files script
-
 -- how a session ends that was answered, and what it wrote
 abbrev pub EndsAnswers : Option (List ℕ) → Option (List ℕ) → Count → Setting → State → List (List ℕ) → Status → Type 0
 EndsAnswers before now sink setting first lines ended =
@@ -103,8 +97,8 @@ SessionEnds files counts session script = EndsBy counts (SessionWrites files cou
 -- The counts of a whole run say no less than what was seen of its last part: of the shelf, of the sink, and of the host
 -- that decides.
 pub record SaysNoLess (counts : Counts) (shelf sink : Count) (rose : Type 0) : Type 0 where
-  pub shelf : Rose shelf.before shelf.now → Rose counts.shelf.before counts.shelf.now
-  pub sink : counts.sink ≡ sink
+  pub shelf_rose : Rose shelf.before shelf.now → Rose counts.shelf.before counts.shelf.now
+  pub same_sink : counts.sink ≡ sink
   pub host : rose → HostRose counts 1
 
 -- whichever session this was loaded for, its run may end so

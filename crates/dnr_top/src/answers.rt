@@ -8,8 +8,8 @@ ghost use Rattle.rule_spec.specs.PatternRule.{NamesPattern};
 ghost use Rattle.rule_spec.specs.Scan.{scan};
 ghost use Rattle.generation.specs.Refused.{Ends};
 ghost use Rattle.json_spec.specs.RequestLine as spec;
-ghost use Rattle.session_spec.specs.Answers.{Says};
-ghost use Rattle.dnr_top.specs.Answers.{lines_seen, setting_of, HasNotFallen, AppendsSuch, SaysOfRequest, WritesFront, WritesAnswers, WritesAnswersInPart};
+ghost use Rattle.session_spec.specs.Answers.{Prints, is_postponed};
+ghost use Rattle.dnr_top.specs.Answers.{lines_seen, setting_of, HasNotFallen, AppendsSuch, PrintsOfFault, SaysOfRequest, WritesFront, WritesAnswers, WritesAnswersInPart};
 ghost use Rattle.dnr_top.specs.declared.answers.WriteRefusal.TheVariants as refusal;
 
 use crate::postponed::is_postponed;

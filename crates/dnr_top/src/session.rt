@@ -6,7 +6,7 @@ ghost use Rattle.session_load.specs.Stops.{Prints, StopsAs};
 ghost use Rattle.session_spec.specs.Out.{HoldsLines, HoldsTooMuch, IsSilent};
 ghost use Rattle.session_spec.specs.Refusals.{install_line};
 ghost use Rattle.dnr_top.specs.Answers.{lines_seen, setting_by, WritesAnswers, WritesAnswersInPart};
-ghost use Rattle.dnr_top.specs.Run.{EndsAnswers, HasLongLines, IsOpened, PrintsInstall, RoseAt, Serves, count};
+ghost use Rattle.dnr_top.specs.Run.{EndsAnswers, IsOpened, PrintsInstall, RoseAt, Serves, count};
 
 use crate::answers::{WriteRefusal, answer_lines};
 use crate::ending::stop_with;
