@@ -3,6 +3,9 @@ use Rattle.std.proofs.Common.{◌≡◌, ◌⊎◌, ℕ, List, [], ◌∷◌, �
 use Rattle.std.specs.Prelude.{IfSome}
 use Rattle.dnr_base.specs.Faults.{Rose, Count}
 use Rattle.dnr_spec.specs.declared.status.Status.{Status}
+use Rattle.generation.specs.declared.first.FirstRefusal.{FirstRefusal}
+use Rattle.generation.specs.declared.first.FirstRefusal.TheVariants.{Refused}
+use Rattle.generation.specs.First.{IsFirstRefusal}
 use Rattle.load_spec.specs.Files.{Files, HoldsRules, HoldsLongFile}
 use Rattle.load_spec.specs.Installing.{RefusedInstall, opening}
 use Rattle.load_spec.specs.declared.refusal.Refusal.{Refusal}
@@ -120,3 +123,12 @@ serve_serves (Some files) after counts serving script loaded before now shelf si
     let serves_here = subst (λ (k : Option Files). IfSome k (λ f. Serves f loaded true script before now shelf sink rose ended)) same serves in
     let serves_script = subst (λ (text : List ℕ). Serves files loaded true text before now shelf sink rose ended) named serves_here in
     serves_script (of_words serving) counts loads refl less
+
+-- ---- installations
+
+pub install_refused : (loaded : Loaded) (r : FirstRefusal) (name : List ℕ) (refusal : Refusal) (s : Stop) → r ≡ Refused name refusal → IsFirstRefusal (opening loaded.extensions) r
+    → Prints (install_line (record { extension = name; cause = refusal })) s → StopsAs (PrintsInstall loaded) ⊥ s
+install_refused loaded r name refusal s is why prints =
+    let judged = subst (IsFirstRefusal (opening loaded.extensions)) is why in
+    printed (PrintsInstall loaded) ⊥ (install_line (record { extension = name; cause = refusal })) s prints
+    (record { refused = record { extension = name; cause = refusal }; judged = judged.0; same = refl })
