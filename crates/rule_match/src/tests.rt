@@ -328,10 +328,7 @@ fn a_domain_holds_with_its_subdomains(rt: HostRuntime) -> Result<(), Fail> {
 fn a_web_socket_has_no_method(rt: HostRuntime) {
     let alloc = rt.alloc();
     for (url, given, excluded) in [("ws://a.com/", false, true), ("http://a.com/", true, false)] {
-        assert!(rt;
-            holds(alloc, &by_get(), url, "") == Some(given),
-            "{url}"
-        );
+        assert!(rt; holds(alloc, &by_get(), url, "") == Some(given), "{url}");
         assert!(rt;
             holds(alloc, &not_by_get(), url, "") == Some(excluded),
             "{url}"
