@@ -1,6 +1,6 @@
 -- Of the values that the tests make.
-use Rattle.std.proofs.Common.{◌≡◌, ℕ, ℤ, List, [], Bool, true, false, cond, Ok, Err, codes, nat_eq, length, ◌==◌, subst, sym, refl}
-use Rattle.std.specs.Prelude.{nat_lt, None, is_none, IsTrue, IfSome, ◌||◌}
+use Rattle.std.proofs.Common.{◌≡◌, ℕ, List, [], Bool, true, false, cond, Ok, Err, codes, nat_eq, length, ◌==◌, subst, sym, refl}
+use Rattle.std.specs.Prelude.{ℤ, nat_lt, None, is_none, IsTrue, IfSome, ◌||◌}
 use Rattle.std.specs.List.{list_all, starts_with}
 use Rattle.std.specs.Char.{is_ascii}
 use Rattle.dnr_spec.specs.declared.pattern_refusal.PatternRefusal.TheVariants.{Empty, TooLong, AnchorStar, NotAscii}
