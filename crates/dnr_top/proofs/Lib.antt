@@ -2,5 +2,5 @@ pub mod Answered
 pub mod LaterCommands
 pub mod Ended
 pub mod Hosts
-pub mod Commands
+pub mod Tasks
 pub mod Listed

@@ -2,7 +2,7 @@ use Rattle.std.proofs.Common.{ap, Err, refl, rules}
 use Rattle.dnr_top.specs.Run.{count, counts, host_counts, RoseAt}
 use Rattle.session_load.proofs.Stopped.{rose_since}
 use Rattle.dnr_top.proofs.Hosts.{rose_through}
-use Rattle.dnr_top.proofs.Commands.{compile_ends, compile_stops}
+use Rattle.dnr_top.proofs.Tasks.{compile_ends, compile_stops}
 use Rattle.dnr_top.proofs.commands.compile_list.Goals as goal
 
 pub returns-in-Ok-clause-allowed : goal.returns-in-Ok-clause-allowed

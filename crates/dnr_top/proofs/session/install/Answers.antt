@@ -1,4 +1,4 @@
-use Rattle.dnr_top.proofs.Commands.{install_refused}
+use Rattle.dnr_top.proofs.Tasks.{install_refused}
 use Rattle.dnr_top.proofs.session.install.Goals as goal
 
 pub returns-in-Err-Refused-clause-stops : goal.returns-in-Err-Refused-clause-stops
