@@ -1,5 +1,5 @@
 -- Lines that ask for updates: none of them is a command.
-use Rattle.std.proofs.Common.{◌≡◌, ◌⊎◌, ℕ, List, codes, Bool, true, false, cond, Option, Some, None, Result, Ok, Err, arith, refl, sym, ◌∙◌, subst, inl, inr, ⊎_elim, if◌then◌else◌}
+use Rattle.std.proofs.Common.{◌≡◌, ◌⊎◌, ℕ, List, [], append-nil, OnOk, codes, Bool, true, false, cond, Option, Some, None, Result, Ok, Err, arith, refl, sym, ◌∙◌, subst, inl, inr, ⊎_elim, if◌then◌else◌}
 use Rattle.std.specs.Prelude.{min, not, ◌&&◌, option_and_then}
 use Rattle.std.specs.Option.{option_map_or}
 use Rattle.std.specs.Str.{bytes_eq}
@@ -12,10 +12,11 @@ use Rattle.json_spec.specs.declared.command_path.CommandPath.TheVariants as path
 use Rattle.json_spec.specs.declared.line_fault.LineFault.{LineFault}
 use Rattle.json_spec.specs.declared.line_fault.LineFault.TheVariants.{BadCommand}
 use Rattle.json_spec.specs.Json.{tree_of, text_at}
-use Rattle.json_spec.specs.RequestLine.{Command, blank, field_at, command_named, command_from, command_of_members, command_in, command_of_tree, command_of}
+use Rattle.json_spec.specs.RequestLine.{Command, blank, request, field_at, command_named, command_from, command_of_members, command_in, command_of_tree, command_of}
 use Rattle.session_spec.specs.Answers.{Setting, Says, is_postponed_name, names_postponed, is_postponed, Replies, Prints}
 use Rattle.rule_spec.specs.State.{State}
-use Rattle.dnr_top.specs.Answers.{PrintsOfFault}
+use Rattle.dnr_base.specs.declared.request.Request.{Request}
+use Rattle.dnr_top.specs.Answers.{AppendsSuch, PrintsOfFault, SaysOfRequest}
 
 -- of two names one is asked for, or the command is none
 named : (a b : Bool) (x y : Result Command LineFault) (c : Command) → (if a then x else (if b then y else Err (BadCommand path.Cmd))) ≡ Ok c → (a ≡ true) ⊎ (b ≡ true)
@@ -87,3 +88,15 @@ replies_so setting state number line said fault is false prints = subst (λ (rea
 pub prints_fault : (setting : Setting) (state : State) (number : ℕ) (line said : List ℕ) (fault : LineFault) → command_of number line ≡ Err fault
     → PrintsOfFault (setting.postpones && is_postponed line) number fault said → Prints setting state number line said
 prints_fault setting state number line said fault is prints = replies_so setting state number line said fault is (setting.postpones && is_postponed line) prints
+
+-- a request prints what it says
+pub request_prints : {T E : Type 0} (result : Result T E) (setting : Setting) (state : State) (n : ℕ) (line : List ℕ) (asked : Request) (before now : List ℕ) → command_of n line ≡ Ok (request asked)
+    → OnOk result (AppendsSuch (SaysOfRequest setting state n asked) before now) → OnOk result (AppendsSuch (Prints setting state n line) before now)
+request_prints (Ok x) setting state n line asked before now is says =
+    record { said = says.said; grown = says.grown; such = prints_command setting state n line says.said (request asked) is says.such }
+request_prints (Err e) setting state n line asked before now is says = tt
+
+-- a blank line prints nothing
+pub blank_prints : (setting : Setting) (state : State) (n : ℕ) (line text : List ℕ) → command_of n line ≡ Ok blank → AppendsSuch (Prints setting state n line) text text
+blank_prints setting state n line text is =
+    record { said = []; grown = sym (append-nil text); such = prints_command setting state n line [] blank is refl }

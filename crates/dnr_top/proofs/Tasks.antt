@@ -1,6 +1,7 @@
 -- How each command ends, for a shelf that may tell what its files hold.
 use Rattle.std.proofs.Common.{◌≡◌, ◌⊎◌, ℕ, List, [], ◌∷◌, ◌++◌, length, codes, Bool, true, false, Option, Some, None, refl, sym, ap, ◌∙◌, inl, inr, subst, arith}
 use Rattle.std.specs.Prelude.{IfSome}
+use Rattle.std.specs.Io.KnownBytes.{Appends}
 use Rattle.dnr_base.specs.Faults.{Rose, Count}
 use Rattle.dnr_spec.specs.declared.status.Status.{Status}
 use Rattle.generation.specs.declared.first.FirstRefusal.{FirstRefusal}
@@ -20,9 +21,9 @@ use Rattle.session_load.specs.Loads.{StopsInRules, StopsInList, StopsInServing}
 use Rattle.session_load.specs.Stops.{Prints, StopsAs}
 use Rattle.session_load.proofs.Stopped.{printed, stops_map}
 use Rattle.session_spec.specs.Loading.{PrintsRefusedRules, PrintsRefusedList, RefusesFile, HasLongFileIn, Loaded, Loads}
-use Rattle.session_spec.specs.Out.{Counts, HostRose, Session, of_rules, of_words, LoadsFor, IsCounted, IsCompiled, IsServed, RefusesSession, SessionHasTooMuch, Writes, HasTooMuch, Ends}
+use Rattle.session_spec.specs.Out.{Counts, HostRose, Session, of_rules, of_words, LoadsFor, IsCounted, IsCompiled, IsServed, RefusesSession, SessionHasTooMuch, Writes, HasTooMuch, Ends, EndsFor, Out}
 use Rattle.session_spec.specs.Refusals.{install_line, count_line, unsupported_lines}
-use Rattle.session_spec.specs.Words.{Serving, match_files, check_file, compile_file, serve_script}
+use Rattle.session_spec.specs.Words.{Serving, Task, task_of, match_files, check_file, compile_file, serve_script}
 use Rattle.compile_spec.specs.Compiled.{CompiledRule, rules_in}
 use Rattle.compile_spec.specs.Report.{report}
 use Rattle.compile_spec.specs.declared.reported.Reported.{Reported}
@@ -132,3 +133,13 @@ install_refused loaded r name refusal s is why prints =
     let judged = subst (IsFirstRefusal (opening loaded.extensions)) is why in
     printed (PrintsInstall loaded) ⊥ (install_line (record { extension = name; cause = refusal })) s prints
     (record { refused = record { extension = name; cause = refusal }; judged = judged.0; same = refl })
+
+-- ---- a run
+
+-- what a command may do, for the words that say it
+pub out_of : (known : Option Files) (counts : Counts) (words : List (List ℕ)) (task : Task) (before now : Option (List ℕ)) (ended : Status) → task_of words ≡ Some task
+    → IfSome known (λ files. IsRun before now (Ends files counts task ended))
+    → IfSome known (λ files. (written : List ℕ) × Appends before now written × Out words files counts ended written)
+out_of None counts words task before now ended is ends = tt
+out_of (Some files) counts words task before now ended is (written, taken, ends) =
+    (written, taken, subst (λ (t : Option Task). EndsFor files counts t ended written) (sym is) ends)

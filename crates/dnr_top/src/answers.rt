@@ -1,5 +1,5 @@
 //! The answers to the lines of a script.
-ghost use Rattle.std.specs.Prelude.{◌≡◌, ◌<◌, ◌≤◌, length, IfOk, OnOk, OnErr, string_bytes};
+ghost use Rattle.std.specs.Prelude.{◌≡◌, ◌<◌, ◌≤◌, ◌&&◌, length, IfOk, OnOk, OnErr, string_bytes};
 ghost use Rattle.dnr_base.specs.Faults.{HasCause, HasCauseOf};
 ghost use Rattle.dnr_base.specs.Request.{max_frames};
 ghost use Rattle.dnr_io.specs.Sink.{AppendsPart};
@@ -104,7 +104,7 @@ fn write_if_long<O: Sink>(out: &mut O, text: &mut String) -> Result<(), Failed>
 }
 
 // Appends what a line of this number prints: nothing where it is blank.
-#[tactic(auto, using(crate::proofs::Answered::same_is_no_fall))]
+#[tactic(auto, using(crate::proofs::Answered::same_is_no_fall, crate::proofs::LaterCommands::prints_command, crate::proofs::LaterCommands::prints_fault))]
 fn answer<H: RegexHost>(
     alloc: Global,
     generation: &Generation,
