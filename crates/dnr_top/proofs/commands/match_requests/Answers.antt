@@ -13,7 +13,7 @@ returns-in-Ok-clause-allowed g c =
     c.args.rules.now c.args.script.now c.in-Ok.loaded (g.O.Sink.taken c.args.out.now) (g.O.Sink.taken c.serve.new.out)
     (count (g.F.Source.faults c.load_local_by_first.new.shelf) (g.F.Source.faults c.serve.new.shelf)) (count (g.O.Sink.faults c.args.out.now) (g.O.Sink.faults c.serve.new.out))
     (RoseAt g.H.RegexHost.faults c.load_local_by_first.new.hosts.items c.serve.new.hosts.items 1) c.serve.result
-    c.in-Ok.ensures.files  c.in-Ok.ensures.loads c.serve.ensures.allowed (record {
+    c.in-Ok.ensures.files c.in-Ok.ensures.loads c.serve.ensures.allowed (record {
       shelf_rose = λ rose. rose_since (g.F.Source.faults c.args.shelf.now) (g.F.Source.faults c.load_local_by_first.new.shelf) (g.F.Source.faults c.serve.new.shelf) c.in-Ok.ensures.cause.later rose;
       same_sink = refl;
       host = λ rose. rose_through g.H.RegexHost.faults c.args.hosts.now.items c.load_local_by_first.new.hosts.items c.serve.new.hosts.items 1 c.in-Ok.ensures.second rose;
