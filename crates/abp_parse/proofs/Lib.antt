@@ -1,6 +1,5 @@
 pub mod Ascii
 pub mod Excluding
-pub mod Labels
 pub mod Pieces
 pub mod Places
 pub mod Separators

@@ -6,9 +6,9 @@ ghost use Rattle.dnr_spec.specs.Domains as domains;
 ghost use Rattle.list_spec.specs.Entries as spec;
 ghost use Rattle.list_spec.specs.Pieces as pieces;
 
-use crate::domain::is_domain;
 use crate::text::{cut_at, lower_text};
 use dnr_base::NoMemory;
+use domain_set::is_domain;
 use list_spec::DomainEntry;
 use std::alloc::Global;
 use std::collections::BTreeSet;

@@ -5,7 +5,6 @@
 #![tactic(auto)]
 
 mod asked;
-mod domain;
 mod entries;
 mod filter;
 mod hiding;

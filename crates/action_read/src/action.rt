@@ -2,14 +2,12 @@ ghost use Rattle.std.specs.Prelude.{◌≡◌, codes, Ok, OnOk, IfOk, IfErr, opt
 ghost use Rattle.serde_json.specs.View.{view};
 ghost use Rattle.json_spec.specs.RuleAction as spec;
 ghost use Rattle.json_spec.specs.RuleAction.{action_in};
-ghost use Rattle.rule_spec.specs.Rule.{redirect as rule_redirect};
 ghost use Rattle.dnr_rules.specs.Seen.{action_seen};
 ghost use Rattle.json_spec.specs.MayRefuse.{IsRefused};
 ghost use Rattle.action_read.specs.Seen.{data_in};
 
 use crate::headers::read_changes;
 use crate::redirects::read_redirect;
-use dnr_base::Redirect;
 use dnr_rules::Action;
 use rule_spec::RuleRefusal;
 use serde_json::Value;
@@ -56,21 +54,14 @@ fn read_named(
 {
     match name {
         "block" => Ok(Action::Block),
-        "redirect" => redirecting(alloc, read_redirect(alloc, action, groups)?),
+        "redirect" => {
+            let redirect = read_redirect(alloc, action, groups)?;
+            Ok(Action::Redirect(Box::new(alloc, redirect)?))
+        }
         "allow" => Ok(Action::Allow),
         "upgradeScheme" => Ok(Action::UpgradeScheme),
         "modifyHeaders" => read_changes(alloc, action),
         "allowAllRequests" => Ok(Action::AllowAllRequests),
         _ => Err(RuleRefusal::BadAction),
-    }
-}
-
-fn redirecting(alloc: Global, redirect: Redirect) -> Result<Action, RuleRefusal>
-    ensures ok { IfOk result (λ action. action_seen action ≡ rule_redirect redirect) }
-    ensures refused { IfErr result (λ refusal. refusal ≡ RuleRefusal.NoMemory) }
-{
-    match Box::new(alloc, redirect) {
-        Ok(redirect) => Ok(Action::Redirect(redirect)),
-        Err(_) => Err(RuleRefusal::NoMemory),
     }
 }

@@ -40,10 +40,9 @@ pub(crate) fn read_changes(alloc: Global, action: &Value) -> Result<Action, Rule
     let response = changes_of(alloc, response)?;
     let request = read_ops(alloc, Direction::Request, request.as_slice())?;
     let response = read_ops(alloc, Direction::Response, response.as_slice())?;
-    match Action::modify_headers(alloc, Items::build(request), Items::build(response)) {
-        Ok(action) => Ok(action),
-        Err(_) => Err(RuleRefusal::NoMemory),
-    }
+    let request = Items::build(request);
+    let response = Items::build(response);
+    Ok(Action::modify_headers(alloc, request, response)?)
 }
 
 fn have_no_changes(request: Option<&Value>, response: Option<&Value>) -> bool
@@ -72,10 +71,9 @@ fn changes_of<'a>(alloc: Global, list: Option<&'a Value>) -> Result<Vec<Change<'
         changes_at (data_in list.entry) ≡ Some (changes_seen changes.items)) }
     ensures refused { IfErr result (IsRefused (spec.or_bad_shape (changes_at (data_in list.entry)))) }
 {
-    match changes_in(alloc, list) {
-        Ok(Some(changes)) => Ok(changes),
-        Ok(None) => Err(RuleRefusal::BadHeader(HeaderCause::BadShape)),
-        Err(_) => Err(RuleRefusal::NoMemory),
+    match changes_in(alloc, list)? {
+        Some(changes) => Ok(changes),
+        None => Err(RuleRefusal::BadHeader(HeaderCause::BadShape)),
     }
 }
 
@@ -151,15 +149,10 @@ fn read_ops(
         ops_in direction (changes_seen changes.now) ≡ Ok ops.items) }
     ensures refused { IfErr result (IsRefused (ops_in direction (changes_seen changes.now))) }
 {
-    let mut ops = match Vec::with_capacity(alloc, changes.len()) {
-        Ok(ops) => ops,
-        Err(_) => return Err(RuleRefusal::NoMemory),
-    };
+    let mut ops = Vec::with_capacity(alloc, changes.len())?;
     for change in changes {
         let op = read_op(alloc, direction, change)?;
-        if ops.push(op).is_err() {
-            return Err(RuleRefusal::NoMemory);
-        }
+        ops.push(op)?;
     }
     Ok(ops)
 }

@@ -61,10 +61,9 @@ fn read_extension(alloc: Global, value: &Value) -> Result<Redirect, RuleRefusal>
     ensures ok { IfOk result (λ redirect. extension_in (view value.now) ≡ Ok redirect) }
     ensures refused { IfErr result (IsRefused (extension_in (view value.now))) }
 {
-    match tested_text(alloc, value, Part::ExtensionPath) {
-        Ok(Some(path)) => Ok(Redirect::ExtensionPath(path)),
-        Ok(None) => Err(RuleRefusal::BadRedirect),
-        Err(_) => Err(RuleRefusal::NoMemory),
+    match tested_text(alloc, value, Part::ExtensionPath)? {
+        Some(path) => Ok(Redirect::ExtensionPath(path)),
+        None => Err(RuleRefusal::BadRedirect),
     }
 }
 
@@ -76,11 +75,11 @@ fn read_url(alloc: Global, value: &Value) -> Result<Redirect, RuleRefusal>
     let Some(text) = value.as_str() else {
         return Err(RuleRefusal::BadRedirect);
     };
-    match is_redirect_url(alloc, text) {
-        Ok(true) => Ok(Redirect::Url(copy_text(alloc, text)?)),
-        Ok(false) => Err(RuleRefusal::BadRedirect),
-        Err(_) => Err(RuleRefusal::NoMemory),
+    if !is_redirect_url(alloc, text)? {
+        return Err(RuleRefusal::BadRedirect);
     }
+    let url = String::from_str(alloc, text)?;
+    Ok(Redirect::Url(Text::build(url)))
 }
 
 // Whether a rule may lead to the URL: the URL Standard reads it, and it is no script.
@@ -113,18 +112,11 @@ fn read_substitution(
         return Err(RuleRefusal::BadRedirect);
     };
     match Substitution::read(alloc, text, groups) {
-        Ok(_) => Ok(Redirect::RegexSubstitution(copy_text(alloc, text)?)),
+        Ok(_) => {
+            let text = String::from_str(alloc, text)?;
+            Ok(Redirect::RegexSubstitution(Text::build(text)))
+        }
         Err(SubstitutionRefusal::BadSubstitution) => Err(RuleRefusal::BadRedirect),
         Err(SubstitutionRefusal::NoMemory) => Err(RuleRefusal::NoMemory),
-    }
-}
-
-fn copy_text(alloc: Global, text: &str) -> Result<Text, RuleRefusal>
-    ensures copy { IfOk result (λ copy. copy ≡ text.now) }
-    ensures refused { IfErr result (λ refusal. refusal ≡ RuleRefusal.NoMemory) }
-{
-    match String::from_str(alloc, text) {
-        Ok(text) => Ok(Text::build(text)),
-        Err(_) => Err(RuleRefusal::NoMemory),
     }
 }

@@ -31,17 +31,6 @@ fn told_refusal(refusal: RuleRefusal) -> &'static str {
     }
 }
 
-fn scheme_name(scheme: Scheme) -> &'static str {
-    match scheme {
-        Scheme::Http => "http",
-        Scheme::Https => "https",
-        Scheme::Ws => "ws",
-        Scheme::Wss => "wss",
-        Scheme::Ftp => "ftp",
-        Scheme::ChromeExtension => "chrome-extension",
-    }
-}
-
 fn push_part(told: &mut String, mark: &str, part: &Option<Text>) -> Result<(), AllocError> {
     if let Some(part) = part {
         told.push_str(mark)?;
@@ -69,7 +58,7 @@ fn push_transform(told: &mut String, transform: &Transform) -> Result<(), AllocE
     told.push_str("transform")?;
     if let Some(scheme) = transform.scheme {
         told.push_str(" ")?;
-        told.push_str(scheme_name(scheme))?;
+        told.push_str(scheme.name())?;
     }
     push_part(told, " host<", &transform.host)?;
     push_part(told, " port<", &transform.port)?;

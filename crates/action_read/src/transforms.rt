@@ -199,10 +199,9 @@ fn text_part(
     let Some(value) = transform.get(key) else {
         return Ok(None);
     };
-    match tested_text(alloc, value, part) {
-        Ok(Some(text)) => Ok(Some(text)),
-        Ok(None) => Err(RuleRefusal::BadTransform),
-        Err(_) => Err(RuleRefusal::NoMemory),
+    match tested_text(alloc, value, part)? {
+        Some(text) => Ok(Some(text)),
+        None => Err(RuleRefusal::BadTransform),
     }
 }
 
@@ -251,10 +250,9 @@ fn changes_part(alloc: Global, transform: &Value) -> Result<Option<QueryTransfor
     let Some(value) = transform.get("queryTransform") else {
         return Ok(None);
     };
-    match as_changes(alloc, value) {
-        Ok(Some(changes)) => Ok(Some(changes)),
-        Ok(None) => Err(RuleRefusal::BadTransform),
-        Err(_) => Err(RuleRefusal::NoMemory),
+    match as_changes(alloc, value)? {
+        Some(changes) => Ok(Some(changes)),
+        None => Err(RuleRefusal::BadTransform),
     }
 }
 
@@ -373,15 +371,12 @@ fn flag(value: Option<&Value>) -> Option<bool>
     }
 }
 
-fn lower_case(alloc: Global, host: Option<Text>) -> Result<Option<Text>, RuleRefusal>
-    ensures ok { IfOk result (λ lower. lower ≡ option_map str_to_ascii_lowercase host) }
-    ensures refused { IfErr result (λ refusal. refusal ≡ RuleRefusal.NoMemory) }
+fn lower_case(alloc: Global, host: Option<Text>) -> Result<Option<Text>, NoMemory>
+    ensures { IfOk result (λ lower. lower ≡ option_map str_to_ascii_lowercase host) }
 {
     let Some(host) = host else {
         return Ok(None);
     };
-    match host.as_str().to_ascii_lowercase(alloc) {
-        Ok(lower) => Ok(Some(Text::build(lower))),
-        Err(_) => Err(RuleRefusal::NoMemory),
-    }
+    let lower = host.as_str().to_ascii_lowercase(alloc)?;
+    Ok(Some(Text::build(lower)))
 }

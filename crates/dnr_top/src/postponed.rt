@@ -4,7 +4,8 @@ ghost use Rattle.serde_json.specs.View.{view};
 ghost use Rattle.session_spec.specs.Answers as spec;
 
 use dnr_base::NoMemory;
-use script_read::{is_blank, read_tree};
+use json_spec::read_tree;
+use script_read::is_blank;
 use serde_json::Value;
 use std::alloc::Global;
 

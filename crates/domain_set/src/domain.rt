@@ -6,8 +6,8 @@ ghost use Rattle.dnr_spec.specs.Domains as spec;
 
 use dnr_spec::is_ip_host;
 
-// An address between brackets, or labels with a dot between each two.
-pub(crate) fn is_domain(text: &[u8]) -> bool
+/// Whether a rule may list this domain: it is an address between brackets, or labels with a dot between each two.
+pub fn is_domain(text: &[u8]) -> bool
     ensures { result ≡ spec.is_domain text.now }
 {
     is_address(text) || is_name(text)

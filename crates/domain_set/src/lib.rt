@@ -10,4 +10,5 @@ mod table;
 mod tests;
 
 pub use dnr_spec::DomainRefusal;
+pub use domain::is_domain;
 pub use set::DomainSet;

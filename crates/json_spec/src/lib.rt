@@ -6,6 +6,7 @@ mod command_path;
 mod examples;
 mod line_fault;
 mod request_examples;
+mod tree;
 
 pub use command_path::CommandPath;
 pub use examples::{
@@ -19,3 +20,4 @@ pub use request_examples::{
     first_frame_at_fault_counts, frames_name_their_url, headers_are_pairs, initiators_are_hosts,
     last_of_a_key_counts, tabs_have_a_range, urls_are_refused_by_name,
 };
+pub use tree::read_tree;

@@ -1,5 +1,5 @@
 // The rulesets that a manifest names.
-ghost use Rattle.std.specs.Prelude.{◌≡◌, [], Ok, Some, IfOk, IfErr, is_some, option_map};
+ghost use Rattle.std.specs.Prelude.{◌≡◌, [], Ok, Some, IfOk, IfErr, is_some};
 ghost use Rattle.serde_json.specs.Find.{as_object};
 ghost use Rattle.serde_json.specs.View.{view, items_view};
 ghost use Rattle.json_spec.specs.Json.{tree_of};
@@ -8,7 +8,7 @@ ghost use Rattle.manifest_read.specs.Reading.{IsFaultOf, IsFaultOfBytes};
 
 use crate::fault::Fault;
 use crate::resource::{Resource, resource_in};
-use dnr_base::NoMemory;
+use json_spec::read_tree;
 use load_spec::ManifestPath;
 use serde_json::Value;
 use std::alloc::Global;
@@ -22,22 +22,6 @@ pub(crate) fn read_resources(alloc: Global, bytes: &[u8]) -> Result<Vec<Resource
     match read_tree(alloc, bytes)? {
         Some(tree) => manifest_in(alloc, &tree),
         None => Err(Fault::BadJson),
-    }
-}
-
-// The tree of the bytes, if they are JSON.
-fn read_tree(alloc: Global, bytes: &[u8]) -> Result<Option<Value>, NoMemory>
-    ensures { IfOk result (λ tree. option_map view tree ≡ tree_of bytes.now) }
-{
-    match Value::from_slice(alloc, bytes) {
-        Ok(tree) => Ok(Some(tree)),
-        Err(error) => {
-            if error.is_memory() {
-                Err(NoMemory)
-            } else {
-                Ok(None)
-            }
-        }
     }
 }
 

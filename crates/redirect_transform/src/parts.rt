@@ -114,21 +114,8 @@ fn new_scheme(new: Option<Scheme>, old: &str) -> &str
     ensures { result.now ≡ option_map_or scheme_text new old.now }
 {
     match new {
-        Some(scheme) => scheme_name(scheme),
+        Some(scheme) => scheme.name(),
         None => old,
-    }
-}
-
-fn scheme_name(scheme: Scheme) -> &'static str
-    ensures { result.now ≡ scheme_text scheme }
-{
-    match scheme {
-        Scheme::Http => "http",
-        Scheme::Https => "https",
-        Scheme::Ws => "ws",
-        Scheme::Wss => "wss",
-        Scheme::Ftp => "ftp",
-        Scheme::ChromeExtension => "chrome-extension",
     }
 }
 

@@ -240,10 +240,9 @@ fn texts_field(
     let Some(value) = condition.get(field.key()) else {
         return Ok(None);
     };
-    match forms::as_texts(alloc, value) {
-        Ok(Some(texts)) => Ok(Some(texts)),
-        Ok(None) => Err(RuleRefusal::BadField(field)),
-        Err(_) => Err(RuleRefusal::NoMemory),
+    match forms::as_texts(alloc, value)? {
+        Some(texts) => Ok(Some(texts)),
+        None => Err(RuleRefusal::BadField(field)),
     }
 }
 
@@ -277,10 +276,9 @@ fn kinds_field(
     let Some(value) = condition.get(field.key()) else {
         return Ok(None);
     };
-    match forms::as_kinds(alloc, value) {
-        Ok(Some(kinds)) => Ok(Some(kinds)),
-        Ok(None) => Err(RuleRefusal::BadField(field)),
-        Err(_) => Err(RuleRefusal::NoMemory),
+    match forms::as_kinds(alloc, value)? {
+        Some(kinds) => Ok(Some(kinds)),
+        None => Err(RuleRefusal::BadField(field)),
     }
 }
 
@@ -296,10 +294,9 @@ fn methods_field(
     let Some(value) = condition.get(field.key()) else {
         return Ok(None);
     };
-    match forms::as_methods(alloc, value) {
-        Ok(Some(methods)) => Ok(Some(methods)),
-        Ok(None) => Err(RuleRefusal::BadField(field)),
-        Err(_) => Err(RuleRefusal::NoMemory),
+    match forms::as_methods(alloc, value)? {
+        Some(methods) => Ok(Some(methods)),
+        None => Err(RuleRefusal::BadField(field)),
     }
 }
 
@@ -315,9 +312,8 @@ fn tabs_field(
     let Some(value) = condition.get(field.key()) else {
         return Ok(None);
     };
-    match forms::as_tabs(alloc, value) {
-        Ok(Some(tabs)) => Ok(Some(tabs)),
-        Ok(None) => Err(RuleRefusal::BadField(field)),
-        Err(_) => Err(RuleRefusal::NoMemory),
+    match forms::as_tabs(alloc, value)? {
+        Some(tabs) => Ok(Some(tabs)),
+        None => Err(RuleRefusal::BadField(field)),
     }
 }

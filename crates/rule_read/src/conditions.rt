@@ -67,24 +67,14 @@ pub(crate) fn read_filters<H: RegexHost>(
             }
             let fold = !fields.case_sensitive.unwrap_or(false);
             let groups = check_pattern(text, fold, host)?;
-            let text = copy_text(alloc, text)?;
+            let text = String::from_str(alloc, text)?;
             Ok(Filters {
                 url_filter: None,
-                regex_filter: Some(text),
+                regex_filter: Some(Text::build(text)),
                 groups: Some(groups),
             })
         }
         (Some(_), Some(_)) => Err(RuleRefusal::BothFilters),
-    }
-}
-
-fn copy_text(alloc: Global, text: &str) -> Result<Text, RuleRefusal>
-    ensures copy { IfOk result (λ copy. copy ≡ text.now) }
-    ensures refused { IfErr result (λ refusal. refusal ≡ RuleRefusal.NoMemory) }
-{
-    match String::from_str(alloc, text) {
-        Ok(text) => Ok(Text::build(text)),
-        Err(_) => Err(RuleRefusal::NoMemory),
     }
 }
 

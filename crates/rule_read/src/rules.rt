@@ -21,7 +21,7 @@ use crate::conditions::{
 use crate::frames::test_frames;
 use crate::numbers::{Numbers, id_of, read_numbers};
 use action_read::read_action;
-use dnr_base::{Items, MethodSet};
+use dnr_base::{Items, MethodSet, NoMemory};
 use dnr_rules::{ConditionParts, PlacedRefusal, RareParts, Rule, RuleKind, RuleParts, RuleRefusal};
 use regex_host::RegexHost;
 use rule_fields::{Fields, read_fields};
@@ -98,12 +98,11 @@ fn condition_of(
     fields: Fields<'_>,
     filters: Filters,
     lists: DomainLists,
-) -> Result<ConditionParts, RuleRefusal>
+) -> Result<ConditionParts, NoMemory>
     requires url_filter { filters.url_filter ≡ option_copied fields.url_filter }
     requires regex_filter { filters.regex_filter ≡ option_copied fields.regex_filter }
-    ensures ok { IfOk result (λ condition. condition_seen condition
+    ensures { IfOk result (λ condition. condition_seen condition
         ≡ spec.condition_of (fields_seen fields.entry) (lists_seen lists)) }
-    ensures refused { IfErr result (λ refusal. refusal ≡ RuleRefusal.NoMemory) }
 {
     let Filters {
         url_filter,
@@ -117,9 +116,7 @@ fn condition_of(
         tabs: fields.tabs,
         not_tabs: tabs_or_none(alloc, fields.not_tabs),
     };
-    let Ok(rare) = rare.boxed(alloc) else {
-        return Err(RuleRefusal::NoMemory);
-    };
+    let rare = rare.boxed(alloc)?;
     Ok(ConditionParts {
         url_filter,
         case_sensitive: fields.case_sensitive.unwrap_or(false),

@@ -1,5 +1,9 @@
+ghost use Rattle.std.specs.Prelude.{◌≡◌};
+
 use crate::RulePath;
+use dnr_base::NoMemory;
 use dnr_spec::{HeaderRefusal, PatternRefusal};
+use std::alloc::{AllocError, AllocFailed};
 
 /// Why the header changes of a rule are refused.
 #[derive(Clone, Copy, Debug, PartialEq, Eq)]
@@ -53,4 +57,34 @@ pub enum RuleRefusal {
     HostFault,
     /// Memory ran out.
     NoMemory,
+}
+
+impl From<AllocError> for RuleRefusal {
+    ghost use Rattle.rule_spec.specs.declared.rule_refusal.RuleRefusal.TheVariants.{NoMemory};
+
+    ghost from_gives = { λ _ r. r ≡ NoMemory };
+
+    fn from(_: AllocError) -> RuleRefusal {
+        RuleRefusal::NoMemory
+    }
+}
+
+impl<T: Drop> From<AllocFailed<T>> for RuleRefusal {
+    ghost use Rattle.rule_spec.specs.declared.rule_refusal.RuleRefusal.TheVariants.{NoMemory};
+
+    ghost from_gives = { λ _ r. r ≡ NoMemory };
+
+    fn from(_: AllocFailed<T>) -> RuleRefusal {
+        RuleRefusal::NoMemory
+    }
+}
+
+impl From<NoMemory> for RuleRefusal {
+    ghost use Rattle.rule_spec.specs.declared.rule_refusal.RuleRefusal.TheVariants.{NoMemory};
+
+    ghost from_gives = { λ _ r. r ≡ NoMemory };
+
+    fn from(_: NoMemory) -> RuleRefusal {
+        RuleRefusal::NoMemory
+    }
 }

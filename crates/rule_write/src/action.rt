@@ -1,13 +1,12 @@
 ghost use Rattle.std.specs.Prelude.{◌≡◌, [], ◌∷◌, Some, IfOk, OnOk, map, option_map};
 ghost use Rattle.serde_json.specs.Data.{string};
 ghost use Rattle.serde_json.specs.View.{view, members_view};
-ghost use Rattle.dnr_base.specs.Scheme.{scheme_text};
 ghost use Rattle.dnr_rules.specs.Seen.{action_seen};
 ghost use Rattle.json_spec.specs.Written as spec;
 ghost use Rattle.json_spec.specs.Written.{with_fields, action_written, redirect_written, transform_written, changes_written, pair_written, op_written, operation_name};
 
 use crate::fields::{put, put_text, text_values, true_or_none, unless_empty};
-use dnr_base::{NoMemory, Operation, QueryPair, QueryTransform, Redirect, Scheme, Text, Transform};
+use dnr_base::{NoMemory, Operation, QueryPair, QueryTransform, Redirect, Text, Transform};
 use dnr_rules::Action;
 use header_actions::HeaderOp;
 use serde_json::{Map, Value};
@@ -125,26 +124,13 @@ fn put_place(
         ≡ with_fields (members_view members.old.entries) (spec.place_fields transform.now)) }
 {
     let scheme = match transform.scheme {
-        Some(scheme) => Some(scheme_name(scheme)),
+        Some(scheme) => Some(scheme.name()),
         None => None,
     };
     put_text(alloc, members, "scheme", scheme)?;
     put_part(alloc, members, "host", &transform.host)?;
     put_part(alloc, members, "port", &transform.port)?;
     put_part(alloc, members, "path", &transform.path)
-}
-
-fn scheme_name(scheme: Scheme) -> &'static str
-    ensures { result.now ≡ scheme_text scheme }
-{
-    match scheme {
-        Scheme::Http => "http",
-        Scheme::Https => "https",
-        Scheme::Ws => "ws",
-        Scheme::Wss => "wss",
-        Scheme::Ftp => "ftp",
-        Scheme::ChromeExtension => "chrome-extension",
-    }
 }
 
 fn put_query(

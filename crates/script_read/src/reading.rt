@@ -1,5 +1,5 @@
 // A line, and the request in it.
-ghost use Rattle.std.specs.Prelude.{◌≡◌, Ok, IfOk, IfErr, option_map};
+ghost use Rattle.std.specs.Prelude.{◌≡◌, Ok, IfOk, IfErr};
 ghost use Rattle.serde_json.specs.View.{view};
 ghost use Rattle.dnr_spec.specs.Lines as lines;
 ghost use Rattle.dnr_base.specs.Request.{IsRequest};
@@ -11,8 +11,8 @@ use crate::Command;
 use crate::fields::{initiator_in, kind_in, method_in, tab_in, url_in};
 use crate::frames::frames_in;
 use crate::headers::headers_in;
-use dnr_base::{NoMemory, Request};
-use json_spec::{CommandPath, LineFault};
+use dnr_base::Request;
+use json_spec::{CommandPath, LineFault, read_tree};
 use serde_json::Value;
 use std::alloc::Global;
 
@@ -50,24 +50,6 @@ pub fn is_blank(bytes: &[u8]) -> bool
     ensures { result ≡ lines.is_blank bytes.now }
 {
     bytes.iter().all(|byte| *byte == b' ' || *byte == b'\t')
-}
-
-/// The tree of the line, if it is JSON.
-///
-/// `NoMemory`: memory ran out.
-pub fn read_tree(alloc: Global, bytes: &[u8]) -> Result<Option<Value>, NoMemory>
-    ensures { IfOk result (λ tree. option_map view tree ≡ tree_of bytes.now) }
-{
-    match Value::from_slice(alloc, bytes) {
-        Ok(tree) => Ok(Some(tree)),
-        Err(error) => {
-            if error.is_memory() {
-                Err(NoMemory)
-            } else {
-                Ok(None)
-            }
-        }
-    }
 }
 
 #[tactic(auto, using(crate::proofs::Stops::stops_there), unfolding(json_spec::specs::RequestLine::command_in))]

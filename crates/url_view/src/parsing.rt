@@ -1,6 +1,5 @@
 ghost use Rattle.std.specs.Prelude.{◌≡◌, Ok, IfOk, IfErr};
 ghost use Rattle.url.specs.Parts.{serialize};
-ghost use Rattle.dnr_base.specs.Scheme as schemes;
 ghost use Rattle.dnr_spec.specs.UrlView.{view_of, view_of_full};
 ghost use Rattle.url_view.specs.Refused.{IsRefused};
 
@@ -43,7 +42,7 @@ pub fn parse(alloc: Global, text: &str) -> Result<View, ViewRefusal>
 fn from_url(url: Url) -> Result<View, ViewRefusal>
     ensures { result ≡ view_of_full (serialize url) }
 {
-    let Some(scheme) = scheme_named(url.scheme()) else {
+    let Some(scheme) = Scheme::named(url.scheme()) else {
         return Err(ViewRefusal::BadScheme);
     };
     // A URL without an authority has no bytes between these two places.
@@ -59,18 +58,4 @@ fn from_url(url: Url) -> Result<View, ViewRefusal>
     };
     let cut = url.index(Position::AfterQuery);
     Ok(View::build(Text::build(String::from(url)), cut, scheme, host))
-}
-
-fn scheme_named(name: &str) -> Option<Scheme>
-    ensures { result ≡ schemes.scheme_named name.now }
-{
-    match name {
-        "http" => Some(Scheme::Http),
-        "https" => Some(Scheme::Https),
-        "ws" => Some(Scheme::Ws),
-        "wss" => Some(Scheme::Wss),
-        "ftp" => Some(Scheme::Ftp),
-        "chrome-extension" => Some(Scheme::ChromeExtension),
-        _ => None,
-    }
 }

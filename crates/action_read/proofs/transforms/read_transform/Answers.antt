@@ -153,4 +153,4 @@ returns-clause-ok c =
     let s9 = passes_part c.in_ok-username.ensures.ok s8 in
     let s10 = passes_part c.in_ok-password.ensures.ok s9 in
     tests_end s10
-    ∙ rw (c.in_ok-scheme.ensures.ok, c.in_ok-new_host.ensures.ok, c.in_ok-port.ensures.ok, c.in_ok-path.ensures.ok, c.in_ok-query.ensures.ok, c.in_ok-query_transform.ensures.ok, c.in_ok-fragment.ensures.ok, c.in_ok-username.ensures.ok, c.in_ok-password.ensures.ok, c.in_ok-host.ensures.ok) refl
+    ∙ rw (c.in_ok-scheme.ensures.ok, c.in_ok-new_host.ensures.ok, c.in_ok-port.ensures.ok, c.in_ok-path.ensures.ok, c.in_ok-query.ensures.ok, c.in_ok-query_transform.ensures.ok, c.in_ok-fragment.ensures.ok, c.in_ok-username.ensures.ok, c.in_ok-password.ensures.ok, c.in_ok-host.ensures) refl

@@ -1,7 +1,7 @@
 use Rattle.std.proofs.Common.{sym, ◌∙◌}
 use Rattle.std.proofs.lemmas.Bool.{true≢false}
 use Rattle.json_spec.proofs.Trees.{tree_of_read, tree_of_none}
-use Rattle.script_read.proofs.reading.read_tree.Goals as goal
+use Rattle.json_spec.proofs.tree.read_tree.Goals as goal
 
 pub returns-in-Ok : goal.returns-in-Ok
 returns-in-Ok c = tree_of_read c.args.bytes.now _ c.in-Ok.ensures.ok.0 c.in-Ok.ensures.ok.1
