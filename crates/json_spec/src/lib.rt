@@ -7,6 +7,7 @@ mod examples;
 mod line_fault;
 mod request_examples;
 mod tree;
+mod values;
 
 pub use command_path::CommandPath;
 pub use examples::{
@@ -21,3 +22,4 @@ pub use request_examples::{
     last_of_a_key_counts, tabs_have_a_range, urls_are_refused_by_name,
 };
 pub use tree::read_tree;
+pub use values::{as_kind, as_method, as_tab};

@@ -8,6 +8,7 @@ ghost use Rattle.dnr_base.specs.MethodSet.{methods_of};
 ghost use Rattle.json_spec.specs.RuleFields as form;
 
 use dnr_base::{Items, Kind, KindSet, Method, MethodSet, NoMemory, Text};
+use json_spec::{as_kind, as_method, as_tab};
 use serde_json::Value;
 use std::alloc::Global;
 use std::collections::BTreeSet;
@@ -72,12 +73,6 @@ fn kinds_in(alloc: Global, values: &[Value]) -> Result<Option<Vec<Kind>>, NoMemo
     Ok(Some(kinds))
 }
 
-fn as_kind(value: &Value) -> Option<Kind>
-    ensures { result ≡ form.as_kind (view value.now) }
-{
-    Kind::named(value.as_str()?)
-}
-
 fn kind_set(kinds: &[Kind]) -> KindSet
     ensures { kinds_of result ≡ form.kind_set kinds.now }
 {
@@ -114,12 +109,6 @@ fn methods_in(alloc: Global, values: &[Value]) -> Result<Option<Vec<Method>>, No
     Ok(Some(methods))
 }
 
-fn as_method(value: &Value) -> Option<Method>
-    ensures { result ≡ form.as_method (view value.now) }
-{
-    Method::named(value.as_str()?)
-}
-
 fn method_set(methods: &[Method]) -> MethodSet
     ensures { methods_of result ≡ form.method_set methods.now }
 {
@@ -154,17 +143,6 @@ fn tabs_in(alloc: Global, values: &[Value]) -> Result<Option<Vec<i32>>, NoMemory
         tabs.push(tab)?;
     }
     Ok(Some(tabs))
-}
-
-fn as_tab(value: &Value) -> Option<i32>
-    ensures { result ≡ form.as_tab (view value.now) }
-{
-    let tab = value.as_i64()?;
-    if (-1..=2_147_483_647).contains(&tab) {
-        Some(tab as i32)
-    } else {
-        None
-    }
 }
 
 fn tab_set(alloc: Global, tabs: &[i32]) -> Result<Vec<i32>, NoMemory>

@@ -2,11 +2,10 @@
 ghost use Rattle.std.specs.Prelude.{◌≡◌, Ok, IfOk, IfErr};
 ghost use Rattle.serde_json.specs.View.{view};
 ghost use Rattle.json_spec.specs.RequestLine as spec;
-ghost use Rattle.json_spec.specs.RuleFields as form;
 
 use dnr_base::{Kind, Method, Text, View};
 use dnr_spec::ViewRefusal;
-use json_spec::{CommandPath, LineFault};
+use json_spec::{CommandPath, LineFault, as_kind, as_method, as_tab};
 use serde_json::Value;
 use std::alloc::Global;
 use url_view::parse;
@@ -45,12 +44,6 @@ pub(crate) fn kind_in(tree: &Value) -> Result<Kind, LineFault>
         Some(kind) => Ok(kind),
         None => Err(LineFault::BadCommand(CommandPath::Kind)),
     }
-}
-
-fn as_kind(value: &Value) -> Option<Kind>
-    ensures { result ≡ form.as_kind (view value.now) }
-{
-    Kind::named(value.as_str()?)
 }
 
 // The host of who asks; faults name this field.
@@ -97,12 +90,6 @@ pub(crate) fn method_in(field: CommandPath, tree: &Value) -> Result<Method, Line
     }
 }
 
-fn as_method(value: &Value) -> Option<Method>
-    ensures { result ≡ form.as_method (view value.now) }
-{
-    Method::named(value.as_str()?)
-}
-
 // The tab in which it is asked for.
 #[tactic(auto, unfolding(json_spec::specs::RequestLine::tab_in))]
 pub(crate) fn tab_in(tree: &Value) -> Result<i32, LineFault>
@@ -115,16 +102,5 @@ pub(crate) fn tab_in(tree: &Value) -> Result<i32, LineFault>
     match as_tab(value) {
         Some(tab) => Ok(tab),
         None => Err(LineFault::BadCommand(CommandPath::Tab)),
-    }
-}
-
-fn as_tab(value: &Value) -> Option<i32>
-    ensures { result ≡ form.as_tab (view value.now) }
-{
-    let tab = value.as_i64()?;
-    if (-1..=2_147_483_647).contains(&tab) {
-        Some(tab as i32)
-    } else {
-        None
     }
 }
