@@ -1,5 +1,6 @@
 // The lines of a list, one after another.
-ghost use Rattle.std.specs.Prelude.{◌≡◌, ◌==◌, ◌≤◌, ◌<◌, ◌++◌, ◌∷◌, ℕ, length, position, IfOk, IfErr, IfSome, IsErrOf, OnOk};
+ghost use Rattle.std.specs.Prelude.{◌≡◌, ◌==◌, ◌≤◌, ◌<◌, ◌++◌, ◌∷◌, ℕ, length, position, IfOk};
+ghost use Rattle.std.specs.Prelude.{IfErr, IfSome, IsErrOf, OnOk};
 ghost use Rattle.dnr_base.specs.Faults.{HasCauseOf};
 ghost use Rattle.abp_parse.specs.Cut.{pieces_left};
 ghost use Rattle.abp_parse.specs.Seen.{filter_seen, line_seen, pattern_seen};

@@ -1,5 +1,6 @@
 //! The options of a filter.
-ghost use Rattle.std.specs.Prelude.{◌≡◌, ◌||◌, [], Some, None, false, IsAscii, IfOk, IfErr, OnOk, map, is_some, unwrap_or, option_map};
+ghost use Rattle.std.specs.Prelude.{◌≡◌, ◌||◌, [], Some, None, false, IsAscii, IfOk, IfErr, OnOk};
+ghost use Rattle.std.specs.Prelude.{map, is_some, unwrap_or, option_map};
 ghost use Rattle.std.specs.Char.{to_ascii_lowercase};
 ghost use Rattle.list_spec.specs.Entries.{entries_of};
 ghost use Rattle.list_spec.specs.Options as options;

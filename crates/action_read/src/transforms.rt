@@ -1,4 +1,6 @@
-ghost use Rattle.std.specs.Prelude.{◌≡◌, ℕ, ◌+◌, ◌*◌, ◌-◌, ◌==◌, ◌≤◌, ◌&&◌, ◌||◌, true, codes, Ok, OnOk, IfOk, IfErr, is_some, length, fold, option_map, option_and_then};
+ghost use Rattle.std.specs.Prelude.{◌≡◌, ℕ, ◌+◌, ◌*◌, ◌-◌, ◌==◌, ◌≤◌, ◌&&◌, ◌||◌, true, codes, Ok};
+ghost use Rattle.std.specs.Prelude.{OnOk, IfOk, IfErr, is_some, length, fold, option_map};
+ghost use Rattle.std.specs.Prelude.{option_and_then};
 ghost use Rattle.std.specs.List.{list_any, list_all};
 ghost use Rattle.std.specs.Str.{str_to_ascii_lowercase};
 ghost use Rattle.std.specs.Char.{is_ascii_digit};

@@ -4,7 +4,9 @@
 //! The laws stand in `specs/Laws.antt`.
 #![tactic(auto)]
 
-ghost use Rattle.compile_laws.specs.Laws.{FiltersGiveRules, ListsGiveRules, ListsBlockWhatTheySay, RulesAreCounted, ReportIsWhole, RulesHoldByTheirLines, LinesHoldByTheirRules, RulesDoAsTheirLines};
+ghost use Rattle.compile_laws.specs.Laws.{FiltersGiveRules, ListsGiveRules, ListsBlockWhatTheySay};
+ghost use Rattle.compile_laws.specs.Laws.{RulesAreCounted, ReportIsWhole, RulesHoldByTheirLines};
+ghost use Rattle.compile_laws.specs.Laws.{LinesHoldByTheirRules, RulesDoAsTheirLines};
 
 /// The rules of a supported filter keep what every rule keeps.
 pub fn filters_give_rules()

@@ -1,7 +1,9 @@
 //! Examples of the definitions. Each is stated in `specs/Examples.antt` and computed from the definitions
 //! by the prover; the functions do nothing.
 
-ghost use Rattle.compile_spec.specs.Examples.{RulesOfAList, ReportOfAList, NoTypeGivesNoRule, PageAloneGivesNoAllow, OneRuleWhereNothingIsNested, NestedDomainsStandAlone};
+ghost use Rattle.compile_spec.specs.Examples.{RulesOfAList, ReportOfAList, NoTypeGivesNoRule};
+ghost use Rattle.compile_spec.specs.Examples.{PageAloneGivesNoAllow, OneRuleWhereNothingIsNested};
+ghost use Rattle.compile_spec.specs.Examples.{NestedDomainsStandAlone};
 
 /// A list gives rules for its filters alone, and two for one line.
 #[tactic(auto, using(crate::proofs::Computed::rules_of_a_list))]

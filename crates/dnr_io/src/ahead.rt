@@ -1,4 +1,6 @@
-ghost use Rattle.std.specs.Prelude.{◌≡◌, ◌<◌, ◌≤◌, ◌+◌, List, ℕ, [], length, drop, is_some, slice_range, vec_len, IfOk, OnErr, OnOk, IsErrOf, IsTrue, IsFalse};
+ghost use Rattle.std.specs.Prelude.{◌≡◌, ◌<◌, ◌≤◌, ◌+◌, List, ℕ, [], length, drop, is_some};
+ghost use Rattle.std.specs.Prelude.{slice_range, vec_len, IfOk, OnErr, OnOk, IsErrOf, IsTrue};
+ghost use Rattle.std.specs.Prelude.{IsFalse};
 ghost use Rattle.std.specs.Io.KnownBytes.{prepend_known, IsAtEnd};
 ghost use Rattle.dnr_spec.specs.Lines.{max_line};
 ghost use Rattle.dnr_io.specs.Ahead.{IsFirstPiece, OverflowsLine, MovesPiece};

@@ -1,4 +1,6 @@
-ghost use Rattle.std.specs.Prelude.{◌≡◌, ◌<◌, ◌≤◌, ◌^◌, ◌++◌, Some, None, [], length, take, option_map, unwrap_or, OnOk, OnErr, IsErrOf, IsTrue, IsFalse, string_bytes};
+ghost use Rattle.std.specs.Prelude.{◌≡◌, ◌<◌, ◌≤◌, ◌^◌, ◌++◌, Some, None, [], length, take};
+ghost use Rattle.std.specs.Prelude.{option_map, unwrap_or, OnOk, OnErr, IsErrOf, IsTrue, IsFalse};
+ghost use Rattle.std.specs.Prelude.{string_bytes};
 ghost use Rattle.std.specs.List.{position};
 ghost use Rattle.dnr_io.specs.Files.{is_named, held_in, left_in, bytes_at};
 

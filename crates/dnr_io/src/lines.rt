@@ -1,4 +1,5 @@
-ghost use Rattle.std.specs.Prelude.{◌≡◌, ◌+◌, ◌<◌, ◌≤◌, [], ◌↔◌, length, is_some, true, IfOk, OnOk, IfSome, IsErrOf, IsTrue, IsFalse};
+ghost use Rattle.std.specs.Prelude.{◌≡◌, ◌+◌, ◌<◌, ◌≤◌, [], ◌↔◌, length, is_some, true, IfOk, OnOk};
+ghost use Rattle.std.specs.Prelude.{IfSome, IsErrOf, IsTrue, IsFalse};
 ghost use Rattle.std.specs.Io.KnownBytes.{IsAtEnd, prepend_known};
 ghost use Rattle.dnr_spec.specs.Lines.{max_line, max_lines, without_cr};
 ghost use Rattle.dnr_base.specs.Faults.{HasCauseOf};

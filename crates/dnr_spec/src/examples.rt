@@ -1,7 +1,9 @@
 //! Examples of the definitions. Each is stated in `specs/Examples.antt` and computed from the definitions
 //! by the prover; the functions do nothing.
 
-ghost use Rattle.dnr_spec.specs.Examples.{HostStandsInTheAuthority, HostIsInAscii, PathIsNoHost, EachRefusalOfAUrl, SeparatorFitsTheEnd, DomainAnchorStaysInTheHost, AnchorsAlone};
+ghost use Rattle.dnr_spec.specs.Examples.{HostStandsInTheAuthority, HostIsInAscii, PathIsNoHost};
+ghost use Rattle.dnr_spec.specs.Examples.{EachRefusalOfAUrl, SeparatorFitsTheEnd};
+ghost use Rattle.dnr_spec.specs.Examples.{DomainAnchorStaysInTheHost, AnchorsAlone};
 
 /// The host has no user information and no port; the text has no fragment.
 #[tactic(auto, using(crate::proofs::Computed::host_stands_in_the_authority))]

@@ -2,7 +2,8 @@ ghost use Rattle.std.specs.Prelude.{◌≡◌, ◌++◌, IfOk, OnOk, map};
 ghost use Rattle.std.specs.Option.{option_copied};
 ghost use Rattle.dnr_spec.specs.Headers as spec;
 ghost use Rattle.std.specs.BTreeMap.{IsOrdered};
-ghost use Rattle.header_actions.specs.Table.{Changes, HasValues, by_name, changed_values, headers_of, listed, texts_of};
+ghost use Rattle.header_actions.specs.Table.{Changes, HasValues, by_name, changed_values};
+ghost use Rattle.header_actions.specs.Table.{headers_of, listed, texts_of};
 
 use crate::HeaderOp;
 use dnr_base::{Header, NoMemory, Operation, Text};

@@ -1,7 +1,11 @@
 //! Examples of rules from JSON. Each is stated in `specs/Examples.antt` and computed from the definitions
 //! by the prover; the functions do nothing.
 
-ghost use Rattle.json_spec.specs.Examples.{FieldsAreRead, OldNamesStandAlone, HeadComesInOrder, FieldsComeBeforeFilters, ListsComeInOrder, SessionRulesNameTabs, AllowAllListsFrames, RedirectsHaveForms, HeaderChangesHaveForms, SecondOfAnIdIsNamed};
+ghost use Rattle.json_spec.specs.Examples.{FieldsAreRead, OldNamesStandAlone, HeadComesInOrder};
+ghost use Rattle.json_spec.specs.Examples.{FieldsComeBeforeFilters, ListsComeInOrder};
+ghost use Rattle.json_spec.specs.Examples.{SessionRulesNameTabs, AllowAllListsFrames};
+ghost use Rattle.json_spec.specs.Examples.{RedirectsHaveForms, HeaderChangesHaveForms};
+ghost use Rattle.json_spec.specs.Examples.{SecondOfAnIdIsNamed};
 
 /// Domains are read in lower case, in their order and with their repeats; types count once, in the reference's order.
 #[tactic(auto, using(crate::proofs::Computed::fields_are_read))]

@@ -1,7 +1,11 @@
 //! Examples of script lines that ask for a request. Each is stated in `specs/RequestExamples.antt` and computed
 //! from the definitions by the prover; the functions do nothing.
 
-ghost use Rattle.json_spec.specs.RequestExamples.{BlankLinesAreCommands, CommandsHaveNames, FirstFieldAtFaultIsNamed, LastOfAKeyCounts, UrlsAreRefusedByName, InitiatorsAreHosts, TabsHaveARange, FramesNameTheirUrl, FirstFrameAtFaultCounts, HeadersArePairs};
+ghost use Rattle.json_spec.specs.RequestExamples.{BlankLinesAreCommands, CommandsHaveNames};
+ghost use Rattle.json_spec.specs.RequestExamples.{FirstFieldAtFaultIsNamed, LastOfAKeyCounts};
+ghost use Rattle.json_spec.specs.RequestExamples.{UrlsAreRefusedByName, InitiatorsAreHosts};
+ghost use Rattle.json_spec.specs.RequestExamples.{TabsHaveARange, FramesNameTheirUrl};
+ghost use Rattle.json_spec.specs.RequestExamples.{FirstFrameAtFaultCounts, HeadersArePairs};
 
 /// Spaces and tabs alone are no command; JSON that is cut off is no tree.
 #[tactic(auto, using(crate::proofs::RequestsComputed::blank_lines_are_commands))]

@@ -1,7 +1,8 @@
 //! Examples of the definitions. Each is stated in `specs/Examples.antt` and computed from the definitions
 //! by the prover; the functions do nothing.
 
-ghost use Rattle.list_spec.specs.Examples.{KindsOfLines, CutsStandAtTheLeftmostDollar, TypesAreFolded, DomainsAreToldApart, FaultsComeInOrder};
+ghost use Rattle.list_spec.specs.Examples.{KindsOfLines, CutsStandAtTheLeftmostDollar};
+ghost use Rattle.list_spec.specs.Examples.{TypesAreFolded, DomainsAreToldApart, FaultsComeInOrder};
 
 /// A list has each kind of line.
 #[tactic(auto, using(crate::proofs::Computed::kinds_of_lines))]

@@ -1,7 +1,10 @@
 //! Examples of the definitions. Each is stated in `specs/Examples.antt` and computed from the definitions
 //! by the prover; the functions do nothing.
 
-ghost use Rattle.load_spec.specs.Examples.{NoResourcesAreNone, ResourcesKeepTheirOrder, OutermostFaultIsNamed, FieldsComeInOrder, PathsStayInside, OldestStandsFirst, NameIsInstalledOnce, EnabledRulesetsHaveALimit};
+ghost use Rattle.load_spec.specs.Examples.{NoResourcesAreNone, ResourcesKeepTheirOrder};
+ghost use Rattle.load_spec.specs.Examples.{OutermostFaultIsNamed, FieldsComeInOrder};
+ghost use Rattle.load_spec.specs.Examples.{PathsStayInside, OldestStandsFirst, NameIsInstalledOnce};
+ghost use Rattle.load_spec.specs.Examples.{EnabledRulesetsHaveALimit};
 
 /// A manifest without rulesets names none; keys that are not known are ignored.
 #[tactic(auto, using(crate::proofs::Computed::no_resources_are_none))]

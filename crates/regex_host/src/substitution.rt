@@ -1,4 +1,5 @@
-ghost use Rattle.std.specs.Prelude.{◌≡◌, ◌<◌, ℕ, List, IsAscii, IsSome, IfOk, IfErr, is_some, option_map, length, slice_index, Some, Ok};
+ghost use Rattle.std.specs.Prelude.{◌≡◌, ◌<◌, ℕ, List, IsAscii, IsSome, IfOk, IfErr, is_some};
+ghost use Rattle.std.specs.Prelude.{option_map, length, slice_index, Some, Ok};
 ghost use Rattle.dnr_spec.specs.Patterns.{ArePlacesIn};
 ghost use Rattle.dnr_spec.specs.Substitution as spec;
 ghost use Rattle.dnr_spec.specs.Substitution.{Piece, pieces_of, substitution_of, expansion};

@@ -1,4 +1,5 @@
-ghost use Rattle.std.specs.Prelude.{◌≡◌, ◌≤◌, ◌==◌, false, [], List, filter, not, Ok, OnOk, IfOk, IfErr, length, option_map, unwrap_or};
+ghost use Rattle.std.specs.Prelude.{◌≡◌, ◌≤◌, ◌==◌, false, [], List, filter, not, Ok, OnOk, IfOk};
+ghost use Rattle.std.specs.Prelude.{IfErr, length, option_map, unwrap_or};
 ghost use Rattle.std.specs.Option.{option_copied, option_map_or};
 ghost use Rattle.dnr_base.specs.Faults.{Rose};
 ghost use Rattle.dnr_base.specs.Kind.{all_kinds, has_kind};
@@ -6,7 +7,8 @@ ghost use Rattle.dnr_base.specs.KindSet.{kinds_of};
 ghost use Rattle.dnr_base.specs.MethodSet.{methods_of};
 ghost use Rattle.dnr_spec.specs.Patterns.{groups_of};
 ghost use Rattle.json_spec.specs.ReadRule as spec;
-ghost use Rattle.json_spec.specs.ReadRule.{filters_in, domains_in, domain_lists_in, lists_in, tabs_in, IsAtPattern, kinds_from};
+ghost use Rattle.json_spec.specs.ReadRule.{filters_in, domains_in, domain_lists_in, lists_in};
+ghost use Rattle.json_spec.specs.ReadRule.{tabs_in, IsAtPattern, kinds_from};
 ghost use Rattle.rule_spec.specs.IsRule.{is_regex_text};
 ghost use Rattle.json_spec.specs.MayRefuse.{MayRefuse, IsRefused, RefusesTest};
 ghost use Rattle.rule_fields.specs.Seen.{fields_seen};

@@ -1,4 +1,5 @@
-ghost use Rattle.std.specs.Prelude.{◌≡◌, ◌≤◌, ◌++◌, [], ◌∷◌, ℕ, List, min, length, map, false, codes, Ok, Err, OnOk, OnErr, IfOk, IfErr, IfSome, option_map};
+ghost use Rattle.std.specs.Prelude.{◌≡◌, ◌≤◌, ◌++◌, [], ◌∷◌, ℕ, List, min, length, map, false};
+ghost use Rattle.std.specs.Prelude.{codes, Ok, Err, OnOk, OnErr, IfOk, IfErr, IfSome, option_map};
 ghost use Rattle.std.specs.Ordering.{nat_cmp};
 ghost use Rattle.std.specs.BTreeSet.{contains};
 ghost use Rattle.serde_json.specs.View.{view, items_view};

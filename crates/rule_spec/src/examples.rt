@@ -1,7 +1,11 @@
 //! Examples of the precedence scan. Each is stated in `specs/Examples.antt` and computed from the definitions
 //! by the prover; the functions do nothing.
 
-ghost use Rattle.rule_spec.specs.Examples.{PageIsExempt, FrameWithoutUrlExemptsNothing, BlockPrevailsAcrossExtensions, RedirectWithoutTargetDecidesNothing, AllowOutdoesWeakerHeaderRules, AppendsKeepOutTheOthers, SetKeepsOutOtherExtensions};
+ghost use Rattle.rule_spec.specs.Examples.{PageIsExempt, FrameWithoutUrlExemptsNothing};
+ghost use Rattle.rule_spec.specs.Examples.{BlockPrevailsAcrossExtensions};
+ghost use Rattle.rule_spec.specs.Examples.{RedirectWithoutTargetDecidesNothing};
+ghost use Rattle.rule_spec.specs.Examples.{AllowOutdoesWeakerHeaderRules, AppendsKeepOutTheOthers};
+ghost use Rattle.rule_spec.specs.Examples.{SetKeepsOutOtherExtensions};
 
 /// An `allowAllRequests` for a page reaches what its frames ask for, and goes first at equal priority.
 #[tactic(auto, using(crate::proofs::Computed::page_is_exempt))]

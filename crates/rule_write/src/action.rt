@@ -3,7 +3,9 @@ ghost use Rattle.serde_json.specs.Data.{string};
 ghost use Rattle.serde_json.specs.View.{view, members_view};
 ghost use Rattle.dnr_rules.specs.Seen.{action_seen};
 ghost use Rattle.json_spec.specs.Written as spec;
-ghost use Rattle.json_spec.specs.Written.{with_fields, action_written, redirect_written, transform_written, changes_written, pair_written, op_written, operation_name};
+ghost use Rattle.json_spec.specs.Written.{with_fields, action_written, redirect_written};
+ghost use Rattle.json_spec.specs.Written.{transform_written, changes_written, pair_written};
+ghost use Rattle.json_spec.specs.Written.{op_written, operation_name};
 
 use crate::fields::{put, put_text, text_values, true_or_none, unless_empty};
 use dnr_base::{NoMemory, Operation, QueryPair, QueryTransform, Redirect, Text, Transform};

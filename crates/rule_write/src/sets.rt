@@ -8,7 +8,8 @@ ghost use Rattle.dnr_base.specs.KindSet.{kinds_of};
 ghost use Rattle.dnr_base.specs.MethodSet.{methods_of};
 ghost use Rattle.json_spec.specs.RuleFields.{kind_set, method_set};
 ghost use Rattle.json_spec.specs.Written as spec;
-ghost use Rattle.json_spec.specs.Written.{ascending_domains, ascending_tabs, with_tab_in_place, tab_written, kind_written, method_written};
+ghost use Rattle.json_spec.specs.Written.{ascending_domains, ascending_tabs, with_tab_in_place};
+ghost use Rattle.json_spec.specs.Written.{tab_written, kind_written, method_written};
 
 use dnr_base::{Kind, KindSet, Method, MethodSet, NoMemory, Text};
 use domain_set::DomainSet;

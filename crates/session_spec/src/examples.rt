@@ -1,7 +1,20 @@
 //! Examples of the definitions. Each is stated in `specs/Examples.antt` and computed from the definitions
 //! by the prover; the functions do nothing.
 
-ghost use Rattle.session_spec.specs.Examples.{NoRulesDecideNothing, MainFrameIsLeftAlone, AllowPrevailsAtEqualPriority, GreaterPriorityPrevails, SmallerIdPrevails, BlankLinesCount, CrAloneIsNoBlankLine, BrokenLinesAreBad, NullIsPresent, FractionIsNoId, LastValueOfAKeyCounts, SecondOfEqualIdsIsAtFault, FirstRuleAtFaultIsNamed, FilterIsRefusedWithItsReason, NestingHasALimit, MatchTakesTwoFileNames, CheckTakesAKind, CompileTakesAFile, ServeTakesOptions, ServeIsStrict, RefusedFilesSayWhy, RefusedInstallsSayWhy, UnsupportedLinesSayWhy, CompiledListsAreReported, TwoFilesAreServed, RulesAreCounted, UsageIsForBadWords};
+ghost use Rattle.session_spec.specs.Examples.{NoRulesDecideNothing, MainFrameIsLeftAlone};
+ghost use Rattle.session_spec.specs.Examples.{AllowPrevailsAtEqualPriority};
+ghost use Rattle.session_spec.specs.Examples.{GreaterPriorityPrevails, SmallerIdPrevails};
+ghost use Rattle.session_spec.specs.Examples.{BlankLinesCount, CrAloneIsNoBlankLine};
+ghost use Rattle.session_spec.specs.Examples.{BrokenLinesAreBad, NullIsPresent, FractionIsNoId};
+ghost use Rattle.session_spec.specs.Examples.{LastValueOfAKeyCounts, SecondOfEqualIdsIsAtFault};
+ghost use Rattle.session_spec.specs.Examples.{FirstRuleAtFaultIsNamed};
+ghost use Rattle.session_spec.specs.Examples.{FilterIsRefusedWithItsReason, NestingHasALimit};
+ghost use Rattle.session_spec.specs.Examples.{MatchTakesTwoFileNames, CheckTakesAKind};
+ghost use Rattle.session_spec.specs.Examples.{CompileTakesAFile, ServeTakesOptions, ServeIsStrict};
+ghost use Rattle.session_spec.specs.Examples.{RefusedFilesSayWhy, RefusedInstallsSayWhy};
+ghost use Rattle.session_spec.specs.Examples.{UnsupportedLinesSayWhy, CompiledListsAreReported};
+ghost use Rattle.session_spec.specs.Examples.{TwoFilesAreServed, RulesAreCounted};
+ghost use Rattle.session_spec.specs.Examples.{UsageIsForBadWords};
 
 /// Without rules a request goes on.
 #[tactic(auto, using(crate::proofs::Computed::no_rules_decide_nothing))]

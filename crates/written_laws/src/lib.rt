@@ -4,8 +4,12 @@
 //! a rule's normal form is stands in `specs/Normal.antt`.
 #![tactic(auto)]
 
-ghost use Rattle.written_laws.specs.Alike.{NormalRulesAreRules, NormalRulesAreWrittenAlike, NormalRulesHoldAlike, NormalRulesStay, NormalStatesDecideAlike};
-ghost use Rattle.written_laws.specs.Read.{TablessRulesAreRead, TextsTellRulesApart, WrittenRulesAreRead, WrittenTextsAreTrees, WrittenTextsAreUtf8, WrittenTreesAreRead};
+ghost use Rattle.written_laws.specs.Alike.{NormalRulesAreRules, NormalRulesAreWrittenAlike};
+ghost use Rattle.written_laws.specs.Alike.{NormalRulesHoldAlike, NormalRulesStay};
+ghost use Rattle.written_laws.specs.Alike.{NormalStatesDecideAlike};
+ghost use Rattle.written_laws.specs.Read.{TablessRulesAreRead, TextsTellRulesApart};
+ghost use Rattle.written_laws.specs.Read.{WrittenRulesAreRead, WrittenTextsAreTrees};
+ghost use Rattle.written_laws.specs.Read.{WrittenTextsAreUtf8, WrittenTreesAreRead};
 
 use header_actions::changes_read_again;
 use rule_laws::rules_keep_their_form;
