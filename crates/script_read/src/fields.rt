@@ -40,7 +40,10 @@ pub(crate) fn kind_in(tree: &Value) -> Result<Kind, LineFault>
     ensures read { IfOk result (λ kind. spec.kind_in (view tree.now) ≡ Ok kind) }
     ensures refused { IfErr result (spec.IsFaultOf (spec.kind_in (view tree.now))) }
 {
-    match tree.get(CommandPath::Kind.name()).and_then(as_kind) {
+    match tree
+        .get(CommandPath::Kind.name())
+        .and_then(|value| as_kind(value))
+    {
         Some(kind) => Ok(kind),
         None => Err(LineFault::BadCommand(CommandPath::Kind)),
     }
