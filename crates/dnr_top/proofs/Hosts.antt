@@ -1,33 +1,27 @@
--- The counts of hosts, of which one was used.
-use Rattle.std.proofs.Common.{◌≡◌, ℕ, List, [], ◌∷◌, zero, suc, Option, Some, None, refl, sym, ap, ◌∙◌, subst}
-use Rattle.std.specs.Prelude.{slice_get}
-use Rattle.dnr_base.specs.Faults.{Rose, Count}
-use Rattle.session_spec.specs.Out.{HasRisen}
-use Rattle.dnr_top.specs.Run.{count, host_counts, RoseAt}
+-- The counts of hosts, of which a run had the first two.
+use Rattle.std.proofs.Common.{◌≡◌, ℕ, ◌<◌, List, [], ◌∷◌, ◌++◌, length, take, drop, ap, ◌∙◌, arith, append-nil, slice_index_or, slice_set}
+use Rattle.std.proofs.lemmas.List.{take_all, drop_all}
+use Rattle.dnr_base.specs.Faults.{Count}
+use Rattle.dnr_top.specs.Run.{count, host_counts}
 
-abbrev count_between : {H : Type 0} → (H → ℕ) → Option H → Option H → Option Count
-count_between faults None now = None
-count_between faults (Some host) None = None
-count_between faults (Some host) (Some other) = Some (count (faults host) (faults other))
+-- a vector of which the whole slice was written
+all_written : {H : Type 0} (hosts now : List H) (len : ℕ) → length hosts ≡ len → length now ≡ len → take len (now ++ drop (length now) hosts) ≡ now
+all_written hosts now len was is =
+    ap (λ rest. take len (now ++ rest)) (drop_all (length now) hosts (omega (arith, was, is))) ∙ ap (take len) (append-nil now) ∙ take_all len now (omega (arith, is))
 
-none_now : {H : Type 0} (faults : H → ℕ) (host : Option H) → count_between faults host None ≡ None
-none_now faults None = refl
-none_now faults (Some host) = refl
+-- the counts of the hosts after the first of `back`: no run has them
+abbrev pub others_of : {H : Type 0} → (H → ℕ) → List H → List Count
+others_of faults [] = []
+others_of faults (finder ∷ others) = host_counts faults others others
 
-count_at : {H : Type 0} (faults : H → ℕ) (hosts now : List H) (place : ℕ) → slice_get (host_counts faults hosts now) place ≡ count_between faults (slice_get hosts place) (slice_get now place)
-count_at faults [] now place = refl
-count_at faults (host ∷ hosts) [] place = sym (none_now faults (slice_get (host ∷ hosts) place))
-count_at faults (host ∷ hosts) (other ∷ now) zero = refl
-count_at faults (host ∷ hosts) (other ∷ now) (suc place) = count_at faults hosts now place
-
--- the host at this place failed
-pub rose_at : {H : Type 0} (faults : H → ℕ) (hosts now : List H) (place : ℕ) (old new : H) → slice_get hosts place ≡ Some old → slice_get now place ≡ Some new
-    → Rose (faults old) (faults new) → RoseAt faults hosts now place
-rose_at faults hosts now place old new was is rose =
-    subst HasRisen (sym (count_at faults hosts now place ∙ ap (λ o. count_between faults o (slice_get now place)) was ∙ ap (count_between faults (Some old)) is)) rose
-
--- the same of hosts of which that one was not used before
-pub rose_through : {H : Type 0} (faults : H → ℕ) (hosts between now : List H) (place : ℕ) → slice_get between place ≡ slice_get hosts place
-    → RoseAt faults between now place → RoseAt faults hosts now place
-rose_through faults hosts between now place same rose =
-    subst HasRisen (count_at faults between now place ∙ ap (λ o. count_between faults o (slice_get now place)) same ∙ sym (count_at faults hosts now place)) rose
+-- the hosts were split after the first, and the first of both parts were used
+pub counts_of_both : {H : Type 0} (faults : H → ℕ) (hosts front back : List H) (len : ℕ) (checker checked finder found : H)
+    → length hosts ≡ len → 1 < length hosts → hosts ≡ front ++ back → length front ≡ 1
+    → host_counts faults hosts (take len (slice_set front 0 checked ++ slice_set back 0 found ++ drop (length (slice_set front 0 checked ++ slice_set back 0 found)) hosts))
+    ≡ count (faults (slice_index_or front 0 checker)) (faults checked) ∷ count (faults (slice_index_or back 0 finder)) (faults found) ∷ others_of faults back
+counts_of_both faults hosts [] back len checker checked finder found all two split one = absurd (omega (arith, one))
+counts_of_both faults hosts (first ∷ second ∷ front) back len checker checked finder found all two split one = absurd (omega (arith, one))
+counts_of_both faults hosts (first ∷ []) [] len checker checked finder found all two split one = absurd (omega (arith, two, ap length split))
+counts_of_both faults hosts (first ∷ []) (second ∷ others) len checker checked finder found all two split one =
+    ap (host_counts faults hosts) (all_written hosts (checked ∷ found ∷ others) len all (omega (arith, all, ap length split)))
+    ∙ ap (λ l. host_counts faults l (checked ∷ found ∷ others)) split

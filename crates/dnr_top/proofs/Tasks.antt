@@ -29,8 +29,17 @@ use Rattle.compile_spec.specs.Report.{report}
 use Rattle.compile_spec.specs.declared.reported.Reported.{Reported}
 use Rattle.json_spec.specs.Written.{written as json_text}
 use Rattle.list_spec.specs.LineKind as list
-use Rattle.dnr_top.specs.Run.{IsRun, EndsStop, EndsWith, PrintsInstall, SaysNoLess, Serves, text_of}
+use Rattle.dnr_top.specs.Run.{IsRun, EndsStop, EndsWith, PrintsInstall, SaysNoLess, Serves, MayEnd, among, text_of, with_hosts}
 use Rattle.dnr_top.proofs.Ended.{stop_ends, text_ends}
+
+-- ---- a command among others
+
+-- how a command ends is said for each list of hosts that it did not have
+pub may_end : (known : Option Files) (task : Task) (used : Counts) (before now : Option (List ℕ)) (ended : Status)
+    → ((others : List Count) → IfSome known (λ files. IsRun before now (Ends files (among used others) task ended)))
+    → MayEnd known task used before now ended
+may_end None task used before now ended each = tt
+may_end (Some files) task used before now ended each = each
 
 -- ---- `check`
 
@@ -136,10 +145,21 @@ install_refused loaded r name refusal s is why prints =
 
 -- ---- a run
 
+-- what a command did, of a run with these hosts, of which the command had the first
+out_among : (files : Files) (used : Counts) (others hosts : List Count) (words : List (List ℕ)) (task : Task) (before now : Option (List ℕ)) (ended : Status)
+    → task_of words ≡ Some task → hosts ≡ used.hosts ++ others → IsRun before now (Ends files (among used others) task ended)
+    → IsRun before now (Out words files (with_hosts used hosts) ended)
+out_among files used others hosts words task before now ended is first (written, taken, ends) = (
+  written,
+  taken,
+  subst (λ (h : List Count). Out words files (with_hosts used h) ended written) (sym first)
+      (subst (λ (t : Option Task). EndsFor files (among used others) t ended written) (sym is) ends),
+)
+
 -- what a command may do, for the words that say it
-pub out_of : (known : Option Files) (counts : Counts) (words : List (List ℕ)) (task : Task) (before now : Option (List ℕ)) (ended : Status) → task_of words ≡ Some task
-    → IfSome known (λ files. IsRun before now (Ends files counts task ended))
-    → IfSome known (λ files. (written : List ℕ) × Appends before now written × Out words files counts ended written)
-out_of None counts words task before now ended is ends = tt
-out_of (Some files) counts words task before now ended is (written, taken, ends) =
-    (written, taken, subst (λ (t : Option Task). EndsFor files counts t ended written) (sym is) ends)
+pub out_of : (known : Option Files) (used : Counts) (others hosts : List Count) (words : List (List ℕ)) (task : Task) (before now : Option (List ℕ)) (ended : Status)
+    → task_of words ≡ Some task → hosts ≡ used.hosts ++ others → MayEnd known task used before now ended
+    → IfSome known (λ files. (written : List ℕ) × Appends before now written × Out words files (with_hosts used hosts) ended written)
+out_of None used others hosts words task before now ended is first ends = tt
+out_of (Some files) used others hosts words task before now ended is first ends =
+    out_among files used others hosts words task before now ended is first (ends others)

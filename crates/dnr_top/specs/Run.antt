@@ -1,6 +1,7 @@
 -- What a run does.
-use Rattle.std.specs.Prelude.{◌≡◌, ◌⊎◌, ℕ, List, [], ◌∷◌, ◌++◌, codes, length, slice_get, Bool, Option, Ok, Err, string_bytes}
+use Rattle.std.specs.Prelude.{◌≡◌, ◌⊎◌, ℕ, List, [], ◌∷◌, ◌++◌, codes, length, Bool, Option, Ok, Err, Vec, IfSome, string_bytes}
 use Rattle.std.specs.Io.KnownBytes.{Appends}
+use Rattle.std.specs.declared.alloc.Global.{Global}
 use Rattle.dnr_base.specs.Faults.{Rose, Count}
 use Rattle.dnr_io.specs.Sink.{AppendsPart}
 use Rattle.dnr_spec.specs.declared.status.Status.{Status}
@@ -13,11 +14,13 @@ use Rattle.rule_spec.specs.State.{State}
 use Rattle.session_load.specs.declared.lists.CompiledList.{CompiledList}
 use Rattle.session_load.specs.declared.stop.Stop.{Stop}
 use Rattle.session_load.specs.declared.stop.Stop.TheVariants as stop
+use Rattle.session_load.specs.Stops.{StopsAs}
 use Rattle.session_spec.specs.Answers.{Setting}
 use Rattle.session_spec.specs.Loading.{Loaded}
-use Rattle.session_spec.specs.Out.{Counts, HasRisen, HostRose, Session, LoadsFor, postpones, SessionWrites, SessionHasTooMuch, EndsBy}
+use Rattle.session_spec.specs.Out.{Counts, HostRose, HoldsLines, HoldsTooMuch, Session, LoadsFor, postpones, SessionWrites, SessionHasTooMuch, EndsBy, Ends}
 use Rattle.session_spec.specs.Refusals.{install_line, count_line, unsupported_lines}
-use Rattle.dnr_top.specs.Answers.{WritesAnswers, WritesAnswersInPart}
+use Rattle.session_spec.specs.Words.{Task}
+use Rattle.dnr_top.specs.Answers.{lines_seen, WritesAnswers, WritesAnswersInPart}
 
 -- what was written is as it may be
 abbrev pub IsRun : Option (List ℕ) → Option (List ℕ) → (List ℕ → Type 0) → Type 0
@@ -33,10 +36,6 @@ abbrev pub host_counts : {H : Type 0} → (H → ℕ) → List H → List H → 
 host_counts faults [] now = []
 host_counts faults (host ∷ hosts) [] = []
 host_counts faults (host ∷ hosts) (other ∷ now) = count (faults host) (faults other) ∷ host_counts faults hosts now
-
--- the count of the host at a place rose
-abbrev pub RoseAt : {H : Type 0} → (H → ℕ) → List H → List H → ℕ → Type 0
-RoseAt faults hosts now place = HasRisen (slice_get (host_counts faults hosts now) place)
 
 -- the counts of the shelf and of the sink, each before the call and after it, and those of the hosts
 abbrev pub counts : ℕ → ℕ → ℕ → ℕ → List Count → Counts
@@ -106,3 +105,37 @@ abbrev pub Serves : Files → Loaded → Bool → List ℕ → Option (List ℕ)
 Serves files loaded postponed script before now shelf sink rose ended =
     (session : Session) (counts : Counts) → LoadsFor files session loaded → postpones session ≡ postponed → SaysNoLess counts shelf sink rose
     → IsRun before now (SessionEnds files counts session script ended)
+
+-- where the shelf tells what its files hold, the session may end so
+abbrev pub MayServe : Option Files → Loaded → Bool → List ℕ → Option (List ℕ) → Option (List ℕ) → Count → Count → Type 0 → Status → Type 0
+MayServe known loaded postponed script before now shelf sink rose ended =
+    IfSome known (λ files. Serves files loaded postponed script before now shelf sink rose ended)
+
+-- ---- scripts, of a shelf that may tell what its files hold
+
+-- the file is a script of these lines
+abbrev pub TellsLines : Option Files → List ℕ → List (Vec ℕ Global) → Type 0
+TellsLines known name lines = IfSome known (λ files. HoldsLines files name (lines_seen lines))
+
+-- the file is a script with a line that is too long, or with too many lines
+abbrev pub TellsTooMuch : Option Files → List ℕ → Type 0
+TellsTooMuch known name = IfSome known (λ files. HoldsTooMuch files name)
+
+-- a run stops in its script: nothing of it is refused
+abbrev pub StopsInScript : Option Files → List ℕ → Stop → Type 0
+StopsInScript known name stop = IfSome known (λ files. StopsAs (λ line. ⊥) (HoldsTooMuch files name) stop)
+
+-- ---- commands
+
+-- the same counts, of a run that has these hosts
+abbrev pub with_hosts : Counts → List Count → Counts
+with_hosts counts hosts = record { shelf = counts.shelf; sink = counts.sink; hosts = hosts }
+
+-- the counts of a run that has these other hosts, after those that a command had
+abbrev pub among : Counts → List Count → Counts
+among counts others = with_hosts counts (counts.hosts ++ others)
+
+-- where the shelf tells what its files hold, a command that had these hosts may end so, whatever others there are
+abbrev pub MayEnd : Option Files → Task → Counts → Option (List ℕ) → Option (List ℕ) → Status → Type 0
+MayEnd known task counts before now ended =
+    IfSome known (λ files. (others : List Count) → IsRun before now (Ends files (among counts others) task ended))

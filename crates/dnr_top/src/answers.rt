@@ -67,9 +67,11 @@ pub fn answer_lines<O: Sink, H: RegexHost>(
 ) -> Result<(), WriteRefusal>
     requires { length lines.now ≤ max_lines }
     ensures written { OnOk result (WritesAnswers (O.taken out.old) (O.taken out.new)
-        (setting_of generation.now (H.faults host.old) (H.faults host.new) postpones) generation.now.state (lines_seen lines.now)) }
+        (setting_of generation.now (H.faults host.old) (H.faults host.new) postpones)
+        generation.now.state (lines_seen lines.now)) }
     ensures part { OnErr result (WritesAnswersInPart (O.taken out.old) (O.taken out.new)
-        (setting_of generation.now (H.faults host.old) (H.faults host.new) postpones) generation.now.state (lines_seen lines.now)) }
+        (setting_of generation.now (H.faults host.old) (H.faults host.new) postpones)
+        generation.now.state (lines_seen lines.now)) }
     ensures cause { HasCauseOf WriteRefusal.Failed (O.faults out.old) (O.faults out.new) result }
 {
     let mut text = String::new(alloc);
@@ -91,7 +93,8 @@ pub fn answer_lines<O: Sink, H: RegexHost>(
 
 // Writes the text and empties it, where it is long enough for a piece.
 fn write_if_long<O: Sink>(out: &mut O, text: &mut String) -> Result<(), Failed>
-    ensures front { OnOk result (WritesFront (O.taken out.old) (O.taken out.new) (string_bytes text.old) (string_bytes text.new)) }
+    ensures front { OnOk result (WritesFront (O.taken out.old) (O.taken out.new)
+        (string_bytes text.old) (string_bytes text.new)) }
     ensures part { OnErr result (AppendsPart (O.taken out.old) (O.taken out.new) (string_bytes text.old)) }
     ensures cause { HasCause (O.faults out.old) (O.faults out.new) result }
 {
@@ -114,8 +117,10 @@ fn answer<H: RegexHost>(
     host: &mut H,
     into: &mut String,
 ) -> Result<(), NoMemory>
-    ensures said { OnOk result (AppendsSuch (Prints (setting_of generation.now (H.faults host.old) (H.faults host.new) postpones)
-        generation.now.state number line.now) (string_bytes into.old) (string_bytes into.new)) }
+    ensures said { OnOk result (AppendsSuch
+        (Prints (setting_of generation.now (H.faults host.old) (H.faults host.new) postpones)
+        generation.now.state number line.now)
+        (string_bytes into.old) (string_bytes into.new)) }
     ensures later { HasNotFallen (H.faults host.old) (H.faults host.new) }
 {
     match read_line(alloc, number, line) {
@@ -161,8 +166,10 @@ fn answer_request<H: RegexHost>(
     into: &mut String,
 ) -> Result<(), NoMemory>
     requires { length request.now.frames ≤ max_frames }
-    ensures said { OnOk result (AppendsSuch (SaysOfRequest (setting_of generation.now (H.faults host.old) (H.faults host.new) postpones)
-        generation.now.state number request.now) (string_bytes into.old) (string_bytes into.new)) }
+    ensures said { OnOk result (AppendsSuch
+        (SaysOfRequest (setting_of generation.now (H.faults host.old) (H.faults host.new) postpones)
+        generation.now.state number request.now)
+        (string_bytes into.old) (string_bytes into.new)) }
     ensures later { HasNotFallen (H.faults host.old) (H.faults host.new) }
 {
     match decide(alloc, generation, request, host) {

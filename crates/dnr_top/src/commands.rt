@@ -1,29 +1,23 @@
 //! The commands: what is read, answered and written, in order.
-ghost use Rattle.std.specs.Prelude.{◌≡◌, ◌≢◌, ◌≤◌, ◌<◌, ◌↔◌, ℕ, List, None, map, length, slice_get, IfOk, IfErr, IfSome, string_bytes};
+ghost use Rattle.std.specs.Prelude.{◌≡◌, ◌≢◌, ◌<◌, ◌↔◌, ℕ, List, [], ◌∷◌, None, map, length, IfSome, string_bytes};
 ghost use Rattle.std.specs.Io.KnownBytes.{Appends};
-ghost use Rattle.dnr_base.specs.Faults.{Rose, HasCauseOf};
-ghost use Rattle.load_spec.specs.Files.{HoldsRules};
-ghost use Rattle.rule_spec.specs.declared.rule_kind.RuleKind.TheVariants.{Static};
-ghost use Rattle.session_load.specs.Lists.{HoldsCompiled};
-ghost use Rattle.session_load.specs.Loads.{StopsInList, StopsInRules, StopsInServing};
-ghost use Rattle.session_spec.specs.Loading.{Loads};
-ghost use Rattle.session_spec.specs.Out.{Out, Ends, IsSilent, LoadsFor, of_rules};
+ghost use Rattle.dnr_base.specs.Faults.{Rose};
+ghost use Rattle.session_spec.specs.Out.{Out, IsSilent};
 ghost use Rattle.session_spec.specs.Words.{match_files, check_file, compile_file, serve_script, task_of};
 ghost use Rattle.session_spec.specs.Refusals.{count_line};
 ghost use Rattle.dnr_top.specs.Run as run;
-ghost use Rattle.dnr_top.specs.Run.{EndsWith, IsRun, RoseAt, count, counts, host_counts};
+ghost use Rattle.dnr_top.specs.Run.{EndsWith, MayEnd, count, counts, host_counts};
 
 use crate::compiling::text_of;
 use crate::ending::{stop_with, write_to_end};
 use crate::session::serve;
 use dnr_base::NoMemory;
 use dnr_io::{Shelf, Sink, Status};
-use dnr_rules::Rule;
 use dnr_words::{Serving, Task, read_words};
 use explain_report::write_count;
 use regex_host::RegexHost;
 use rule_spec::RuleKind;
-use session_load::{CompiledList, Loaded, Stop, load_list, load_local, load_rules, load_serving};
+use session_load::{CompiledList, load_list, load_local, load_rules, load_serving};
 use std::alloc::Global;
 
 /// Runs the command that the words after the program's name say, over the files of the shelf, and writes
@@ -50,7 +44,8 @@ pub fn run<F: Shelf, O: Sink, H: RegexHost>(
     ensures silent { IsSilent result → O.taken out.new ≡ O.taken out.old }
 
     // Where the shelf tells what its files hold, the status and what was written are allowed.
-    ensures allowed { IfSome (F.Source.files shelf.old) (λ files. (written : List ℕ) × Appends (O.taken out.old) (O.taken out.new) written
+    ensures allowed { IfSome (F.Source.files shelf.old) (λ files. (written : List ℕ)
+        × Appends (O.taken out.old) (O.taken out.new) written
         × Out (map string_bytes words.now) files
         (counts (F.Source.faults shelf.old) (F.Source.faults shelf.new) (O.faults out.old) (O.faults out.new)
         (host_counts H.faults hosts.old.items hosts.new.items)) result written) }
@@ -59,11 +54,15 @@ pub fn run<F: Shelf, O: Sink, H: RegexHost>(
     ensures read_fault { result ≡ Status.ReadFault → Rose (F.Source.faults shelf.old) (F.Source.faults shelf.new) }
     ensures write_fault { result ≡ Status.WriteFault → Rose (O.faults out.old) (O.faults out.new) }
 {
+    let (checkers, finders) = hosts.split_at_mut(1);
+    let (checker, finder) = (&mut checkers[0], &mut finders[0]);
     match read_words(words) {
-        Some(Task::Match(rules, script)) => match_requests(alloc, rules, script, shelf, out, hosts),
-        Some(Task::Check(kind, rules)) => check_rules(alloc, kind, rules, shelf, out, hosts),
-        Some(Task::Compile(list)) => compile_list(alloc, list, shelf, out, hosts),
-        Some(Task::Serve(serving)) => serve_script(alloc, &serving, shelf, out, hosts),
+        Some(Task::Match(rules, script)) => {
+            match_requests(alloc, rules, script, shelf, out, checker, finder)
+        }
+        Some(Task::Check(kind, rules)) => check_rules(alloc, kind, rules, shelf, out, checker),
+        Some(Task::Compile(list)) => compile_list(alloc, list, shelf, out, checker),
+        Some(Task::Serve(serving)) => serve_script(alloc, &serving, shelf, out, checker, finder),
         None => Status::Usage,
     }
 }
@@ -74,21 +73,21 @@ fn match_requests<F: Shelf, O: Sink, H: RegexHost>(
     script: &str,
     shelf: &mut F,
     out: &mut O,
-    hosts: &mut Vec<H>,
+    checker: &mut H,
+    finder: &mut H,
 ) -> Status
-    requires { 1 < length hosts.old.items }
     ensures no_usage { result ≢ Status.Usage }
     ensures silent { IsSilent result → O.taken out.new ≡ O.taken out.old }
-    ensures allowed { IfSome (F.Source.files shelf.old) (λ files. IsRun (O.taken out.old) (O.taken out.new)
-        (Ends files
+    ensures allowed { MayEnd (F.Source.files shelf.old) (match_files rules.now script.now)
         (counts (F.Source.faults shelf.old) (F.Source.faults shelf.new) (O.faults out.old) (O.faults out.new)
-        (host_counts H.faults hosts.old.items hosts.new.items))
-        (match_files rules.now script.now) result)) }
+        (count (H.faults checker.old) (H.faults checker.new)
+        ∷ count (H.faults finder.old) (H.faults finder.new) ∷ []))
+        (O.taken out.old) (O.taken out.new) result }
     ensures read_fault { result ≡ Status.ReadFault → Rose (F.Source.faults shelf.old) (F.Source.faults shelf.new) }
     ensures write_fault { result ≡ Status.WriteFault → Rose (O.faults out.old) (O.faults out.new) }
 {
-    match load_local_by_first(alloc, rules, shelf, hosts) {
-        Ok(loaded) => serve(alloc, loaded, script, false, shelf, out, hosts),
+    match load_local(alloc, rules, shelf, checker) {
+        Ok(loaded) => serve(alloc, loaded, script, false, shelf, out, finder),
         Err(stop) => stop_with(&stop, out),
     }
 }
@@ -98,21 +97,21 @@ fn serve_script<F: Shelf, O: Sink, H: RegexHost>(
     serving: &Serving<'_>,
     shelf: &mut F,
     out: &mut O,
-    hosts: &mut Vec<H>,
+    checker: &mut H,
+    finder: &mut H,
 ) -> Status
-    requires { 1 < length hosts.old.items }
     ensures no_usage { result ≢ Status.Usage }
     ensures silent { IsSilent result → O.taken out.new ≡ O.taken out.old }
-    ensures allowed { IfSome (F.Source.files shelf.old) (λ files. IsRun (O.taken out.old) (O.taken out.new)
-        (Ends files
+    ensures allowed { MayEnd (F.Source.files shelf.old) (serve_script serving.now)
         (counts (F.Source.faults shelf.old) (F.Source.faults shelf.new) (O.faults out.old) (O.faults out.new)
-        (host_counts H.faults hosts.old.items hosts.new.items))
-        (serve_script serving.now) result)) }
+        (count (H.faults checker.old) (H.faults checker.new)
+        ∷ count (H.faults finder.old) (H.faults finder.new) ∷ []))
+        (O.taken out.old) (O.taken out.new) result }
     ensures read_fault { result ≡ Status.ReadFault → Rose (F.Source.faults shelf.old) (F.Source.faults shelf.new) }
     ensures write_fault { result ≡ Status.WriteFault → Rose (O.faults out.old) (O.faults out.new) }
 {
-    match load_serving_by_first(alloc, serving, shelf, hosts) {
-        Ok(loaded) => serve(alloc, loaded, serving.script(), true, shelf, out, hosts),
+    match load_serving(alloc, serving, shelf, checker) {
+        Ok(loaded) => serve(alloc, loaded, serving.script(), true, shelf, out, finder),
         Err(stop) => stop_with(&stop, out),
     }
 }
@@ -123,20 +122,18 @@ fn check_rules<F: Shelf, O: Sink, H: RegexHost>(
     name: &str,
     shelf: &mut F,
     out: &mut O,
-    hosts: &mut Vec<H>,
+    checker: &mut H,
 ) -> Status
-    requires { 1 < length hosts.old.items }
     ensures no_usage { result ≢ Status.Usage }
     ensures silent { IsSilent result → O.taken out.new ≡ O.taken out.old }
-    ensures allowed { IfSome (F.Source.files shelf.old) (λ files. IsRun (O.taken out.old) (O.taken out.new)
-        (Ends files
+    ensures allowed { MayEnd (F.Source.files shelf.old) (check_file kind name.now)
         (counts (F.Source.faults shelf.old) (F.Source.faults shelf.new) (O.faults out.old) (O.faults out.new)
-        (host_counts H.faults hosts.old.items hosts.new.items))
-        (check_file kind name.now) result)) }
+        (count (H.faults checker.old) (H.faults checker.new) ∷ []))
+        (O.taken out.old) (O.taken out.new) result }
     ensures read_fault { result ≡ Status.ReadFault → Rose (F.Source.faults shelf.old) (F.Source.faults shelf.new) }
     ensures write_fault { result ≡ Status.WriteFault → Rose (O.faults out.old) (O.faults out.new) }
 {
-    match load_rules_by_first(alloc, name, kind, shelf, hosts) {
+    match load_rules(alloc, name, kind, shelf, checker) {
         Ok(rules) => count_rules(alloc, rules.len(), out),
         Err(stop) => stop_with(&stop, out),
     }
@@ -147,20 +144,18 @@ fn compile_list<F: Shelf, O: Sink, H: RegexHost>(
     name: &str,
     shelf: &mut F,
     out: &mut O,
-    hosts: &mut Vec<H>,
+    checker: &mut H,
 ) -> Status
-    requires { 1 < length hosts.old.items }
     ensures no_usage { result ≢ Status.Usage }
     ensures silent { IsSilent result → O.taken out.new ≡ O.taken out.old }
-    ensures allowed { IfSome (F.Source.files shelf.old) (λ files. IsRun (O.taken out.old) (O.taken out.new)
-        (Ends files
+    ensures allowed { MayEnd (F.Source.files shelf.old) (compile_file name.now)
         (counts (F.Source.faults shelf.old) (F.Source.faults shelf.new) (O.faults out.old) (O.faults out.new)
-        (host_counts H.faults hosts.old.items hosts.new.items))
-        (compile_file name.now) result)) }
+        (count (H.faults checker.old) (H.faults checker.new) ∷ []))
+        (O.taken out.old) (O.taken out.new) result }
     ensures read_fault { result ≡ Status.ReadFault → Rose (F.Source.faults shelf.old) (F.Source.faults shelf.new) }
     ensures write_fault { result ≡ Status.WriteFault → Rose (O.faults out.old) (O.faults out.new) }
 {
-    match load_list_by_first(alloc, name, shelf, hosts) {
+    match load_list(alloc, name, shelf, checker) {
         Ok(list) => print_list(alloc, &list, out),
         Err(stop) => stop_with(&stop, out),
     }
@@ -168,7 +163,8 @@ fn compile_list<F: Shelf, O: Sink, H: RegexHost>(
 
 // Writes how many rules a file has, and says how the run ends.
 fn count_rules<O: Sink>(alloc: Global, rules: usize, out: &mut O) -> Status
-    ensures { EndsWith (O.taken out.old) (O.taken out.new) (count (O.faults out.old) (O.faults out.new)) (count_line rules) result }
+    ensures { EndsWith (O.taken out.old) (O.taken out.new)
+        (count (O.faults out.old) (O.faults out.new)) (count_line rules) result }
 {
     let mut text = String::new(alloc);
     match write_count(rules, &mut text) {
@@ -179,83 +175,11 @@ fn count_rules<O: Sink>(alloc: Global, rules: usize, out: &mut O) -> Status
 
 // Writes a compiled list, and says how the run ends.
 fn print_list<O: Sink>(alloc: Global, list: &CompiledList, out: &mut O) -> Status
-    ensures { EndsWith (O.taken out.old) (O.taken out.new) (count (O.faults out.old) (O.faults out.new)) (run.text_of list.now) result }
+    ensures { EndsWith (O.taken out.old) (O.taken out.new)
+        (count (O.faults out.old) (O.faults out.new)) (run.text_of list.now) result }
 {
     match text_of(alloc, list) {
         Ok(text) => write_to_end(&text, Status::Done, out),
         Err(NoMemory) => Status::NoMemory,
     }
-}
-
-// Reads the rules file of `match`. The first host checks their patterns.
-fn load_local_by_first<F: Shelf, H: RegexHost>(
-    alloc: Global,
-    name: &str,
-    shelf: &mut F,
-    hosts: &mut Vec<H>,
-) -> Result<Loaded, Stop>
-    requires { 1 < length hosts.old.items }
-    ensures loads { IfOk result (λ loaded. IfSome (F.Source.files shelf.old) (λ files. LoadsFor files (of_rules name.now) loaded)) }
-    ensures stops { IfErr result (StopsInRules (F.Source.files shelf.old) (RoseAt H.faults hosts.old.items hosts.new.items 0) Static name.now) }
-    ensures files { F.Source.files shelf.new ≡ F.Source.files shelf.old }
-    ensures cause { HasCauseOf Stop.ReadFault (F.Source.faults shelf.old) (F.Source.faults shelf.new) result }
-    ensures second { slice_get hosts.new.items 1 ≡ slice_get hosts.old.items 1 }
-    ensures count { length hosts.new.items ≡ length hosts.old.items }
-{
-    load_local(alloc, name, shelf, &mut hosts[0])
-}
-
-// Reads what a session names. The first host checks their patterns.
-fn load_serving_by_first<F: Shelf, H: RegexHost>(
-    alloc: Global,
-    serving: &Serving<'_>,
-    shelf: &mut F,
-    hosts: &mut Vec<H>,
-) -> Result<Loaded, Stop>
-    requires { 1 < length hosts.old.items }
-    ensures loads { IfOk result (λ loaded. IfSome (F.Source.files shelf.old) (λ files. Loads files serving.now loaded)) }
-    ensures stops { IfErr result (StopsInServing (F.Source.files shelf.old) (RoseAt H.faults hosts.old.items hosts.new.items 0) serving.now) }
-    ensures files { F.Source.files shelf.new ≡ F.Source.files shelf.old }
-    ensures cause { HasCauseOf Stop.ReadFault (F.Source.faults shelf.old) (F.Source.faults shelf.new) result }
-    ensures second { slice_get hosts.new.items 1 ≡ slice_get hosts.old.items 1 }
-    ensures count { length hosts.new.items ≡ length hosts.old.items }
-{
-    load_serving(alloc, serving, shelf, &mut hosts[0])
-}
-
-// Reads the rules of a file. The first host checks their patterns.
-fn load_rules_by_first<F: Shelf, H: RegexHost>(
-    alloc: Global,
-    name: &str,
-    kind: RuleKind,
-    shelf: &mut F,
-    hosts: &mut Vec<H>,
-) -> Result<Vec<Rule>, Stop>
-    requires { 1 < length hosts.old.items }
-    ensures rules { IfOk result (λ rules. IfSome (F.Source.files shelf.old) (λ files. HoldsRules files kind name.now rules.items)) }
-    ensures stops { IfErr result (StopsInRules (F.Source.files shelf.old) (RoseAt H.faults hosts.old.items hosts.new.items 0) kind name.now) }
-    ensures files { F.Source.files shelf.new ≡ F.Source.files shelf.old }
-    ensures cause { HasCauseOf Stop.ReadFault (F.Source.faults shelf.old) (F.Source.faults shelf.new) result }
-    ensures second { slice_get hosts.new.items 1 ≡ slice_get hosts.old.items 1 }
-    ensures count { length hosts.new.items ≡ length hosts.old.items }
-{
-    load_rules(alloc, name, kind, shelf, &mut hosts[0])
-}
-
-// Reads a filter list. The first host checks their patterns.
-fn load_list_by_first<F: Shelf, H: RegexHost>(
-    alloc: Global,
-    name: &str,
-    shelf: &mut F,
-    hosts: &mut Vec<H>,
-) -> Result<CompiledList, Stop>
-    requires { 1 < length hosts.old.items }
-    ensures list { IfOk result (λ list. IfSome (F.Source.files shelf.old) (λ files. HoldsCompiled files name.now list)) }
-    ensures stops { IfErr result (StopsInList (F.Source.files shelf.old) (RoseAt H.faults hosts.old.items hosts.new.items 0) name.now) }
-    ensures files { F.Source.files shelf.new ≡ F.Source.files shelf.old }
-    ensures cause { HasCauseOf Stop.ReadFault (F.Source.faults shelf.old) (F.Source.faults shelf.new) result }
-    ensures second { slice_get hosts.new.items 1 ≡ slice_get hosts.old.items 1 }
-    ensures count { length hosts.new.items ≡ length hosts.old.items }
-{
-    load_list(alloc, name, shelf, &mut hosts[0])
 }

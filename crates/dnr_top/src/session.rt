@@ -1,12 +1,12 @@
 //! A session: what was loaded is installed, and the lines of a script are answered.
-ghost use Rattle.std.specs.Prelude.{◌≡◌, ◌≢◌, ◌<◌, ◌≤◌, length, Err, IfOk, IfErr, IfSome, IsErrOf, OnOk, OnErr};
+ghost use Rattle.std.specs.Prelude.{◌≡◌, ◌≢◌, ◌≤◌, length, Err, IfOk, IfErr, IsErrOf};
 ghost use Rattle.dnr_base.specs.Faults.{Rose, HasCauseOf};
 ghost use Rattle.dnr_spec.specs.Lines.{max_lines};
 ghost use Rattle.session_load.specs.Stops.{Prints, StopsAs};
-ghost use Rattle.session_spec.specs.Out.{HoldsLines, HoldsTooMuch, IsSilent};
+ghost use Rattle.session_spec.specs.Out.{IsSilent};
 ghost use Rattle.session_spec.specs.Refusals.{install_line};
-ghost use Rattle.dnr_top.specs.Answers.{lines_seen, setting_by, WritesAnswers, WritesAnswersInPart};
-ghost use Rattle.dnr_top.specs.Run.{EndsAnswers, IsOpened, PrintsInstall, RoseAt, Serves, count};
+ghost use Rattle.dnr_top.specs.Answers.{lines_seen, setting_of};
+ghost use Rattle.dnr_top.specs.Run.{EndsAnswers, IsOpened, MayServe, PrintsInstall, StopsInScript, TellsLines, TellsTooMuch, count};
 
 use crate::answers::{WriteRefusal, answer_lines};
 use crate::ending::stop_with;
@@ -20,7 +20,7 @@ use session_load::{Loaded, Stop};
 use std::alloc::Global;
 
 /// Installs what was loaded, reads the script and answers its lines. Where the session postpones them, lines that ask for
-/// updates are answered as what is not there yet. The second host finds the matches of patterns.
+/// updates are answered as what is not there yet. `finder` finds the matches of patterns.
 pub fn serve<F: Shelf, O: Sink, H: RegexHost>(
     alloc: Global,
     loaded: Loaded,
@@ -28,14 +28,14 @@ pub fn serve<F: Shelf, O: Sink, H: RegexHost>(
     postponed: bool,
     shelf: &mut F,
     out: &mut O,
-    hosts: &mut Vec<H>,
+    finder: &mut H,
 ) -> Status
-    requires { 1 < length hosts.old.items }
     ensures no_usage { result ≢ Status.Usage }
     ensures silent { IsSilent result → O.taken out.new ≡ O.taken out.old }
-    ensures allowed { IfSome (F.Source.files shelf.old) (λ files. Serves files loaded postponed script.now (O.taken out.old) (O.taken out.new)
+    ensures allowed { MayServe (F.Source.files shelf.old) loaded postponed script.now
+        (O.taken out.old) (O.taken out.new)
         (count (F.Source.faults shelf.old) (F.Source.faults shelf.new)) (count (O.faults out.old) (O.faults out.new))
-        (RoseAt H.faults hosts.old.items hosts.new.items 1) result) }
+        (Rose (H.faults finder.old) (H.faults finder.new)) result }
     ensures later { F.Source.faults shelf.old ≤ F.Source.faults shelf.new }
     ensures read_fault { result ≡ Status.ReadFault → Rose (F.Source.faults shelf.old) (F.Source.faults shelf.new) }
     ensures write_fault { result ≡ Status.WriteFault → Rose (O.faults out.old) (O.faults out.new) }
@@ -45,7 +45,7 @@ pub fn serve<F: Shelf, O: Sink, H: RegexHost>(
         Err(stop) => return stop_with(&stop, out),
     };
     match load_script(alloc, script, shelf) {
-        Ok(lines) => answer(alloc, &generation, postponed, &lines, out, hosts),
+        Ok(lines) => answer(alloc, &generation, postponed, &lines, out, finder),
         Err(stop) => stop_with(&stop, out),
     }
 }
@@ -76,9 +76,9 @@ fn refused(alloc: Global, extension: &str, refusal: &Refusal) -> Stop
 
 // Reads the lines of a script, all before the first is answered.
 fn load_script<F: Shelf>(alloc: Global, name: &str, shelf: &mut F) -> Result<Vec<Vec<u8>>, Stop>
-    ensures lines { IfOk result (λ lines. IfSome (F.Source.files shelf.old) (λ files. HoldsLines files name.now (lines_seen lines.items))) }
+    ensures lines { IfOk result (λ lines. TellsLines (F.Source.files shelf.old) name.now lines.items) }
     ensures count { IfOk result (λ lines. length lines.items ≤ max_lines) }
-    ensures stops { IfErr result (λ stop. IfSome (F.Source.files shelf.old) (λ files. StopsAs (λ _. ⊥) (HoldsTooMuch files name.now) stop)) }
+    ensures stops { IfErr result (StopsInScript (F.Source.files shelf.old) name.now) }
     ensures cause { HasCauseOf Stop.ReadFault (F.Source.faults shelf.old) (F.Source.faults shelf.new) result }
 {
     match lines_of(alloc, name, shelf) {
@@ -90,51 +90,32 @@ fn load_script<F: Shelf>(alloc: Global, name: &str, shelf: &mut F) -> Result<Vec
 }
 
 fn lines_of<F: Shelf>(alloc: Global, name: &str, shelf: &mut F) -> Result<Vec<Vec<u8>>, LineRefusal>
-    ensures lines { IfOk result (λ lines. IfSome (F.Source.files shelf.old) (λ files. HoldsLines files name.now (lines_seen lines.items))) }
+    ensures lines { IfOk result (λ lines. TellsLines (F.Source.files shelf.old) name.now lines.items) }
     ensures count { IfOk result (λ lines. length lines.items ≤ max_lines) }
-    ensures too_long { IsErrOf result LineRefusal.LineTooLong → IfSome (F.Source.files shelf.old) (λ files. HoldsTooMuch files name.now) }
+    ensures too_long { IsErrOf result LineRefusal.LineTooLong → TellsTooMuch (F.Source.files shelf.old) name.now }
     ensures cause { HasCauseOf LineRefusal.ReadFault (F.Source.faults shelf.old) (F.Source.faults shelf.new) result }
 {
     shelf.start(name)?;
     read_lines(alloc, shelf)
 }
 
-// Answers the lines. The second host finds the matches of patterns.
+// Answers the lines. `finder` finds the matches of patterns.
 fn answer<O: Sink, H: RegexHost>(
     alloc: Global,
     generation: &Generation,
     postponed: bool,
     lines: &[Vec<u8>],
     out: &mut O,
-    hosts: &mut Vec<H>,
+    finder: &mut H,
 ) -> Status
-    requires lines { length lines.now ≤ max_lines }
-    requires hosts { 1 < length hosts.old.items }
+    requires { length lines.now ≤ max_lines }
     ensures { EndsAnswers (O.taken out.old) (O.taken out.new) (count (O.faults out.old) (O.faults out.new))
-        (setting_by generation.now (RoseAt H.faults hosts.old.items hosts.new.items 1) postponed) generation.now.state (lines_seen lines.now) result }
+        (setting_of generation.now (H.faults finder.old) (H.faults finder.new) postponed)
+        generation.now.state (lines_seen lines.now) result }
 {
-    match answer_by_second(alloc, generation, postponed, lines, out, hosts) {
+    match answer_lines(alloc, generation, postponed, lines, out, finder) {
         Ok(()) => Status::Done,
         Err(WriteRefusal::Failed) => Status::WriteFault,
         Err(WriteRefusal::NoMemory) => Status::NoMemory,
     }
-}
-
-fn answer_by_second<O: Sink, H: RegexHost>(
-    alloc: Global,
-    generation: &Generation,
-    postponed: bool,
-    lines: &[Vec<u8>],
-    out: &mut O,
-    hosts: &mut Vec<H>,
-) -> Result<(), WriteRefusal>
-    requires lines { length lines.now ≤ max_lines }
-    requires hosts { 1 < length hosts.old.items }
-    ensures written { OnOk result (WritesAnswers (O.taken out.old) (O.taken out.new)
-        (setting_by generation.now (RoseAt H.faults hosts.old.items hosts.new.items 1) postponed) generation.now.state (lines_seen lines.now)) }
-    ensures part { OnErr result (WritesAnswersInPart (O.taken out.old) (O.taken out.new)
-        (setting_by generation.now (RoseAt H.faults hosts.old.items hosts.new.items 1) postponed) generation.now.state (lines_seen lines.now)) }
-    ensures cause { HasCauseOf WriteRefusal.Failed (O.faults out.old) (O.faults out.new) result }
-{
-    answer_lines(alloc, generation, postponed, lines, out, &mut hosts[1])
 }
