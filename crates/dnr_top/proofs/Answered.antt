@@ -48,7 +48,7 @@ replies_wider suffixes updates A B wider false state number line said prints = s
 pub prints_wider : (suffixes : List SuffixRule) (updates : Bool) (A B : Type 0) → (A → B) → (state : State) (number : ℕ) (line said : List ℕ)
     → Prints (with_host suffixes updates A) state number line said → Prints (with_host suffixes updates B) state number line said
 prints_wider suffixes updates A B wider state number line said prints =
-    replies_wider suffixes updates A B wider (updates && is_postponed line) state number line said prints
+    replies_wider suffixes updates A B wider (is_postponed updates line) state number line said prints
 
 pub answers_wider : (suffixes : List SuffixRule) (updates : Bool) (A B : Type 0) → (A → B) → (state : State) (number : ℕ) (lines : List (List ℕ)) (said : List ℕ) (last : State)
     → Answers (with_host suffixes updates A) state number lines said last → Answers (with_host suffixes updates B) state number lines said last
@@ -158,7 +158,7 @@ pub record AnswersTo (setting : Setting) (first : State) (number : ℕ) (lines :
 answers_to : (setting : Setting) (first : State) (number : ℕ) (lines : List (List ℕ)) → AnswersTo setting first number lines
 answers_to setting first number [] = record { said = []; last = first; answers = (refl, refl) }
 answers_to setting first number (line ∷ lines) =
-    let reply = some_reply (setting.postpones && is_postponed line) setting first number line in
+    let reply = some_reply (is_postponed setting.postpones line) setting first number line in
     let later = answers_to setting first (number + 1) lines in
     record {
       said = reply.said ++ later.said;

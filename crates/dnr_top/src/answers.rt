@@ -1,5 +1,5 @@
 //! The answers to the lines of a script.
-ghost use Rattle.std.specs.Prelude.{◌≡◌, ◌<◌, ◌≤◌, ◌&&◌, length, IfOk, OnOk, OnErr, string_bytes};
+ghost use Rattle.std.specs.Prelude.{◌≡◌, ◌<◌, ◌≤◌, length, IfOk, OnOk, OnErr, string_bytes};
 ghost use Rattle.dnr_base.specs.Faults.{HasCause, HasCauseOf};
 ghost use Rattle.dnr_base.specs.Request.{max_frames};
 ghost use Rattle.dnr_io.specs.Sink.{AppendsPart};
@@ -52,8 +52,9 @@ impl From<NoMemory> for WriteRefusal {
     }
 }
 
-/// Answers the lines in order, and writes the answers in pieces of some kilobytes. Where updates are served, a line that
-/// asks for one is answered as what is not there yet; elsewhere it is a bad command. The host finds the matches of
+/// Answers the lines in order, and writes the answers in pieces of some kilobytes. A line that asks for an explanation is
+/// answered as what is not there yet, and so is one that asks for an update where the session postpones these; elsewhere
+/// that is a bad command. The host finds the matches of
 /// patterns; where it fails a line says so in place of a verdict, and the next line is answered.
 ///
 /// After a refusal, the sink has taken some first bytes of the answers.
@@ -107,7 +108,7 @@ fn write_if_long<O: Sink>(out: &mut O, text: &mut String) -> Result<(), Failed>
 }
 
 // Appends what a line of this number prints: nothing where it is blank.
-#[tactic(auto, using(crate::proofs::Answered::same_is_no_fall, crate::proofs::LaterCommands::prints_command, crate::proofs::LaterCommands::prints_fault))]
+#[tactic(auto, using(crate::proofs::Answered::same_is_no_fall, crate::proofs::LaterCommands::prints_explanation, crate::proofs::LaterCommands::prints_fault))]
 fn answer<H: RegexHost>(
     alloc: Global,
     generation: &Generation,
@@ -144,10 +145,10 @@ fn answer_fault(
     into: &mut String,
 ) -> Result<(), NoMemory>
     requires { spec.command_of number line.now ≡ Err fault.now }
-    ensures { OnOk result (AppendsSuch (PrintsOfFault (postpones && is_postponed line.now) number fault.now)
+    ensures { OnOk result (AppendsSuch (PrintsOfFault (is_postponed postpones line.now) number fault.now)
         (string_bytes into.old) (string_bytes into.new)) }
 {
-    if postpones && is_postponed(alloc, line)? {
+    if is_postponed(alloc, postpones, line)? {
         write_not_yet(number, into)
     } else {
         write_bad(number, fault, into)

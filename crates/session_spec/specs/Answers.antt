@@ -1,5 +1,5 @@
 -- What a session prints for the lines of its script: a relation, in which a state is carried along.
-use Rattle.std.specs.Prelude.{◌≡◌, ◌⊎◌, ℕ, ◌+◌, List, [], ◌∷◌, ◌++◌, codes, Bool, true, false, not, ◌&&◌, Result, Ok, Err}
+use Rattle.std.specs.Prelude.{◌≡◌, ◌⊎◌, ℕ, ◌+◌, List, [], ◌∷◌, ◌++◌, codes, Bool, true, false, not, ◌&&◌, ◌||◌, Result, Ok, Err}
 use Rattle.std.specs.List.{list_any}
 use Rattle.std.specs.Option.{option_map_or}
 use Rattle.std.specs.Str.{bytes_eq}
@@ -38,34 +38,35 @@ Says setting state number (Ok (request r)) said =
 Says setting state number (Ok (explain r)) said = said ≡ not_yet_line number
 Says setting state number (Err fault) said = said ≡ bad_line number fault
 
--- ---- commands that are not there yet
+-- ---- commands that are not there yet: their fields are not tested
 
--- updates, and to wait for those before it; their fields are not read yet, so they are not tested
-abbrev pub postponed_commands : List (List ℕ)
-postponed_commands =
+-- updates, and to wait for those before it
+abbrev pub updates : List (List ℕ)
+updates =
     codes "dynamic" ∷ codes "session" ∷ codes "rulesets" ∷ codes "static" ∷ codes "install" ∷ codes "uninstall" ∷ codes "sync" ∷ []
 
-abbrev pub is_postponed_name : List ℕ → Bool
-is_postponed_name name = list_any (bytes_eq name) postponed_commands
+-- an explanation is not there in any session, and an update where the session postpones it
+abbrev pub is_postponed_name : Bool → List ℕ → Bool
+is_postponed_name postpones name = bytes_eq name (codes "explain") || (postpones && list_any (bytes_eq name) updates)
 
 -- the tree is an object that asks for one of them
-abbrev pub names_postponed : Data → Bool
-names_postponed d = option_map_or is_postponed_name (text_at (codes "cmd") d) false
+abbrev pub names_postponed : Bool → Data → Bool
+names_postponed postpones d = option_map_or (is_postponed_name postpones) (text_at (codes "cmd") d) false
 
 -- a line that is not blank and asks for that
-unfoldable pub is_postponed : List ℕ → Bool
-is_postponed line = not (is_blank line) && option_map_or names_postponed (tree_of line) false
+unfoldable pub is_postponed : Bool → List ℕ → Bool
+is_postponed postpones line = not (is_blank line) && option_map_or (names_postponed postpones) (tree_of line) false
 
 -- ---- lines
 
--- such a line is answered as what is not there yet where a session is served; elsewhere it is a bad command
+-- such a line is answered as what is not there yet, whatever stands in its other fields
 abbrev pub Replies : Bool → Setting → State → ℕ → List ℕ → List ℕ → Type 0
 Replies true setting now number line said = said ≡ not_yet_line number
 Replies false setting now number line said = Says setting now number (command_of number line) said
 
 -- what a line of this number prints in this state
 abbrev pub Prints : Setting → State → ℕ → List ℕ → List ℕ → Type 0
-Prints setting now number line said = Replies (setting.postpones && is_postponed line) setting now number line said
+Prints setting now number line said = Replies (is_postponed setting.postpones line) setting now number line said
 
 -- a line of this number, in this state, may print this, and leave that state
 pub record Answer (setting : Setting) (now : State) (number : ℕ) (line said : List ℕ) (after : State) : Type 0 where

@@ -1,5 +1,5 @@
 -- Examples, each computed from the definitions alone.
-use Rattle.std.specs.Prelude.{◌≡◌, ℕ, ◌+◌, List, [], ◌∷◌, ◌++◌, codes, Some, None, Result, Ok, Err, replicate, bytes_eq, if◌then◌else◌}
+use Rattle.std.specs.Prelude.{◌≡◌, ℕ, ◌+◌, List, [], ◌∷◌, ◌++◌, codes, false, Some, None, Result, Ok, Err, replicate, bytes_eq, if◌then◌else◌}
 use Rattle.dnr_base.specs.Faults.{Count}
 use Rattle.dnr_spec.specs.declared.status.Status.TheVariants as status
 use Rattle.dnr_spec.specs.Lines.{lines_of}
@@ -10,6 +10,7 @@ use Rattle.rule_spec.specs.Scan.{scan}
 use Rattle.json_spec.specs.RulesFile.{FileRefusal, rules_of}
 use Rattle.json_spec.specs.declared.line_fault.LineFault.{LineFault}
 use Rattle.json_spec.specs.RequestLine.{Command, blank, request, explain, command_of}
+use Rattle.session_spec.specs.Answers.{is_postponed}
 use Rattle.session_spec.specs.Output.{verdict_line, bad_line, not_yet_line}
 use Rattle.dnr_spec.specs.declared.suffix_refusal.SuffixRefusal.TheVariants.{NotUtf8, BadRule, TooManyRules}
 use Rattle.list_spec.specs.declared.reason.Reason.TheVariants.{ElementHiding, UnknownOption}
@@ -33,7 +34,8 @@ reply_to state number (Ok (explain r)) = not_yet_line number
 reply_to state number (Err fault) = bad_line number fault
 
 abbrev pub reply_of : State → ℕ → List ℕ → List ℕ
-reply_of state number line = reply_to state number (command_of number line)
+reply_of state number line =
+    if is_postponed false line then not_yet_line number else reply_to state number (command_of number line)
 
 -- the replies to the lines, which are numbered from this one on
 abbrev pub replies : State → ℕ → List (List ℕ) → List ℕ
@@ -122,6 +124,14 @@ BrokenLinesAreBad =
     ++ codes "{\"line\":3,\"bad\":\"url\",\"path\":\"url\",\"why\":\"bad-scheme\"}\n"
     ++ codes "{\"line\":4,\"bad\":\"command\",\"path\":\"type\"}\n"
     ++ codes "{\"line\":5,\"generation\":0,\"verdict\":\"none\"}\n"
+
+-- Explanations are not there yet, whatever stands beside their name; `match` has no updates.
+abbrev pub ExplanationsAreLater : Type 0
+ExplanationsAreLater =
+    written (codes "[]") (codes "{\"cmd\":\"explain\"}\n{\"cmd\":\"sync\"}\n{\"cmd\":\"explain\"\n")
+    ≡ codes "{\"line\":1,\"bad\":\"not-yet-supported\"}\n"
+    ++ codes "{\"line\":2,\"bad\":\"command\",\"path\":\"cmd\"}\n"
+    ++ codes "{\"line\":3,\"bad\":\"json\"}\n"
 
 -- A priority that is null is not an absent one.
 abbrev pub NullIsPresent : Type 0

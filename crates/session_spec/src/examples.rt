@@ -5,7 +5,8 @@ ghost use Rattle.session_spec.specs.Examples.{NoRulesDecideNothing, MainFrameIsL
 ghost use Rattle.session_spec.specs.Examples.{AllowPrevailsAtEqualPriority};
 ghost use Rattle.session_spec.specs.Examples.{GreaterPriorityPrevails, SmallerIdPrevails};
 ghost use Rattle.session_spec.specs.Examples.{BlankLinesCount, CrAloneIsNoBlankLine};
-ghost use Rattle.session_spec.specs.Examples.{BrokenLinesAreBad, NullIsPresent, FractionIsNoId};
+ghost use Rattle.session_spec.specs.Examples.{BrokenLinesAreBad, ExplanationsAreLater};
+ghost use Rattle.session_spec.specs.Examples.{NullIsPresent, FractionIsNoId};
 ghost use Rattle.session_spec.specs.Examples.{LastValueOfAKeyCounts, SecondOfEqualIdsIsAtFault};
 ghost use Rattle.session_spec.specs.Examples.{FirstRuleAtFaultIsNamed};
 ghost use Rattle.session_spec.specs.Examples.{FilterIsRefusedWithItsReason, NestingHasALimit};
@@ -62,6 +63,12 @@ pub fn cr_alone_is_no_blank_line()
 #[tactic(auto, using(crate::proofs::Computed::broken_lines_are_bad))]
 pub fn broken_lines_are_bad()
     ensures { BrokenLinesAreBad }
+{}
+
+/// Explanations are not there yet, whatever stands beside their name; `match` has no updates.
+#[tactic(auto, using(crate::proofs::Computed::explanations_are_later))]
+pub fn explanations_are_later()
+    ensures { ExplanationsAreLater }
 {}
 
 /// A priority that is null is not an absent one.
