@@ -151,7 +151,7 @@ build-requires g c =
     let groups = c.in_ok-filters.filters.groups in
     c.rules_keep_their_form.ensures c.args.kind is_taken d (rule_of n.id n.priority (condition_seen c.in_ok-condition.condition) c.in_ok-action.action)
     (rule_is c.args.kind is_taken d n f lists groups a (condition_seen c.in_ok-condition.condition) (action_seen c.in_ok-action.action) begun c.in_ok-lists.ensures.ok c.in_ok-filters.ensures.groups
-    c.get-action.ensures tabbed c.in_ok-action.ensures.ok c.in_ok-condition.ensures.ok)
+    c.get-action.ensures tabbed c.in_ok-action.ensures.ok c.in_ok-condition.ensures)
 
 pub returns-clause-ok : goal.returns-clause-ok
 returns-clause-ok g c =
@@ -170,7 +170,7 @@ returns-clause-ok g c =
     let tabbed = tabs_pass c.args.kind is_taken d n f begun framed c.in_ok-test_tabs.ensures.ok in
     let groups = c.in_ok-filters.filters.groups in
     rule_is c.args.kind is_taken d n f lists groups a (condition_seen c.in_ok-condition.condition) (action_seen c.in_ok-action.action) begun c.in_ok-lists.ensures.ok c.in_ok-filters.ensures.groups
-    c.get-action.ensures tabbed c.in_ok-action.ensures.ok c.in_ok-condition.ensures.ok ∙ ap Ok (sym c.build.ensures)
+    c.get-action.ensures tabbed c.in_ok-action.ensures.ok c.in_ok-condition.ensures ∙ ap Ok (sym c.build.ensures)
 
 pub returns-in_err-numbers-clause-later : goal.returns-in_err-numbers-clause-later
 returns-in_err-numbers-clause-later g c = omega arith
