@@ -7,11 +7,12 @@ ghost use Rattle.load_spec.specs.Manifest as spec;
 ghost use Rattle.manifest_read.specs.Reading.{IsFaultOf, IsFaultOfBytes};
 
 use crate::fault::Fault;
-use crate::resource::{Resource, resource_in};
+use crate::resource::{Resource, resource_in, take_id};
 use json_spec::read_tree;
 use load_spec::ManifestPath;
 use serde_json::Value;
 use std::alloc::Global;
+use std::collections::BTreeSet;
 
 // Reads the bytes of a manifest. It is tested whole.
 #[tactic(auto, unfolding(load_spec::specs::Manifest::manifest_of))]
@@ -76,14 +77,17 @@ fn is_object(value: &Value) -> bool
     value.as_object().is_some()
 }
 
-#[tactic(auto, using(crate::proofs::Resources::resources_begin, crate::proofs::Resources::resources_go, crate::proofs::Resources::resources_stop, crate::proofs::Resources::resources_end))]
+// The ids that were read stand in a set, so that a long list costs one look into it for each resource.
+#[tactic(auto, using(crate::proofs::Resources::resources_begin, crate::proofs::Ids::none_taken, crate::proofs::Resources::resources_end))]
 fn each_resource(alloc: Global, values: &[Value]) -> Result<Vec<Resource>, Fault>
     ensures read { IfOk result (λ resources. spec.resources_in [] (items_view values.now) ≡ Ok resources.items) }
     ensures refused { IfErr result (IsFaultOf (spec.resources_in [] (items_view values.now))) }
 {
+    let mut taken = BTreeSet::new(alloc);
     let mut resources = Vec::new(alloc);
     for value in values {
-        let resource = resource_in(alloc, &resources, value)?;
+        let resource = resource_in(alloc, &taken, value)?;
+        take_id(alloc, &mut taken, resource.id().as_str())?;
         resources.push(resource)?;
     }
     Ok(resources)

@@ -1,11 +1,6 @@
-use Rattle.std.proofs.Common.{rules, tests, ◌∙◌}
-use Rattle.std.specs.Str.{bytes_eq}
-use Rattle.std.proofs.lemmas.Iterator.{YieldsList-from_slice}
-use Rattle.std.proofs.lemmas.Iterator.Search.{any_from_yields_List}
-use Rattle.manifest_read.proofs.Ids.{has_text_of_ids}
+use Rattle.std.proofs.Common.{◌∙◌}
+use Rattle.manifest_read.proofs.Ids.{text_among}
 use Rattle.manifest_read.proofs.resource.has_id.Goals as goal
 
 pub returns : goal.returns
-returns c =
-    any_from_yields_List (λ resource. bytes_eq c.args.id.now resource.id) _ _ _ c.any.ensures.ran (YieldsList-from_slice c.args.resources.now cc) (λ x b q k. search (rules, tests))
-    ∙ has_text_of_ids c.args.resources.now c.args.id.now
+returns c = c.contains.ensures ∙ text_among c.args.taken.now c.args.id.now
