@@ -3,3 +3,4 @@ pub mod Files
 pub mod Loads
 pub mod Lists
 pub mod Extensions
+pub mod Tells

@@ -12,7 +12,7 @@ use Rattle.load_spec.specs.Extensions.{EndsAtOne}
 use Rattle.load_spec.specs.Files.{Files, HoldsLongFile}
 use Rattle.session_load.specs.Stops.{StopsAs}
 use Rattle.session_load.specs.declared.stop.Stop.{Stop}
-use Rattle.session_spec.specs.Loading.{PrintsRefusedRules, HoldsList, IsRefusedList, PrintsRefusedList, RefusesSuffixes, IsLongSuffixFile, Reads, Refuses, IsTooLong, RefusesFile, HasLongFileIn}
+use Rattle.session_spec.specs.Loading.{PrintsRefusedRules, HoldsList, IsRefusedList, PrintsRefusedList, PrintsRefusedSuffixes, RefusesSuffixes, IsLongSuffixFile, Reads, Refuses, IsTooLong, RefusesFile, HasLongFileIn}
 use Rattle.session_spec.specs.Refusals.{ListRefusal, suffixes_line, list_line}
 use Rattle.session_spec.specs.Words.{Installed, Serving}
 
@@ -22,7 +22,17 @@ abbrev pub StopsInRules : Option Files → Type 0 → RuleKind → List ℕ → 
 StopsInRules known rose kind name stop =
     IfSome known (λ files. StopsAs (PrintsRefusedRules files rose kind name) (HoldsLongFile files name) stop)
 
+-- ---- files
+
+-- a file has no form yet, so nothing of it is refused
+abbrev pub StopsInFile : Option Files → List ℕ → Stop → Type 0
+StopsInFile known name stop = IfSome known (λ files. StopsAs (λ line. ⊥) (HoldsLongFile files name) stop)
+
 -- ---- suffix lists
+
+abbrev pub StopsInSuffixFile : Option Files → List ℕ → Stop → Type 0
+StopsInSuffixFile known name stop =
+    IfSome known (λ files. StopsAs (PrintsRefusedSuffixes files name) (HoldsLongFile files name) stop)
 
 -- the bytes are no suffix list, and this line says so
 pub record PrintsBadSuffixes (name bytes line : List ℕ) : Type 0 where

@@ -1,9 +1,9 @@
 //! The bytes of a file.
-ghost use Rattle.std.specs.Prelude.{◌≡◌, ◌≤◌, length, IfOk, IfErr, IfSome};
+ghost use Rattle.std.specs.Prelude.{◌≡◌, ◌≤◌, length, IfOk, IfErr};
 ghost use Rattle.dnr_base.specs.Faults.{HasCauseOf};
 ghost use Rattle.json_spec.specs.RulesFile.{max_file};
-ghost use Rattle.load_spec.specs.Files.{HoldsFile, HoldsLongFile};
-ghost use Rattle.session_load.specs.Stops.{StopsAs};
+ghost use Rattle.session_load.specs.Loads.{StopsInFile};
+ghost use Rattle.session_load.specs.Tells.{TellsFile};
 
 use crate::Stop;
 use dnr_io::{Shelf, ShelfRefusal};
@@ -27,9 +27,9 @@ impl From<ShelfRefusal> for Stop {
 
 // The bytes of the file of this name, which are not more than a file may have.
 pub(crate) fn fetch<F: Shelf>(alloc: Global, name: &str, shelf: &mut F) -> Result<Vec<u8>, Stop>
-    ensures held { IfOk result (λ bytes. IfSome (F.Source.files shelf.old) (λ files. HoldsFile files name.now bytes.items)) }
+    ensures held { IfOk result (TellsFile (F.Source.files shelf.old) name.now) }
     ensures short { IfOk result (λ bytes. length bytes.items ≤ max_file) }
-    ensures stops { IfErr result (λ stop. IfSome (F.Source.files shelf.old) (λ files. StopsAs (λ _. ⊥) (HoldsLongFile files name.now) stop)) }
+    ensures stops { IfErr result (StopsInFile (F.Source.files shelf.old) name.now) }
     ensures files { F.Source.files shelf.new ≡ F.Source.files shelf.old }
     ensures cause { HasCauseOf Stop.ReadFault (F.Source.faults shelf.old) (F.Source.faults shelf.new) result }
 {

@@ -1,15 +1,12 @@
 //! One extension, as the words name it.
-ghost use Rattle.std.specs.Prelude.{◌≡◌, ◌≤◌, IfOk, IfErr, IfSome, string_bytes};
+ghost use Rattle.std.specs.Prelude.{◌≡◌, ◌≤◌, IfOk, IfErr, string_bytes};
 ghost use Rattle.dnr_base.specs.Faults.{Rose, HasCauseOf};
 ghost use Rattle.dnr_words.specs.Seen.{installed_seen};
-ghost use Rattle.json_spec.specs.RulesFile.{bad_json, bad_rules};
-ghost use Rattle.load_spec.specs.Extensions as spec;
-ghost use Rattle.load_spec.specs.Extensions.{HoldsExtension};
 ghost use Rattle.session_load.specs.Extensions.{StopsFor, extension_in};
+ghost use Rattle.session_load.specs.Extensions.{bad_json_line, bad_manifest_line, bad_rule_line};
 ghost use Rattle.session_load.specs.Loads.{StopsInOne};
 ghost use Rattle.session_load.specs.Stops.{Prints};
-ghost use Rattle.session_spec.specs.Loading.{Reads, HoldsListExtension};
-ghost use Rattle.session_spec.specs.Refusals.{refused_file_line};
+ghost use Rattle.session_load.specs.Tells.{TellsFolder, TellsListAs, TellsOne};
 ghost use Rattle.session_spec.specs.Words.{folder, list};
 
 use crate::Stop;
@@ -33,8 +30,9 @@ pub(crate) fn load_one<F: Shelf, H: RegexHost>(
     shelf: &mut F,
     host: &mut H,
 ) -> Result<Extension, Stop>
-    ensures reads { IfOk result (λ extension. IfSome (F.Source.files shelf.old) (λ files. Reads files (installed_seen installed.now) extension)) }
-    ensures stops { IfErr result (StopsInOne (F.Source.files shelf.old) (Rose (H.faults host.old) (H.faults host.new)) (installed_seen installed.now)) }
+    ensures reads { IfOk result (TellsOne (F.Source.files shelf.old) (installed_seen installed.now)) }
+    ensures stops { IfErr result (StopsInOne (F.Source.files shelf.old)
+        (Rose (H.faults host.old) (H.faults host.new)) (installed_seen installed.now)) }
     ensures files { F.Source.files shelf.new ≡ F.Source.files shelf.old }
     ensures later { H.faults host.old ≤ H.faults host.new }
     ensures cause { HasCauseOf Stop.ReadFault (F.Source.faults shelf.old) (F.Source.faults shelf.new) result }
@@ -51,8 +49,9 @@ fn load_folder<F: Shelf, H: RegexHost>(
     shelf: &mut F,
     host: &mut H,
 ) -> Result<Extension, Stop>
-    ensures reads { IfOk result (λ extension. IfSome (F.Source.files shelf.old) (λ files. HoldsExtension files name.now extension)) }
-    ensures stops { IfErr result (StopsInOne (F.Source.files shelf.old) (Rose (H.faults host.old) (H.faults host.new)) (folder name.now)) }
+    ensures reads { IfOk result (TellsFolder (F.Source.files shelf.old) name.now) }
+    ensures stops { IfErr result (StopsInOne (F.Source.files shelf.old)
+        (Rose (H.faults host.old) (H.faults host.new)) (folder name.now)) }
     ensures files { F.Source.files shelf.new ≡ F.Source.files shelf.old }
     ensures later { H.faults host.old ≤ H.faults host.new }
     ensures cause { HasCauseOf Stop.ReadFault (F.Source.faults shelf.old) (F.Source.faults shelf.new) result }
@@ -77,7 +76,7 @@ fn stop_of(alloc: Global, name: &str, refusal: &ManifestRefusal) -> Stop
 }
 
 fn bad_json(alloc: Global, file: &str) -> Stop
-    ensures { Prints (refused_file_line (record { file = file.now; cause = spec.bad_rules_file bad_json })) result }
+    ensures { Prints (bad_json_line file.now) result }
 {
     let mut line = String::new(alloc);
     match write_bad_json(alloc, file, &mut line) {
@@ -87,7 +86,7 @@ fn bad_json(alloc: Global, file: &str) -> Stop
 }
 
 fn bad_rule(alloc: Global, file: &str, refusal: &PlacedRefusal) -> Stop
-    ensures { Prints (refused_file_line (record { file = file.now; cause = spec.bad_rules_file (bad_rules refusal.now) })) result }
+    ensures { Prints (bad_rule_line file.now refusal.now) result }
 {
     let mut line = String::new(alloc);
     match write_refused_rule(alloc, file, refusal, &mut line) {
@@ -97,7 +96,7 @@ fn bad_rule(alloc: Global, file: &str, refusal: &PlacedRefusal) -> Stop
 }
 
 fn bad_manifest(alloc: Global, extension: &str, field: ManifestPath) -> Stop
-    ensures { Prints (refused_file_line (record { file = spec.manifest_name extension.now; cause = spec.bad_manifest field })) result }
+    ensures { Prints (bad_manifest_line extension.now field) result }
 {
     match write_manifest(alloc, extension, field) {
         Ok(line) => Stop::Refused(line),
@@ -107,7 +106,7 @@ fn bad_manifest(alloc: Global, extension: &str, field: ManifestPath) -> Stop
 
 // What the manifest of an extension prints that has a field at fault.
 fn write_manifest(alloc: Global, extension: &str, field: ManifestPath) -> Result<String, NoMemory>
-    ensures { IfOk result (λ line. string_bytes line ≡ refused_file_line (record { file = spec.manifest_name extension.now; cause = spec.bad_manifest field })) }
+    ensures { IfOk result (λ line. string_bytes line ≡ bad_manifest_line extension.now field) }
 {
     let mut file = String::from_str(alloc, extension)?;
     file.push_str("/manifest.json")?;
@@ -123,8 +122,9 @@ fn load_as_list<F: Shelf, H: RegexHost>(
     shelf: &mut F,
     host: &mut H,
 ) -> Result<Extension, Stop>
-    ensures reads { IfOk result (λ extension. IfSome (F.Source.files shelf.old) (λ files. HoldsListExtension files name.now file.now extension)) }
-    ensures stops { IfErr result (StopsInOne (F.Source.files shelf.old) (Rose (H.faults host.old) (H.faults host.new)) (list name.now file.now)) }
+    ensures reads { IfOk result (TellsListAs (F.Source.files shelf.old) name.now file.now) }
+    ensures stops { IfErr result (StopsInOne (F.Source.files shelf.old)
+        (Rose (H.faults host.old) (H.faults host.new)) (list name.now file.now)) }
     ensures files { F.Source.files shelf.new ≡ F.Source.files shelf.old }
     ensures later { H.faults host.old ≤ H.faults host.new }
     ensures cause { HasCauseOf Stop.ReadFault (F.Source.faults shelf.old) (F.Source.faults shelf.new) result }

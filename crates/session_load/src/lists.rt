@@ -1,11 +1,11 @@
 //! Filter lists.
-ghost use Rattle.std.specs.Prelude.{◌≡◌, ◌≢◌, ◌≤◌, map, length, Err, IfOk, IfErr, IfSome};
+ghost use Rattle.std.specs.Prelude.{◌≡◌, ◌≢◌, ◌≤◌, map, length, Err, IfOk, IfErr};
 ghost use Rattle.dnr_base.specs.Faults.{Rose, HasCauseOf};
 ghost use Rattle.json_spec.specs.RulesFile.{max_file};
-ghost use Rattle.load_spec.specs.Files.{HoldsFile};
-ghost use Rattle.session_load.specs.Lists.{HoldsCompiled, IsCompiledList};
+ghost use Rattle.session_load.specs.Lists.{IsCompiledList};
 ghost use Rattle.session_load.specs.Loads.{PrintsBadList, StopsInList};
 ghost use Rattle.session_load.specs.Stops.{Prints, StopsAs};
+ghost use Rattle.session_load.specs.Tells.{TellsList};
 ghost use Rattle.session_spec.specs.Refusals.{too_many_rules, host_failed, list_line};
 
 use crate::Stop;
@@ -42,8 +42,9 @@ pub fn load_list<F: Shelf, H: RegexHost>(
     shelf: &mut F,
     host: &mut H,
 ) -> Result<CompiledList, Stop>
-    ensures list { IfOk result (λ list. IfSome (F.Source.files shelf.old) (λ files. HoldsCompiled files name.now list)) }
-    ensures stops { IfErr result (StopsInList (F.Source.files shelf.old) (Rose (H.faults host.old) (H.faults host.new)) name.now) }
+    ensures list { IfOk result (TellsList (F.Source.files shelf.old) name.now) }
+    ensures stops { IfErr result (StopsInList (F.Source.files shelf.old)
+        (Rose (H.faults host.old) (H.faults host.new)) name.now) }
     ensures files { F.Source.files shelf.new ≡ F.Source.files shelf.old }
     ensures later { H.faults host.old ≤ H.faults host.new }
     ensures cause { HasCauseOf Stop.ReadFault (F.Source.faults shelf.old) (F.Source.faults shelf.new) result }
@@ -63,7 +64,8 @@ fn list_in<H: RegexHost>(
 ) -> Result<CompiledList, Stop>
     requires { length bytes.now ≤ max_file }
     ensures list { IfOk result (IsCompiledList bytes.now) }
-    ensures stops { IfErr result (StopsAs (PrintsBadList (Rose (H.faults host.old) (H.faults host.new)) name.now bytes.now) ⊥) }
+    ensures stops { IfErr result (StopsAs
+        (PrintsBadList (Rose (H.faults host.old) (H.faults host.new)) name.now bytes.now) ⊥) }
     ensures no_fault { result ≢ Err Stop.ReadFault }
     ensures later { H.faults host.old ≤ H.faults host.new }
 {

@@ -1,12 +1,12 @@
 //! The rules file of `match` and `check`.
-ghost use Rattle.std.specs.Prelude.{◌≡◌, ◌≤◌, ◌++◌, IfOk, IfErr, IfSome, OnOk, string_bytes};
+ghost use Rattle.std.specs.Prelude.{◌≡◌, ◌≤◌, ◌++◌, IfOk, IfErr, OnOk, string_bytes};
 ghost use Rattle.dnr_base.specs.Faults.{Rose, HasCauseOf};
-ghost use Rattle.load_spec.specs.Files.{HoldsRules};
 ghost use Rattle.rule_spec.specs.declared.rule_kind.RuleKind.TheVariants.{Static};
 ghost use Rattle.rules_file.specs.Answers.{refusal_seen};
 ghost use Rattle.session_load.specs.Loads.{StopsInRules};
 ghost use Rattle.session_load.specs.Stops.{Prints};
-ghost use Rattle.session_spec.specs.Out.{LoadsFor, loaded_with, of_rules};
+ghost use Rattle.session_load.specs.Tells.{TellsLocal, TellsRules};
+ghost use Rattle.session_spec.specs.Out.{loaded_with};
 ghost use Rattle.session_spec.specs.Refusals.{refusal_line};
 
 use crate::suffixes::no_suffixes;
@@ -37,8 +37,9 @@ pub fn load_rules<F: Shelf, H: RegexHost>(
     shelf: &mut F,
     host: &mut H,
 ) -> Result<Vec<Rule>, Stop>
-    ensures rules { IfOk result (λ rules. IfSome (F.Source.files shelf.old) (λ files. HoldsRules files kind name.now rules.items)) }
-    ensures stops { IfErr result (StopsInRules (F.Source.files shelf.old) (Rose (H.faults host.old) (H.faults host.new)) kind name.now) }
+    ensures rules { IfOk result (TellsRules (F.Source.files shelf.old) kind name.now) }
+    ensures stops { IfErr result (StopsInRules (F.Source.files shelf.old)
+        (Rose (H.faults host.old) (H.faults host.new)) kind name.now) }
     ensures files { F.Source.files shelf.new ≡ F.Source.files shelf.old }
     ensures later { H.faults host.old ≤ H.faults host.new }
     ensures cause { HasCauseOf Stop.ReadFault (F.Source.faults shelf.old) (F.Source.faults shelf.new) result }
@@ -61,8 +62,9 @@ pub fn load_local<F: Shelf, H: RegexHost>(
     shelf: &mut F,
     host: &mut H,
 ) -> Result<Loaded, Stop>
-    ensures loads { IfOk result (λ loaded. IfSome (F.Source.files shelf.old) (λ files. LoadsFor files (of_rules name.now) loaded)) }
-    ensures stops { IfErr result (StopsInRules (F.Source.files shelf.old) (Rose (H.faults host.old) (H.faults host.new)) Static name.now) }
+    ensures loads { IfOk result (TellsLocal (F.Source.files shelf.old) name.now) }
+    ensures stops { IfErr result (StopsInRules (F.Source.files shelf.old)
+        (Rose (H.faults host.old) (H.faults host.new)) Static name.now) }
     ensures files { F.Source.files shelf.new ≡ F.Source.files shelf.old }
     ensures later { H.faults host.old ≤ H.faults host.new }
     ensures cause { HasCauseOf Stop.ReadFault (F.Source.faults shelf.old) (F.Source.faults shelf.new) result }

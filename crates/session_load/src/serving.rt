@@ -1,10 +1,9 @@
 //! All that the words of a session name.
-ghost use Rattle.std.specs.Prelude.{◌≡◌, ◌≤◌, map, IfOk, IfErr, IfSome};
-ghost use Rattle.std.specs.List.{AllZip};
+ghost use Rattle.std.specs.Prelude.{◌≡◌, ◌≤◌, map, IfOk, IfErr};
 ghost use Rattle.dnr_base.specs.Faults.{Rose, HasCauseOf};
 ghost use Rattle.dnr_words.specs.Seen.{installed_seen};
 ghost use Rattle.session_load.specs.Loads.{StopsInServing, StopsInExtensions};
-ghost use Rattle.session_spec.specs.Loading.{Loads, Reads};
+ghost use Rattle.session_load.specs.Tells.{TellsAll, TellsServing};
 
 use crate::installed::load_one;
 use crate::suffixes::load_suffixes;
@@ -33,8 +32,9 @@ pub fn load_serving<F: Shelf, H: RegexHost>(
     shelf: &mut F,
     host: &mut H,
 ) -> Result<Loaded, Stop>
-    ensures loads { IfOk result (λ loaded. IfSome (F.Source.files shelf.old) (λ files. Loads files serving.now loaded)) }
-    ensures stops { IfErr result (StopsInServing (F.Source.files shelf.old) (Rose (H.faults host.old) (H.faults host.new)) serving.now) }
+    ensures loads { IfOk result (TellsServing (F.Source.files shelf.old) serving.now) }
+    ensures stops { IfErr result (StopsInServing (F.Source.files shelf.old)
+        (Rose (H.faults host.old) (H.faults host.new)) serving.now) }
     ensures files { F.Source.files shelf.new ≡ F.Source.files shelf.old }
     ensures later { H.faults host.old ≤ H.faults host.new }
     ensures cause { HasCauseOf Stop.ReadFault (F.Source.faults shelf.old) (F.Source.faults shelf.new) result }
@@ -56,8 +56,9 @@ fn load_extensions<F: Shelf, H: RegexHost>(
     shelf: &mut F,
     host: &mut H,
 ) -> Result<Vec<Extension>, Stop>
-    ensures reads { IfOk result (λ all. IfSome (F.Source.files shelf.old) (λ files. AllZip (Reads files) (map installed_seen installed.now) all.items)) }
-    ensures stops { IfErr result (StopsInExtensions (F.Source.files shelf.old) (Rose (H.faults host.old) (H.faults host.new)) (map installed_seen installed.now)) }
+    ensures reads { IfOk result (TellsAll (F.Source.files shelf.old) (map installed_seen installed.now)) }
+    ensures stops { IfErr result (StopsInExtensions (F.Source.files shelf.old)
+        (Rose (H.faults host.old) (H.faults host.new)) (map installed_seen installed.now)) }
     ensures files { F.Source.files shelf.new ≡ F.Source.files shelf.old }
     ensures later { H.faults host.old ≤ H.faults host.new }
     ensures cause { HasCauseOf Stop.ReadFault (F.Source.faults shelf.old) (F.Source.faults shelf.new) result }

@@ -1,12 +1,11 @@
 //! The suffix list by which first and third party are told.
-ghost use Rattle.std.specs.Prelude.{◌≡◌, ◌≢◌, ◌≤◌, [], length, Ok, Err, IfOk, IfErr, IfSome, option_copied};
+ghost use Rattle.std.specs.Prelude.{◌≡◌, ◌≢◌, ◌≤◌, [], length, Ok, Err, IfOk, IfErr, option_copied};
 ghost use Rattle.dnr_base.specs.Faults.{HasCauseOf};
 ghost use Rattle.dnr_spec.specs.Suffixes.{read_suffixes};
 ghost use Rattle.json_spec.specs.RulesFile.{max_file};
-ghost use Rattle.load_spec.specs.Files.{HoldsSuffixes, HoldsLongFile};
-ghost use Rattle.session_load.specs.Loads.{PrintsBadSuffixes, StopsInSuffixes};
+ghost use Rattle.session_load.specs.Loads.{PrintsBadSuffixes, StopsInSuffixes, StopsInSuffixFile};
 ghost use Rattle.session_load.specs.Stops.{Prints, StopsAs};
-ghost use Rattle.session_spec.specs.Loading.{ReadsSuffixes, PrintsRefusedSuffixes};
+ghost use Rattle.session_load.specs.Tells.{TellsSuffixes, TellsSuffixFile};
 ghost use Rattle.session_spec.specs.Refusals.{suffixes_line};
 
 use crate::Stop;
@@ -24,7 +23,7 @@ pub(crate) fn load_suffixes<F: Shelf>(
     name: Option<&str>,
     shelf: &mut F,
 ) -> Result<SuffixList, Stop>
-    ensures suffixes { IfOk result (λ list. IfSome (F.Source.files shelf.old) (λ files. ReadsSuffixes files (option_copied name.entry) list)) }
+    ensures suffixes { IfOk result (TellsSuffixes (F.Source.files shelf.old) (option_copied name.entry)) }
     ensures stops { IfErr result (StopsInSuffixes (F.Source.files shelf.old) (option_copied name.entry)) }
     ensures files { F.Source.files shelf.new ≡ F.Source.files shelf.old }
     ensures cause { HasCauseOf Stop.ReadFault (F.Source.faults shelf.old) (F.Source.faults shelf.new) result }
@@ -39,9 +38,8 @@ pub(crate) fn load_suffixes<F: Shelf>(
 }
 
 fn load_file<F: Shelf>(alloc: Global, name: &str, shelf: &mut F) -> Result<SuffixList, Stop>
-    ensures suffixes { IfOk result (λ list. IfSome (F.Source.files shelf.old) (λ files. HoldsSuffixes files name.now list)) }
-    ensures stops { IfErr result (λ stop. IfSome (F.Source.files shelf.old) (λ files.
-        StopsAs (PrintsRefusedSuffixes files name.now) (HoldsLongFile files name.now) stop)) }
+    ensures suffixes { IfOk result (TellsSuffixFile (F.Source.files shelf.old) name.now) }
+    ensures stops { IfErr result (StopsInSuffixFile (F.Source.files shelf.old) name.now) }
     ensures files { F.Source.files shelf.new ≡ F.Source.files shelf.old }
     ensures cause { HasCauseOf Stop.ReadFault (F.Source.faults shelf.old) (F.Source.faults shelf.new) result }
 {
