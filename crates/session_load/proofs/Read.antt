@@ -1,5 +1,5 @@
 -- What was read, from the bytes of a file to what the file holds.
-use Rattle.std.proofs.Common.{◌≡◌, ◌⊎◌, ℕ, zero, suc, ◌+◌, ◌<◌, ◌≤◌, List, [], ◌∷◌, ◌++◌, length, drop, get_or, map, append_assoc, codes, true, Option, Some, None, Result, Ok, Err, refl, sym, ap, ◌∙◌, subst, inl, inr, arith, string_bytes}
+use Rattle.std.proofs.Common.{◌≡◌, ℕ, zero, suc, ◌+◌, ◌<◌, ◌≤◌, List, [], ◌∷◌, ◌++◌, length, drop, get_or, map, append_assoc, codes, true, Option, Some, None, Result, Ok, Err, refl, sym, ap, ◌∙◌, subst, inl, inr}
 use Rattle.std.specs.Prelude.{IfSome, IfErr}
 use Rattle.std.specs.List.{AllZip}
 use Rattle.std.proofs.lemmas.List.{drop_more, drop_all, append-nil}
@@ -36,7 +36,7 @@ use Rattle.session_load.specs.Loads.{PrintsBadSuffixes, PrintsBadList, StopsInRu
 use Rattle.session_load.specs.Stops.{Prints, StopsAs}
 use Rattle.session_load.proofs.Stopped.{printed, stops_map, known_map, one_wider}
 use Rattle.session_spec.specs.Refusals.{refusal_line, too_many_rules, host_failed, list_line}
-use Rattle.session_spec.specs.Loading.{PrintsRefusedRules, PrintsRefusedSuffixes, PrintsRefusedList, PrintsRefusedFile, HoldsListExtension, Loaded, Loads, Reads, ReadsSuffixes, Refuses, IsTooLong, RefusesFile, RefusesSuffixes, IsLongSuffixFile, HasLongFileIn}
+use Rattle.session_spec.specs.Loading.{PrintsRefusedRules, PrintsRefusedSuffixes, PrintsRefusedList, HoldsListExtension, Loaded, Loads, Reads, ReadsSuffixes, Refuses, IsTooLong, RefusesFile, RefusesSuffixes, IsLongSuffixFile, HasLongFileIn}
 use Rattle.session_spec.specs.Out.{LoadsFor, of_rules, loaded_with}
 use Rattle.session_spec.specs.Words as words
 use Rattle.session_spec.specs.Words.{folder, list, Serving}

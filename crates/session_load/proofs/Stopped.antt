@@ -1,8 +1,7 @@
 -- Why a command stops: from a part that is read to the whole.
-use Rattle.std.proofs.Common.{◌≡◌, ◌⊎◌, ℕ, ◌+◌, ◌-◌, ◌^◌, ◌≤◌, List, arith, Option, Some, None, refl, sym, subst, inl, inr, ⊎_elim, string_bytes}
+use Rattle.std.proofs.Common.{ℕ, ◌+◌, ◌-◌, ◌^◌, ◌≤◌, List, arith, Option, Some, None, sym, subst, inl, inr, ⊎_elim, string_bytes}
 use Rattle.std.specs.Prelude.{IfSome, min}
 use Rattle.dnr_base.specs.Faults.{Rose}
-use Rattle.std.specs.List.{AllZip}
 use Rattle.manifest_read.proofs.Sets.{ends_wider}
 use Rattle.load_spec.specs.Extensions.{HoldsSet, BreaksSet, RefusedFile, RefusesExtension}
 use Rattle.load_spec.specs.Files.{Files, HoldsLongFile}
@@ -12,7 +11,7 @@ use Rattle.session_load.specs.declared.stop.Stop.{Stop}
 use Rattle.session_load.specs.declared.stop.Stop.TheVariants as stop
 use Rattle.session_load.specs.Loads.{StopsInRules, StopsInList, StopsInOne, StopsInServing}
 use Rattle.session_load.specs.Stops.{Prints, StopsAs}
-use Rattle.session_spec.specs.Loading.{PrintsRefusedRules, IsRefusedList, RefusesList, PrintsRefusedList, PrintsRefusedFile, Reads, Refuses, IsTooLong, RefusesFile, EndsInExtensions, HasLongFileIn}
+use Rattle.session_spec.specs.Loading.{PrintsRefusedRules, IsRefusedList, PrintsRefusedList, Reads, Refuses, IsTooLong, RefusesFile, HasLongFileIn}
 use Rattle.session_spec.specs.Refusals.{ListRefusal, too_many_rules, host_failed}
 use Rattle.session_spec.specs.Words.{Installed, folder, list, Serving}
 

@@ -12,7 +12,7 @@ use Rattle.load_spec.specs.Extensions.{EndsAtOne}
 use Rattle.load_spec.specs.Files.{Files, HoldsLongFile}
 use Rattle.session_load.specs.Stops.{StopsAs}
 use Rattle.session_load.specs.declared.stop.Stop.{Stop}
-use Rattle.session_spec.specs.Loading.{PrintsRefusedRules, HoldsList, IsRefusedList, PrintsRefusedList, PrintsRefusedSuffixes, RefusesSuffixes, IsLongSuffixFile, Reads, Refuses, IsTooLong, RefusesFile, HasLongFileIn}
+use Rattle.session_spec.specs.Loading.{PrintsRefusedRules, IsRefusedList, PrintsRefusedList, PrintsRefusedSuffixes, RefusesSuffixes, IsLongSuffixFile, Reads, Refuses, IsTooLong, RefusesFile, HasLongFileIn}
 use Rattle.session_spec.specs.Refusals.{ListRefusal, suffixes_line, list_line}
 use Rattle.session_spec.specs.Words.{Installed, Serving}
 

@@ -1,4 +1,4 @@
-use Rattle.std.proofs.Common.{◌≡◌, ◌∙◌, ◌+◌, sym, subst, map, arith, get_or}
+use Rattle.std.proofs.Common.{◌∙◌, ◌+◌, sym, subst, map, arith, get_or}
 use Rattle.std.specs.Prelude.{IfSome, IfErr}
 use Rattle.std.proofs.lemmas.Result.{err_from_is_err_and}
 use Rattle.dnr_base.specs.Faults.{Rose}
