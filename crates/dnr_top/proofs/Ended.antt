@@ -1,5 +1,5 @@
 -- How a run may end, by what was read and written on the way.
-use Rattle.std.proofs.Common.{◌≡◌, ◌≢◌, ◌⊎◌, ℕ, List, [], ◌++◌, Bool, Option, Some, None, refl, sym, inl, inr, append-nil, subst, string_bytes}
+use Rattle.std.proofs.Common.{◌≡◌, ℕ, List, [], ◌++◌, Bool, Option, Some, None, refl, sym, inl, inr, append-nil, subst, string_bytes}
 use Rattle.std.specs.Prelude.{IfSome}
 use Rattle.std.specs.Io.KnownBytes.{Appends}
 use Rattle.dnr_base.specs.Faults.{Rose, Count}
@@ -14,11 +14,11 @@ use Rattle.session_load.specs.declared.stop.Stop.{Stop}
 use Rattle.session_load.specs.declared.stop.Stop.TheVariants as stop
 use Rattle.session_load.specs.Stops.{StopsAs}
 use Rattle.session_load.proofs.Stopped.{stops_map}
-use Rattle.session_spec.specs.Answers.{Setting, Answers}
+use Rattle.session_spec.specs.Answers.{Answers}
 use Rattle.session_spec.specs.Loading.{Loaded}
 use Rattle.session_spec.specs.Out.{Counts, HostRose, HoldsLines, HoldsTooMuch, Session, LoadsFor, postpones, setting_for, IsServed, SaysAll, RefusesSession, SessionWrites, IsBeginning, SessionHasTooMuch, EndsBy}
-use Rattle.dnr_top.specs.Answers.{setting_by, WritesAnswers, WritesAnswersInPart}
-use Rattle.dnr_top.specs.Run.{IsRun, EndsText, EndsStop, EndsWith, EndsAnswers, IsOpened, PrintsInstall, SessionEnds, SaysNoLess, Serves}
+use Rattle.dnr_top.specs.Answers.{setting_by, WritesAnswersInPart}
+use Rattle.dnr_top.specs.Run.{IsRun, EndsText, EndsStop, EndsWith, EndsAnswers, IsOpened, PrintsInstall, SessionEnds, Serves}
 use Rattle.dnr_top.proofs.Answered.{answers_wider}
 
 -- ---- what was written

@@ -1,9 +1,8 @@
 -- Lines that ask for what is not there yet: none of them is a request.
-use Rattle.std.proofs.Common.{◌≡◌, ◌⊎◌, ℕ, List, [], append-nil, OnOk, codes, Bool, true, false, cond, Option, Some, None, Result, Ok, Err, arith, refl, sym, ◌∙◌, subst, inl, inr, ⊎_elim, if◌then◌else◌}
+use Rattle.std.proofs.Common.{◌≡◌, ℕ, List, [], append-nil, OnOk, codes, Bool, true, false, Option, Some, None, Result, Ok, Err, refl, sym, ◌∙◌, subst, if◌then◌else◌}
 use Rattle.std.specs.Prelude.{min, not, ◌&&◌, option_and_then}
 use Rattle.std.specs.Option.{option_map_or}
 use Rattle.std.specs.Str.{bytes_eq}
-use Rattle.std.proofs.lemmas.Bool.{cases_Bool}
 use Rattle.std.proofs.lemmas.Slice.Eq.{bytes_eq-Decides}
 use Rattle.serde_json.specs.Data.{Data, null, boolean, number as numeral, string, array, object, Members}
 use Rattle.serde_json.specs.Find.{as_str, as_object, get}
@@ -11,7 +10,7 @@ use Rattle.dnr_spec.specs.Lines.{max_lines, is_blank}
 use Rattle.json_spec.specs.declared.command_path.CommandPath.TheVariants as path
 use Rattle.json_spec.specs.declared.line_fault.LineFault.{LineFault}
 use Rattle.json_spec.specs.declared.line_fault.LineFault.TheVariants.{BadCommand}
-use Rattle.json_spec.specs.Json.{tree_of, text_at}
+use Rattle.json_spec.specs.Json.{tree_of}
 use Rattle.json_spec.specs.RequestLine.{Command, blank, request, explain, and_then, request_in, field_at, command_named, command_from, command_of_members, command_in, command_of_tree, command_of}
 use Rattle.session_spec.specs.Answers.{Setting, Says, is_postponed_name, names_postponed, is_postponed, Replies, Prints}
 use Rattle.session_spec.specs.Output.{not_yet_line}

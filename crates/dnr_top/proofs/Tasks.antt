@@ -1,5 +1,5 @@
 -- How each command ends, for a shelf that may tell what its files hold.
-use Rattle.std.proofs.Common.{◌≡◌, ◌⊎◌, ℕ, List, [], ◌∷◌, ◌++◌, length, codes, Bool, true, false, Option, Some, None, refl, sym, ap, ◌∙◌, inl, inr, subst, arith}
+use Rattle.std.proofs.Common.{◌≡◌, ℕ, List, [], ◌∷◌, ◌++◌, length, codes, true, false, Option, Some, None, refl, sym, ap, ◌∙◌, inl, subst, arith}
 use Rattle.std.specs.Prelude.{IfSome}
 use Rattle.std.specs.Io.KnownBytes.{Appends}
 use Rattle.dnr_base.specs.Faults.{Rose, Count}
@@ -8,7 +8,7 @@ use Rattle.generation.specs.declared.first.FirstRefusal.{FirstRefusal}
 use Rattle.generation.specs.declared.first.FirstRefusal.TheVariants.{Refused}
 use Rattle.generation.specs.First.{IsFirstRefusal}
 use Rattle.load_spec.specs.Files.{Files, HoldsRules, HoldsLongFile}
-use Rattle.load_spec.specs.Installing.{RefusedInstall, opening}
+use Rattle.load_spec.specs.Installing.{opening}
 use Rattle.load_spec.specs.declared.refusal.Refusal.{Refusal}
 use Rattle.rule_spec.specs.declared.rule_kind.RuleKind.{RuleKind}
 use Rattle.rule_spec.specs.declared.rule_kind.RuleKind.TheVariants.{Static}
@@ -21,7 +21,7 @@ use Rattle.session_load.specs.Loads.{StopsInRules, StopsInList, StopsInServing}
 use Rattle.session_load.specs.Stops.{Prints, StopsAs}
 use Rattle.session_load.proofs.Stopped.{printed, stops_map}
 use Rattle.session_spec.specs.Loading.{PrintsRefusedRules, PrintsRefusedList, RefusesFile, HasLongFileIn, Loaded, Loads}
-use Rattle.session_spec.specs.Out.{Counts, HostRose, Session, of_rules, of_words, LoadsFor, IsCounted, IsCompiled, IsServed, RefusesSession, SessionHasTooMuch, Writes, HasTooMuch, Ends, EndsFor, Out}
+use Rattle.session_spec.specs.Out.{Counts, HostRose, of_rules, of_words, LoadsFor, IsCounted, IsCompiled, IsServed, RefusesSession, SessionHasTooMuch, Writes, HasTooMuch, Ends, EndsFor, Out}
 use Rattle.session_spec.specs.Refusals.{install_line, count_line, unsupported_lines}
 use Rattle.session_spec.specs.Words.{Serving, Task, task_of, match_files, check_file, compile_file, serve_script}
 use Rattle.compile_spec.specs.Compiled.{CompiledRule, rules_in}

@@ -1,5 +1,4 @@
-use Rattle.std.proofs.Common.{[], ◌∷◌, List, ap, Err, rules}
-use Rattle.dnr_base.specs.Faults.{Count}
+use Rattle.std.proofs.Common.{[], ◌∷◌, ap, Err}
 use Rattle.session_spec.specs.Words.{compile_file}
 use Rattle.dnr_top.specs.Run.{among, count, counts}
 use Rattle.dnr_top.proofs.Tasks.{compile_ends, compile_stops, may_end}

@@ -1,5 +1,5 @@
-use Rattle.std.proofs.Common.{[], ◌∷◌, List, ap, Err, refl}
-use Rattle.dnr_base.specs.Faults.{Rose, Count}
+use Rattle.std.proofs.Common.{[], ◌∷◌, ap, Err, refl}
+use Rattle.dnr_base.specs.Faults.{Rose}
 use Rattle.session_spec.specs.Words.{match_files}
 use Rattle.dnr_top.specs.Run.{among, count, counts}
 use Rattle.session_load.proofs.Stopped.{rose_since}

@@ -1,5 +1,4 @@
-use Rattle.std.proofs.Common.{[], ◌∷◌, List, ap, sym, ◌∙◌, length, map, Some, slice_index_or, string_bytes}
-use Rattle.dnr_base.specs.Faults.{Count}
+use Rattle.std.proofs.Common.{[], ◌∷◌, ap, sym, ◌∙◌, length, map, Some, slice_index_or, string_bytes}
 use Rattle.dnr_words.specs.Seen.{task_seen}
 use Rattle.session_spec.specs.Words.{match_files, check_file, compile_file, serve_script}
 use Rattle.dnr_top.specs.Run.{count, counts}
