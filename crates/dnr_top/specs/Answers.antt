@@ -15,7 +15,7 @@ use Rattle.session_spec.specs.Output.{bad_line, not_yet_line}
 abbrev pub lines_seen : List (Vec ℕ Global) → List (List ℕ)
 lines_seen lines = map (λ line. line.items) lines
 
--- the suffix rules by which requests are decided, whether the host's count rose, and whether updates are served
+-- the suffix rules by which requests are decided, whether the host's count rose, and whether updates are postponed
 abbrev pub setting_by : Basis → Type 0 → Bool → Setting
 setting_by basis rose postpones = record { suffixes = basis.suffixes; rose = rose; postpones = postpones }
 
@@ -31,7 +31,7 @@ HasNotFallen before now = min before (2 ^ 64 - 1) ≤ now
 abbrev pub SaysOfRequest : Setting → State → ℕ → Request → List ℕ → Type 0
 SaysOfRequest setting state number request said = Says setting state number (Ok (line.request request)) said
 
--- what a line prints that reads as no command, where it asks for an update and elsewhere
+-- what a line prints that reads as no command, where it asks for what is not there yet and elsewhere
 abbrev pub PrintsOfFault : Bool → ℕ → LineFault → List ℕ → Type 0
 PrintsOfFault true number fault said = said ≡ not_yet_line number
 PrintsOfFault false number fault said = said ≡ bad_line number fault
