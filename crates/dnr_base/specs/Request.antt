@@ -1,5 +1,5 @@
 -- A request, and the parts of it that rules are tested on.
-use Rattle.std.specs.Prelude.{ℕ, ℤ, ◌≤◌, List, length, IsTrue, Option, Some, None, option_map, option_and_then, slice_get, IfSome, Bool, ◌&&◌, ◌==◌, nat_le, if◌then◌else◌}
+use Rattle.std.specs.Prelude.{ℕ, ℤ, ◌≤◌, List, length, IsTrue, Option, None, option_map, option_and_then, slice_get, IfSome, Bool, ◌&&◌, ◌==◌, nat_le, if◌then◌else◌}
 use Rattle.std.specs.List.{list_all}
 use Rattle.http_header.specs.FieldName.{is_header_name}
 use Rattle.dnr_base.specs.declared.kind.Kind.{Kind}
@@ -10,26 +10,45 @@ use Rattle.dnr_base.specs.declared.frame.Frame.{Frame}
 use Rattle.dnr_base.specs.declared.request.Request.{Request}
 use Rattle.dnr_base.specs.View.{View}
 
--- what rules are tested on: a URL, the host of who asks for it, what for, how, and in which tab
+-- what rules are tested on: a URL, the host of who asks for it, what for, how, in which tab, and the headers of its
+-- response, if it carries them
 pub record Part : Type 0 where
   pub view : View
   pub initiator : Option (List ℕ)
   pub kind : Kind
   pub method : Method
   pub tab : ℤ
+  pub response_headers : Option (List Header)
 
 -- what the request says of itself
 abbrev pub own_part : Request → Part
-own_part request = record { view = request.view; initiator = request.initiator; kind = request.kind; method = request.method; tab = request.tab }
+own_part request = record {
+  view = request.view;
+  initiator = request.initiator;
+  kind = request.kind;
+  method = request.method;
+  tab = request.tab;
+  response_headers = request.response_headers;
+}
 
 -- the outermost frame is the tab's main frame, and each other one a frame inside
 abbrev pub frame_kind : ℕ → Kind
 frame_kind place = if place == 0 then MainFrame else SubFrame
 
--- what a frame with a URL says of its own document, which was asked for in the request's tab
+-- what a frame with this URL says of its own document, which was asked for in the request's tab; it carries no headers
+abbrev pub frame_part_at : Request → ℕ → Frame → View → Part
+frame_part_at request place frame view = record {
+  view = view;
+  initiator = frame.initiator;
+  kind = frame_kind place;
+  method = frame.method;
+  tab = request.tab;
+  response_headers = None;
+}
+
+-- the part of a frame, if it has a URL
 abbrev pub frame_part_of : Request → ℕ → Frame → Option Part
-frame_part_of request place frame =
-    option_map (λ view. record { view = view; initiator = frame.initiator; kind = frame_kind place; method = frame.method; tab = request.tab }) frame.view
+frame_part_of request place frame = option_map (frame_part_at request place frame) frame.view
 
 -- none where there is no such frame, or it has no URL
 abbrev pub frame_part : Request → ℕ → Option Part

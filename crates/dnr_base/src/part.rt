@@ -1,6 +1,6 @@
 ghost use Rattle.std.specs.Prelude.{◌≡◌, option_map};
 
-use crate::{Kind, Method, Text, View};
+use crate::{Header, Items, Kind, Method, Text, View};
 use std::marker::Model;
 
 /// What a rule's condition is tested on: a request's own URL, or that of a frame in which it is made. It
@@ -17,6 +17,8 @@ pub struct Part<'a> {
     pub method: Method,
     /// The tab in which it is asked for, and -1 for none.
     pub tab: i32,
+    /// The headers of its response. `None`: it carries no such list.
+    pub response_headers: Option<&'a Items<Header>>,
 }
 
 impl<'a> Model for Part<'a> {
@@ -25,5 +27,12 @@ impl<'a> Model for Part<'a> {
 
     ghost Value = { Part };
 
-    ghost view = { λ p. record { view = p.view.now; initiator = option_map (λ text. text.now) p.initiator; kind = p.kind; method = p.method; tab = p.tab } };
+    ghost view = { λ p. record {
+      view = p.view.now;
+      initiator = option_map (λ text. text.now) p.initiator;
+      kind = p.kind;
+      method = p.method;
+      tab = p.tab;
+      response_headers = option_map (λ headers. headers.now) p.response_headers;
+    } };
 }

@@ -38,6 +38,7 @@ impl Request {
             kind: self.kind,
             method: self.method,
             tab: self.tab,
+            response_headers: self.response_headers.as_ref(),
         }
     }
 
@@ -60,6 +61,7 @@ impl Request {
             kind,
             method: frame.method,
             tab: self.tab,
+            response_headers: None,
         })
     }
 

@@ -10,6 +10,9 @@ pub mod Lines
 pub mod Status
 pub mod Order
 pub mod Headers
+pub mod Wildcards
+pub mod HeaderTests
+pub mod MatchPatterns
 pub mod Patterns
 pub mod Substitution
 pub mod Examples

@@ -10,11 +10,13 @@ mod examples;
 mod header_refusal;
 mod host;
 mod pattern_refusal;
+mod piece;
 mod status;
 mod substitution_refusal;
 mod suffix_refusal;
 #[cfg(test)]
 mod tests;
+mod value_refusal;
 mod view_refusal;
 
 pub use dnr_base::{Kind, NoMemory, Scheme, Span};
@@ -26,7 +28,9 @@ pub use examples::{
 pub use header_refusal::HeaderRefusal;
 pub use host::{is_ip_host, split_first_label, split_last_label};
 pub use pattern_refusal::PatternRefusal;
+pub use piece::Piece;
 pub use status::Status;
 pub use substitution_refusal::SubstitutionRefusal;
 pub use suffix_refusal::SuffixRefusal;
+pub use value_refusal::ValueRefusal;
 pub use view_refusal::ViewRefusal;

@@ -1,5 +1,5 @@
 -- Examples of the precedence scan, each computed from the definitions alone.
-use Rattle.std.specs.Prelude.{◌≡◌, ℕ, List, [], ◌∷◌, ◌++◌, length, codes, Bool, true, false, negsuc, Option, Some, None}
+use Rattle.std.specs.Prelude.{◌≡◌, ℕ, List, [], ◌∷◌, ◌++◌, length, codes, true, negsuc, Option, Some, None}
 use Rattle.dnr_base.specs.declared.direction.Direction.TheVariants as direction
 use Rattle.dnr_base.specs.declared.frame.Frame.{Frame}
 use Rattle.dnr_base.specs.declared.header.Header.{Header}
@@ -11,13 +11,14 @@ use Rattle.dnr_base.specs.declared.operation.Operation.TheVariants.{Append, Set,
 use Rattle.dnr_base.specs.declared.redirect.Redirect.TheVariants.{Url}
 use Rattle.dnr_base.specs.declared.request.Request.{Request}
 use Rattle.dnr_base.specs.declared.rule_name.RuleName.{RuleName}
-use Rattle.dnr_base.specs.declared.scheme.Scheme.TheVariants.{Http}
+use Rattle.dnr_base.specs.declared.scheme.Scheme.TheVariants.{Http, Ws}
 use Rattle.dnr_base.specs.Kind.{default_kinds}
 use Rattle.dnr_base.specs.View.{View}
 use Rattle.dnr_spec.specs.Headers.{HeaderOp}
+use Rattle.dnr_spec.specs.HeaderTests.{HeaderTest}
 use Rattle.rule_spec.specs.declared.outcome.Outcome.TheVariants as outcome
-use Rattle.rule_spec.specs.Rule.{Condition, Action, block, redirect, allow, modify_headers, allow_all_requests, Rule}
-use Rattle.rule_spec.specs.State.{RuleSet, Extension, State}
+use Rattle.rule_spec.specs.Rule.{plain_condition, Action, block, redirect, allow, modify_headers, allow_all_requests, Rule}
+use Rattle.rule_spec.specs.State.{Extension, State}
 use Rattle.rule_spec.specs.Scan.{NamedOp, Verdict, plain_verdict, scan}
 
 -- ---- requests
@@ -58,21 +59,7 @@ abbrev pub rule_on : ℕ → ℕ → Option (List ℕ) → List Kind → Action 
 rule_on id priority filter kinds action = record {
   id = id;
   priority = priority;
-  condition = record {
-    url_filter = filter;
-    regex_filter = None;
-    case_sensitive = false;
-    initiators = None;
-    not_initiators = [];
-    hosts = None;
-    not_hosts = [];
-    third_party = None;
-    kinds = kinds;
-    methods = None;
-    not_methods = [];
-    tabs = None;
-    not_tabs = [];
-  };
+  condition = record (plain_condition kinds) { url_filter = filter };
   action = action;
 }
 
@@ -84,6 +71,7 @@ abbrev pub extension_of : List ℕ → List Rule → Extension
 extension_of name rules = record {
   name = name;
   sets = record { id = codes "s"; enabled = true; rules = rules; origins = []; disabled = [] } ∷ [];
+  access = None;
   dynamic = [];
   session = [];
 }
@@ -192,3 +180,83 @@ SetKeepsOutOtherExtensions =
     ≡ record (plain_verdict outcome.None None None) {
       ops = offered_by (codes "b") 1 Set (Some (codes "1")) ∷ offered_by (codes "b") 2 Append (Some (codes "2")) ∷ [];
     }
+
+-- ---- response headers
+
+-- a block of all scripts whose response passes these tests
+abbrev pub tests_response : Option (List HeaderTest) → List HeaderTest → State
+tests_response tests excluded =
+    state_of (extension_of (codes "a")
+    (record {
+      id = 1;
+      priority = 1;
+      condition = record (plain_condition default_kinds) { header_tests = tests; not_header_tests = excluded };
+      action = block;
+    } ∷ []) ∷ [])
+
+-- a content type that begins with `text/`, but for these values
+abbrev pub is_text_but : List (List ℕ) → HeaderTest
+is_text_but excluded = record { name = codes "content-type"; values = Some (codes "text/*" ∷ []); excluded = excluded }
+
+-- what becomes of a request whose response has this content type
+abbrev pub with_type : State → List ℕ → Verdict
+with_type state value =
+    scan [] state (request_to (codes "x.com") [] (Some (record { name = codes "content-type"; value = value } ∷ [])))
+
+abbrev pub blocked : Verdict
+blocked = plain_verdict outcome.Block (Some (name_in (codes "a") 1)) None
+
+abbrev pub goes_on : Verdict
+goes_on = plain_verdict outcome.None None None
+
+-- A pattern fits a whole value, whatever the case of letters; a request without headers passes no test.
+abbrev pub ValueIsAskedFor : Type 0
+ValueIsAskedFor =
+    (with_type (tests_response (Some (is_text_but [] ∷ [])) []) (codes "TEXT/html") ≡ blocked)
+    × (with_type (tests_response (Some (is_text_but [] ∷ [])) []) (codes "image/png") ≡ goes_on)
+    × (scan [] (tests_response (Some (is_text_but [] ∷ [])) []) (request_to (codes "x.com") [] None) ≡ goes_on)
+
+-- `?` is at most one byte, so `*x?` is what ends with `x`, and with `x` and one more.
+abbrev pub ExcludedValueIsNone : Type 0
+ExcludedValueIsNone =
+    (with_type (tests_response (Some (is_text_but (codes "*x?" ∷ []) ∷ [])) []) (codes "text/x") ≡ goes_on)
+    × (with_type (tests_response (Some (is_text_but (codes "*x?" ∷ []) ∷ [])) []) (codes "text/xy") ≡ goes_on)
+    × (with_type (tests_response (Some (is_text_but (codes "*x?" ∷ []) ∷ [])) []) (codes "text/xyz") ≡ blocked)
+
+-- Tests that are excluded ask for headers too.
+abbrev pub HeadersAreCarried : Type 0
+HeadersAreCarried =
+    (scan [] (tests_response None (is_text_but [] ∷ [])) (request_to (codes "x.com") [] None) ≡ goes_on)
+    × (scan [] (tests_response None (is_text_but [] ∷ [])) (request_to (codes "x.com") [] (Some [])) ≡ blocked)
+    × (with_type (tests_response None (is_text_but [] ∷ [])) (codes "text/html") ≡ goes_on)
+
+-- ---- access
+
+-- the extension `a` with a rule of this action on all URLs, and access to `http` and `https` of `x.com`
+abbrev pub has_access_to_x : Action → State
+has_access_to_x action =
+    state_of (record (extension_of (codes "a") (rule_on 1 1 None default_kinds action ∷ [])) {
+      access = Some (codes "*://*.x.com/*" ∷ []);
+    } ∷ [])
+
+abbrev pub asked_by : Option (List ℕ) → Request → Request
+asked_by initiator request = record request { initiator = initiator }
+
+abbrev pub over_ws : Request → Request
+over_ws request = record request {
+  view = record { full = codes "ws://x.com/"; cut = 11; scheme = Ws; host = record { start = 5; end = 10 } };
+}
+
+-- A redirect needs access to the URL, and to who asks for it.
+abbrev pub RedirectNeedsAccess : Type 0
+RedirectNeedsAccess =
+    (scan [] (has_access_to_x (redirect_to (codes "https://r.com/"))) (request_to (codes "x.com") [] None)
+    ≡ plain_verdict outcome.Redirect (Some (name_in (codes "a") 1)) (Some (codes "https://r.com/")))
+    × (scan [] (has_access_to_x (redirect_to (codes "https://r.com/"))) (request_to (codes "y.com") [] None) ≡ goes_on)
+    × (scan [] (has_access_to_x (redirect_to (codes "https://r.com/"))) (asked_by (Some (codes "z.org")) (request_to (codes "x.com") [] None))
+    ≡ goes_on)
+    × (scan [] (has_access_to_x (redirect_to (codes "https://r.com/"))) (over_ws (request_to (codes "x.com") [] None)) ≡ goes_on)
+
+-- A block needs none.
+abbrev pub BlockNeedsNoAccess : Type 0
+BlockNeedsNoAccess = scan [] (has_access_to_x block) (request_to (codes "y.com") [] None) ≡ blocked

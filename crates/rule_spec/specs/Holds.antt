@@ -1,11 +1,11 @@
 -- Whether a rule's condition holds on a part: Chrome's reference, `RuleCondition`. Each line of `holds` is one
 -- field, and a field that is absent holds.
-use Rattle.std.specs.Prelude.{ℕ, ℤ, List, Bool, true, false, not, ◌&&◌, ◌||◌, Option, Some, None, is_some}
+use Rattle.std.specs.Prelude.{ℕ, ℤ, List, [], ◌∷◌, Bool, true, false, not, ◌&&◌, ◌||◌, Option, Some, None, is_some}
 use Rattle.std.specs.List.{list_any}
-use Rattle.std.specs.Option.{option_map_or}
 use Rattle.std.specs.Ordering.{int_eq}
 use Rattle.dnr_base.specs.declared.scheme.Scheme.{Scheme}
-use Rattle.dnr_base.specs.declared.scheme.Scheme.TheVariants.{Http, Https}
+use Rattle.dnr_base.specs.declared.scheme.Scheme.TheVariants.{Http, Https, Ws, Wss, Ftp, ChromeExtension}
+use Rattle.dnr_base.specs.declared.header.Header.{Header}
 use Rattle.dnr_base.specs.declared.method.Method.{Method}
 use Rattle.dnr_base.specs.Kind.{has_kind}
 use Rattle.dnr_base.specs.Method.{has_method}
@@ -16,6 +16,7 @@ use Rattle.dnr_spec.specs.UrlFilter.{fits}
 use Rattle.dnr_spec.specs.Patterns.{found}
 use Rattle.dnr_spec.specs.Domains.{covers_some}
 use Rattle.dnr_spec.specs.Party.{is_third_party}
+use Rattle.dnr_spec.specs.HeaderTests.{HeaderTest, some_test_holds}
 use Rattle.rule_spec.specs.Rule.{Condition, Rule}
 
 -- ---- the URL
@@ -60,7 +61,10 @@ is_party (Some false) third = not third
 abbrev pub has_methods : Scheme → Bool
 has_methods Http = true
 has_methods Https = true
-has_methods _ = false
+has_methods Ws = false
+has_methods Wss = false
+has_methods Ftp = false
+has_methods ChromeExtension = false
 
 -- a list that is given holds on requests with methods alone
 abbrev pub is_by : Option (List Method) → Scheme → Method → Bool
@@ -78,6 +82,20 @@ abbrev pub is_in : Option (List ℤ) → ℤ → Bool
 is_in None tab = true
 is_in (Some tabs) tab = has_tab tabs tab
 
+-- ---- response headers
+
+-- the tests are not given, or the part carries response headers and some test holds on them
+abbrev pub has_response : Option (List HeaderTest) → Option (List Header) → Bool
+has_response None headers = true
+has_response (Some tests) None = false
+has_response (Some tests) (Some headers) = some_test_holds tests headers
+
+-- there are no tests, or the part carries response headers and no test holds on them
+abbrev pub has_no_response : List HeaderTest → Option (List Header) → Bool
+has_no_response [] headers = true
+has_no_response (test ∷ tests) None = false
+has_no_response (test ∷ tests) (Some headers) = not (some_test_holds (test ∷ tests) headers)
+
 -- ---- the whole
 
 -- the condition holds on the part, where these are the suffix rules
@@ -94,6 +112,8 @@ holds_on suffixes condition part =
     && is_from condition.initiators part.initiator
     && is_not_from condition.not_initiators part.initiator
     && is_party condition.third_party (is_third_party suffixes (host_of part.view) part.initiator)
+    && has_response condition.header_tests part.response_headers
+    && has_no_response condition.not_header_tests part.response_headers
     && has_match condition.regex_filter (not condition.case_sensitive) part.view
 
 abbrev pub holds : List SuffixRule → Rule → Part → Bool

@@ -1,12 +1,11 @@
 -- What every rule keeps, whatever file or list it comes from: Chrome's reference, `Rule`, `RuleCondition` and
 -- `RuleAction`, and the limits of this engine. It speaks of one rule alone.
-use Rattle.std.specs.Prelude.{◌≡◌, ℕ, ℤ, pos, negsuc, ◌+◌, ◌<◌, ◌≤◌, List, [], ◌∷◌, length, codes, Bool, true, false, not, ◌&&◌, ◌||◌, IsTrue, IsAscii, IfSome, All, nat_le, nat_eq, Option, Some, None, is_some, is_none, Result, Ok}
+use Rattle.std.specs.Prelude.{◌≡◌, ℕ, ℤ, pos, negsuc, ◌+◌, ◌<◌, List, [], ◌∷◌, length, Bool, ◌&&◌, ◌||◌, IsTrue, IfSome, nat_le, Option, None, is_some, is_none, Ok}
 use Rattle.std.specs.List.{list_all}
 use Rattle.std.specs.Char.{is_ascii}
 use Rattle.std.specs.Option.{option_map_or}
 use Rattle.dnr_base.specs.declared.kind.Kind.{Kind}
 use Rattle.dnr_base.specs.declared.kind.Kind.TheVariants.{MainFrame, SubFrame}
-use Rattle.dnr_base.specs.declared.redirect.Redirect.{Redirect}
 use Rattle.dnr_base.specs.declared.direction.Direction.{Direction}
 use Rattle.dnr_base.specs.declared.direction.Direction.TheVariants.{Request, Response}
 use Rattle.dnr_base.specs.Kind.{same_kind}
@@ -14,6 +13,7 @@ use Rattle.dnr_spec.specs.UrlFilter.{pattern_of}
 use Rattle.dnr_spec.specs.Patterns.{groups_of}
 use Rattle.dnr_spec.specs.Domains.{domains_of}
 use Rattle.dnr_spec.specs.Headers.{HeaderOp, header_op_of}
+use Rattle.dnr_spec.specs.HeaderTests.{HeaderTest, is_kept_test}
 use Rattle.rule_spec.specs.Redirects.{IsRedirect}
 use Rattle.rule_spec.specs.Rule.{Condition, Action, block, redirect, allow, upgrade_scheme, modify_headers, allow_all_requests, Rule}
 
@@ -48,6 +48,9 @@ is_tab (negsuc n) = nat_le n 0
 abbrev pub AreTabs : List ℤ → Type 0
 AreTabs tabs = IsTrue (list_all is_tab tabs)
 
+abbrev pub AreTests : List HeaderTest → Type 0
+AreTests tests = IsTrue (list_all is_kept_test tests)
+
 -- a list that is given is not empty
 abbrev pub IsGivenWhole : {X : Type 0} → Option (List X) → Type 0
 IsGivenWhole given = IfSome given (λ list. 0 < length list)
@@ -63,6 +66,8 @@ pub record IsCondition (condition : Condition) : Type 0 where
   pub methods : IsGivenWhole condition.methods
   pub tabs : IsGivenWhole condition.tabs × IfSome condition.tabs AreTabs
   pub not_tabs : AreTabs condition.not_tabs
+  pub header_tests : IsGivenWhole condition.header_tests × IfSome condition.header_tests AreTests
+  pub not_header_tests : AreTests condition.not_header_tests
 
 -- `main_frame` or `sub_frame`
 abbrev pub is_frame_kind : Kind → Bool

@@ -5,6 +5,7 @@ pub mod IsRule
 pub mod Holds
 pub mod Reaches
 pub mod State
+pub mod Access
 pub mod Scan
 pub mod PatternRule
 pub mod Examples

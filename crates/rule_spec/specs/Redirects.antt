@@ -1,6 +1,6 @@
 -- Which redirects a rule may have: Chrome's reference of declarativeNetRequest, `Redirect` and `URLTransform`, with
 -- the limits of this engine.
-use Rattle.std.specs.Prelude.{◌≡◌, ℕ, ◌+◌, ◌-◌, ◌*◌, ◌≤◌, List, [], ◌∷◌, length, codes, fold, Bool, true, false, not, ◌==◌, ◌&&◌, ◌||◌, nat_le, nat_eq, IsTrue, All, Option, Some, None, is_none, IfSome}
+use Rattle.std.specs.Prelude.{◌≡◌, ℕ, ◌+◌, ◌-◌, ◌*◌, ◌≤◌, List, [], ◌∷◌, length, codes, fold, Bool, true, false, not, ◌==◌, ◌&&◌, ◌||◌, nat_le, nat_eq, IsTrue, Option, Some, None, is_none, IfSome}
 use Rattle.std.specs.Option.{option_map_or}
 use Rattle.std.specs.Result.{is_ok}
 use Rattle.std.specs.List.{list_all, list_any, starts_with}

@@ -1,14 +1,15 @@
 -- A rule: Chrome's reference of declarativeNetRequest, `Rule`, `RuleCondition` and `RuleAction`.
-use Rattle.std.specs.Prelude.{ℕ, ℤ, List, Bool, true, false, Option, Some, None}
+use Rattle.std.specs.Prelude.{ℕ, ℤ, List, [], Bool, true, false, Option, Some, None}
 use Rattle.dnr_base.specs.declared.kind.Kind.{Kind}
 use Rattle.dnr_base.specs.declared.method.Method.{Method}
 use Rattle.dnr_base.specs.declared.redirect.Redirect.{Redirect}
 use Rattle.dnr_base.specs.declared.verb.Verb.{Verb}
 use Rattle.dnr_base.specs.declared.verb.Verb.TheVariants as verb
 use Rattle.dnr_spec.specs.Headers.{HeaderOp}
+use Rattle.dnr_spec.specs.HeaderTests.{HeaderTest}
 
 -- When a rule holds. `url_filter` and `regex_filter` are texts of patterns, `kinds` the types on which the rule
--- holds, and the lists of domains, methods and tabs are taken as sets. A list that is not given is `None`, or
+-- holds, and the lists of domains, methods and tabs are taken as sets. Tests are made on the headers of the response. A list that is not given is `None`, or
 -- empty where its name begins with `not_`.
 pub record Condition : Type 0 where
   pub url_filter : Option (List ℕ)
@@ -24,6 +25,28 @@ pub record Condition : Type 0 where
   pub not_methods : List Method
   pub tabs : Option (List ℤ)
   pub not_tabs : List ℤ
+  pub header_tests : Option (List HeaderTest)
+  pub not_header_tests : List HeaderTest
+
+-- it gives its types alone
+abbrev pub plain_condition : List Kind → Condition
+plain_condition kinds = record {
+  url_filter = None;
+  regex_filter = None;
+  case_sensitive = false;
+  initiators = None;
+  not_initiators = [];
+  hosts = None;
+  not_hosts = [];
+  third_party = None;
+  kinds = kinds;
+  methods = None;
+  not_methods = [];
+  tabs = None;
+  not_tabs = [];
+  header_tests = None;
+  not_header_tests = [];
+}
 
 -- what a rule does; `modify_headers` has the operations on request headers, then those on response headers
 pub data Action : Type 0 where

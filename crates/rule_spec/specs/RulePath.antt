@@ -3,7 +3,7 @@ use Rattle.std.specs.Prelude.{ℕ, List, ◌++◌, codes}
 use Rattle.rule_spec.specs.declared.rule_path.RulePath.{RulePath}
 use Rattle.rule_spec.specs.declared.rule_path.RulePath.TheVariants as path
 
--- the key under which a field stands in its object
+-- the keys from the condition down, with dots between them; the condition's own stands in the rule
 abbrev pub key_of : RulePath → List ℕ
 key_of path.Condition = codes "condition"
 key_of path.TopDomains = codes "topDomains"
@@ -26,6 +26,8 @@ key_of path.RequestMethods = codes "requestMethods"
 key_of path.ExcludedRequestMethods = codes "excludedRequestMethods"
 key_of path.TabIds = codes "tabIds"
 key_of path.ExcludedTabIds = codes "excludedTabIds"
+key_of path.ResponseHeaderValues = codes "responseHeaders.values"
+key_of path.ExcludedResponseHeaderValues = codes "excludedResponseHeaders.values"
 
 -- the keys from the rule down, with dots between them
 abbrev pub path_name : RulePath → List ℕ

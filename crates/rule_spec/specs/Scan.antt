@@ -1,6 +1,6 @@
 -- The documented precedence scan: what becomes of a request, over all rules in force. Chrome's reference, "Rule
 -- prioritization", inside an extension and across extensions, and "Header modification".
-use Rattle.std.specs.Prelude.{ℕ, ◌+◌, ◌-◌, List, [], ◌∷◌, ◌++◌, length, map, filter, Bool, true, false, not, ◌&&◌, nat_le, nat_lt, Option, Some, None, option_map, option_and_then, is_some, unwrap_or, slice_get, max, if◌then◌else◌}
+use Rattle.std.specs.Prelude.{ℕ, ◌+◌, List, [], ◌∷◌, ◌++◌, map, filter, Bool, true, false, not, ◌&&◌, nat_le, Option, Some, None, option_map, option_and_then, is_some, unwrap_or, slice_get, max, if◌then◌else◌}
 use Rattle.std.specs.List.{filter_map, flat_map, find, list_any}
 use Rattle.dnr_base.specs.declared.candidate.Candidate.{Candidate}
 use Rattle.dnr_base.specs.declared.direction.Direction.{Direction}
@@ -23,6 +23,7 @@ use Rattle.dnr_spec.specs.Headers.{HeaderOp, effective, headers_after}
 use Rattle.rule_spec.specs.declared.outcome.Outcome.{Outcome}
 use Rattle.rule_spec.specs.declared.outcome.Outcome.TheVariants as outcome
 use Rattle.rule_spec.specs.Rule.{Action, block, redirect, allow, upgrade_scheme, modify_headers, allow_all_requests, verb_of, Condition, Rule}
+use Rattle.rule_spec.specs.Access.{has_access}
 use Rattle.rule_spec.specs.Reaches.{reach_of}
 use Rattle.rule_spec.specs.State.{Extension, State, Live, live_rules}
 
@@ -41,23 +42,24 @@ places_in condition view = unwrap_or (first_match condition view) []
 abbrev pub target_by : List ℕ → Rule → Redirect → View → Option (List ℕ)
 target_by extension rule target view = target_of target extension view (places_in rule.condition view)
 
--- a redirect needs a target, and an upgrade a scheme that is upgraded
-abbrev pub may_act : List ℕ → Rule → Action → View → Bool
-may_act extension rule block view = true
-may_act extension rule (redirect target) view = is_some (target_by extension rule target view)
-may_act extension rule allow view = true
-may_act extension rule upgrade_scheme view = is_upgraded view.scheme
-may_act extension rule (modify_headers request response) view = true
-may_act extension rule allow_all_requests view = true
+-- a redirect needs access and a target, an upgrade a scheme that is upgraded, and a change of headers access
+abbrev pub may_act : Extension → Rule → Action → Request → Bool
+may_act extension rule block request = true
+may_act extension rule (redirect target) request =
+    has_access extension.access request && is_some (target_by extension.name rule target request.view)
+may_act extension rule allow request = true
+may_act extension rule upgrade_scheme request = is_upgraded request.view.scheme
+may_act extension rule (modify_headers first second) request = has_access extension.access request
+may_act extension rule allow_all_requests request = true
 
 -- a rule that reaches the request and may act on it
-abbrev pub is_candidate : List SuffixRule → List ℕ → Request → Rule → Bool
+abbrev pub is_candidate : List SuffixRule → Extension → Request → Rule → Bool
 is_candidate suffixes extension request rule =
-    is_some (reach_of suffixes rule request) && may_act extension rule rule.action request.view
+    is_some (reach_of suffixes rule request) && may_act extension rule rule.action request
 
 abbrev pub candidates : List SuffixRule → Extension → Request → List Live
 candidates suffixes extension request =
-    filter (λ live. is_candidate suffixes extension.name request live.rule) (live_rules extension)
+    filter (λ live. is_candidate suffixes extension request live.rule) (live_rules extension)
 
 -- ---- which rule decides
 

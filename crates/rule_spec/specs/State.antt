@@ -1,6 +1,6 @@
 -- The extensions that are installed, oldest first, and the count of the updates that were accepted.
-use Rattle.std.specs.Prelude.{ℕ, ◌+◌, List, [], ◌∷◌, ◌++◌, Bool, not, ◌==◌, codes, map, if◌then◌else◌}
-use Rattle.std.specs.List.{list_any, zip, filter_map}
+use Rattle.std.specs.Prelude.{ℕ, ◌+◌, List, [], ◌∷◌, ◌++◌, Bool, ◌==◌, codes, map, if◌then◌else◌}
+use Rattle.std.specs.List.{list_any, filter_map}
 use Rattle.std.specs.Prelude.{Option, Some, None}
 use Rattle.dnr_base.specs.declared.rank.Rank.{Rank}
 use Rattle.dnr_base.specs.declared.rank.Rank.TheVariants.{Session, Dynamic, Static}
@@ -15,10 +15,12 @@ pub record RuleSet : Type 0 where
   pub origins : List (List ℕ)
   pub disabled : List ℕ
 
--- the rulesets stand in the order of the manifest
+-- The rulesets stand in the order of the manifest. `access` has the match patterns of what the extension may send
+-- elsewhere or change the headers of; without a list it may do so with every request.
 pub record Extension : Type 0 where
   pub name : List ℕ
   pub sets : List RuleSet
+  pub access : Option (List (List ℕ))
   pub dynamic : List Rule
   pub session : List Rule
 

@@ -6,6 +6,8 @@ ghost use Rattle.rule_spec.specs.Examples.{BlockPrevailsAcrossExtensions};
 ghost use Rattle.rule_spec.specs.Examples.{RedirectWithoutTargetDecidesNothing};
 ghost use Rattle.rule_spec.specs.Examples.{AllowOutdoesWeakerHeaderRules, AppendsKeepOutTheOthers};
 ghost use Rattle.rule_spec.specs.Examples.{SetKeepsOutOtherExtensions};
+ghost use Rattle.rule_spec.specs.Examples.{ValueIsAskedFor, ExcludedValueIsNone, HeadersAreCarried};
+ghost use Rattle.rule_spec.specs.Examples.{RedirectNeedsAccess, BlockNeedsNoAccess};
 
 /// An `allowAllRequests` for a page reaches what its frames ask for, and goes first at equal priority.
 #[tactic(auto, using(crate::proofs::Computed::page_is_exempt))]
@@ -47,4 +49,34 @@ pub fn appends_keep_out_the_others()
 #[tactic(auto, using(crate::proofs::Computed::set_keeps_out_other_extensions))]
 pub fn set_keeps_out_other_extensions()
     ensures { SetKeepsOutOtherExtensions }
+{}
+
+/// A pattern fits a whole value, whatever the case of letters.
+#[tactic(auto, using(crate::proofs::Computed::value_is_asked_for))]
+pub fn value_is_asked_for()
+    ensures { ValueIsAskedFor }
+{}
+
+/// `?` is at most one byte, and a value that is excluded fails its test.
+#[tactic(auto, using(crate::proofs::Computed::excluded_value_is_none))]
+pub fn excluded_value_is_none()
+    ensures { ExcludedValueIsNone }
+{}
+
+/// Tests ask for response headers, also those that are excluded.
+#[tactic(auto, using(crate::proofs::Computed::headers_are_carried))]
+pub fn headers_are_carried()
+    ensures { HeadersAreCarried }
+{}
+
+/// A redirect needs access to the URL, and to who asks for it.
+#[tactic(auto, using(crate::proofs::Computed::redirect_needs_access))]
+pub fn redirect_needs_access()
+    ensures { RedirectNeedsAccess }
+{}
+
+/// A block needs no access.
+#[tactic(auto, using(crate::proofs::Computed::block_needs_no_access))]
+pub fn block_needs_no_access()
+    ensures { BlockNeedsNoAccess }
 {}

@@ -13,9 +13,10 @@ mod rule_path;
 mod rule_refusal;
 
 pub use examples::{
-    allow_outdoes_weaker_header_rules, appends_keep_out_the_others,
-    block_prevails_across_extensions, frame_without_url_exempts_nothing, page_is_exempt,
-    redirect_without_target_decides_nothing, set_keeps_out_other_extensions,
+    allow_outdoes_weaker_header_rules, appends_keep_out_the_others, block_needs_no_access,
+    block_prevails_across_extensions, excluded_value_is_none, frame_without_url_exempts_nothing,
+    headers_are_carried, page_is_exempt, redirect_needs_access,
+    redirect_without_target_decides_nothing, set_keeps_out_other_extensions, value_is_asked_for,
 };
 pub use outcome::Outcome;
 pub use placed_refusal::PlacedRefusal;

@@ -26,10 +26,15 @@ pub enum RulePath {
     ExcludedRequestMethods,
     TabIds,
     ExcludedTabIds,
+    /// The values that a test of `responseHeaders` lists.
+    ResponseHeaderValues,
+    /// The values that a test of `excludedResponseHeaders` lists.
+    ExcludedResponseHeaderValues,
 }
 
 impl RulePath {
-    /// The key under which the field stands in its object.
+    /// The key under which a field stands in its condition, or the keys from the condition down, with dots between
+    /// them.
     pub fn key(self) -> &'static str
         ensures { result.now ≡ key_of self }
     {
@@ -55,6 +60,8 @@ impl RulePath {
             RulePath::ExcludedRequestMethods => "excludedRequestMethods",
             RulePath::TabIds => "tabIds",
             RulePath::ExcludedTabIds => "excludedTabIds",
+            RulePath::ResponseHeaderValues => "responseHeaders.values",
+            RulePath::ExcludedResponseHeaderValues => "excludedResponseHeaders.values",
         }
     }
 
@@ -84,6 +91,8 @@ impl RulePath {
             RulePath::ExcludedRequestMethods => "condition.excludedRequestMethods",
             RulePath::TabIds => "condition.tabIds",
             RulePath::ExcludedTabIds => "condition.excludedTabIds",
+            RulePath::ResponseHeaderValues => "condition.responseHeaders.values",
+            RulePath::ExcludedResponseHeaderValues => { "condition.excludedResponseHeaders.values" }
         }
     }
 }

@@ -43,6 +43,8 @@ pub enum RuleRefusal {
     BothTypeLists,
     /// The action is `allowAllRequests`, and the rule gives no resource types, or others than frames.
     AllowAllTypes,
+    /// A test of this list of response headers has a name that is none, or a pattern of values that is none.
+    BadHeaderTest(RulePath),
     /// It names tabs, and is no session rule.
     TabsNotSession,
     /// The action is missing, no object, or of no known type.
