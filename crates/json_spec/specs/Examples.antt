@@ -11,7 +11,7 @@ use Rattle.rule_spec.specs.declared.rule_refusal.RuleRefusal.{RuleRefusal}
 use Rattle.rule_spec.specs.declared.rule_refusal.RuleRefusal.TheVariants as refusal
 use Rattle.rule_spec.specs.declared.rule_refusal.HeaderCause.TheVariants as cause
 use Rattle.rule_spec.specs.declared.placed_refusal.PlacedRefusal.{PlacedRefusal}
-use Rattle.rule_spec.specs.Rule.{Condition, block, allow_all_requests, Rule}
+use Rattle.rule_spec.specs.Rule.{Condition, plain_condition, block, allow_all_requests, Rule}
 use Rattle.json_spec.specs.Json.{tree_of}
 use Rattle.json_spec.specs.ReadRule.{read_rule, read_rules}
 
@@ -38,21 +38,7 @@ refused_as refusal = Some (Err refusal)
 
 -- a condition that names nothing
 abbrev pub plain : Condition
-plain = record {
-  url_filter = None;
-  regex_filter = None;
-  case_sensitive = false;
-  initiators = None;
-  not_initiators = [];
-  hosts = None;
-  not_hosts = [];
-  third_party = None;
-  kinds = default_kinds;
-  methods = None;
-  not_methods = [];
-  tabs = None;
-  not_tabs = [];
-}
+plain = plain_condition default_kinds
 
 -- Domains are read in lower case, in their order and with their repeats; types count once, in the reference's order.
 abbrev pub FieldsAreRead : Type 0
@@ -142,3 +128,31 @@ SecondOfAnIdIsNamed =
     × (rules_in_text Static (codes "[" ++ blocking [] ++ codes ",{\"id\":1.0}]")
     ≡ Some (Err (record { place = 1; id = None; cause = refusal.BadId; set = None })))
     × (rules_in_text Static (codes "{}") ≡ Some (Err (record { place = 0; id = None; cause = refusal.NotObject; set = None })))
+
+-- ---- tests of response headers
+
+-- a rule that tests response headers by these objects
+abbrev pub testing : List ℕ → List ℕ
+testing tests = blocking (codes "\"responseHeaders\":[" ++ tests ++ codes "]")
+
+-- A test keeps its name in lower case and its patterns in their order; a list that is empty is as one that is absent.
+abbrev pub TestsAreRead : Type 0
+TestsAreRead =
+    rule_in_text Static (testing (codes "{\"header\":\"X-A\",\"values\":[\"b\",\"a\",\"b\"],\"excludedValues\":[]}"))
+    ≡ Some (Ok (record {
+      id = 1;
+      priority = 1;
+      condition = record plain {
+        header_tests = Some (record { name = codes "x-a"; values = Some (codes "b" ∷ codes "a" ∷ codes "b" ∷ []); excluded = [] } ∷ []);
+      };
+      action = block;
+    }))
+
+-- The form of both lists comes before an empty list, and that before a name or a pattern that is none.
+abbrev pub TestsComeInOrder : Type 0
+TestsComeInOrder =
+    (rule_in_text Static (testing (codes "{\"values\":[]}")) ≡ refused_as (refusal.BadField path.ResponseHeaders))
+    × (rule_in_text Static (testing (codes "{\"header\":\"x y\",\"values\":[]}")) ≡ refused_as (refusal.EmptyList path.ResponseHeaderValues))
+    × (rule_in_text Static (testing (codes "{\"header\":\"a\",\"values\":[\"a\\\\b\"]}")) ≡ refused_as (refusal.BadHeaderTest path.ResponseHeaders))
+    × (rule_in_text Static (blocking (codes "\"excludedResponseHeaders\":[{\"header\":\"x y\"}]"))
+    ≡ refused_as (refusal.BadHeaderTest path.ExcludedResponseHeaders))

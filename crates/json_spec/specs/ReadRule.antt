@@ -1,6 +1,6 @@
 -- Rules from JSON: Chrome's reference of declarativeNetRequest, `Rule`, with the limits of this engine. The first
 -- test that fails names the refusal.
-use Rattle.std.specs.Prelude.{◌≡◌, ◌⊎◌, ℕ, min, List, [], ◌∷◌, ◌++◌, length, codes, filter, Bool, true, false, not, ◌==◌, ◌&&◌, ◌||◌, Option, Some, None, IsSome, is_some, is_none, unwrap_or, option_map, option_and_then, Result, Ok, Err, if◌then◌else◌}
+use Rattle.std.specs.Prelude.{◌≡◌, ◌⊎◌, ℕ, min, List, [], ◌∷◌, ◌++◌, length, codes, map, filter, Bool, true, false, not, ◌==◌, ◌&&◌, ◌||◌, Option, Some, None, IsSome, is_some, is_none, unwrap_or, option_map, option_and_then, Result, Ok, Err, if◌then◌else◌}
 use Rattle.std.specs.Option.{option_map_or}
 use Rattle.std.specs.Result.{result_unwrap_or, result_err}
 use Rattle.std.specs.List.{list_all, list_any}
@@ -13,12 +13,13 @@ use Rattle.dnr_spec.specs.declared.domain_refusal.DomainRefusal.{DomainRefusal}
 use Rattle.dnr_spec.specs.UrlFilter.{pattern_of}
 use Rattle.dnr_spec.specs.Patterns.{groups_of}
 use Rattle.dnr_spec.specs.Domains.{domains_of}
+use Rattle.dnr_spec.specs.HeaderTests.{HeaderTest, is_header_test, in_lower_case}
 use Rattle.rule_spec.specs.declared.rule_kind.RuleKind.{RuleKind}
 use Rattle.rule_spec.specs.declared.rule_kind.RuleKind.TheVariants.{Static, Dynamic, Session}
 use Rattle.rule_spec.specs.declared.rule_path.RulePath.{RulePath}
 use Rattle.rule_spec.specs.declared.rule_path.RulePath.TheVariants as path
 use Rattle.rule_spec.specs.declared.rule_refusal.RuleRefusal.{RuleRefusal}
-use Rattle.rule_spec.specs.declared.rule_refusal.RuleRefusal.TheVariants.{NotObject, BadId, DuplicateId, BadPriority, BadField, BothFilters, BadUrlFilter, BadRegex, BadDomain, EmptyList, BothTypeLists, AllowAllTypes, TabsNotSession, HostFault}
+use Rattle.rule_spec.specs.declared.rule_refusal.RuleRefusal.TheVariants.{NotObject, BadId, DuplicateId, BadPriority, BadField, BothFilters, BadUrlFilter, BadRegex, BadDomain, EmptyList, BothTypeLists, AllowAllTypes, BadHeaderTest, TabsNotSession, HostFault}
 use Rattle.rule_spec.specs.declared.placed_refusal.PlacedRefusal.{PlacedRefusal}
 use Rattle.rule_spec.specs.Rule.{Condition, block, Rule}
 use Rattle.rule_spec.specs.IsRule.{is_number, is_regex_text, is_frame_kind, IsRule}
@@ -59,6 +60,20 @@ domains_in field texts = domains_from field texts
 abbrev pub empty_test : {X : Type 0} → RulePath → Option (List X) → Option RuleRefusal
 empty_test field None = None
 empty_test field (Some list) = refused_if (length list == 0) (EmptyList field)
+
+-- a test lists values, and none
+abbrev pub lists_no_value : HeaderTest → Bool
+lists_no_value test = option_map_or (λ patterns. length patterns == 0) test.values false
+
+-- of tests of which one does so
+abbrev pub empty_values_test : RulePath → Option (List HeaderTest) → Option RuleRefusal
+empty_values_test field None = None
+empty_values_test field (Some tests) = refused_if (list_any lists_no_value tests) (EmptyList field)
+
+-- of tests of which one has a name or a pattern that is none
+abbrev pub header_test : RulePath → Option (List HeaderTest) → Option RuleRefusal
+header_test field None = None
+header_test field (Some tests) = refused_if (not (list_all is_header_test tests)) (BadHeaderTest field)
 
 -- what is tested of the filters before the pattern of the regexFilter
 abbrev pub tests_before_pattern : Fields → List (Option RuleRefusal)
@@ -121,6 +136,9 @@ list_tests f =
     ∷ empty_test path.ResourceTypes f.kinds
     ∷ empty_test path.RequestMethods f.methods
     ∷ empty_test path.TabIds f.tabs
+    ∷ empty_test path.ResponseHeaders f.header_tests
+    ∷ empty_values_test path.ResponseHeaderValues f.header_tests
+    ∷ empty_values_test path.ExcludedResponseHeaderValues f.not_header_tests
     ∷ refused_if (is_some f.kinds && is_some f.not_kinds) BothTypeLists
     ∷ []
 
@@ -149,6 +167,8 @@ condition_of f lists = record {
   not_methods = unwrap_or f.not_methods [];
   tabs = f.tabs;
   not_tabs = unwrap_or f.not_tabs [];
+  header_tests = option_map (map in_lower_case) f.header_tests;
+  not_header_tests = map in_lower_case (unwrap_or f.not_header_tests []);
 }
 
 -- ---- the rule
@@ -192,6 +212,8 @@ no_fields = record {
   not_methods = None;
   tabs = None;
   not_tabs = None;
+  header_tests = None;
+  not_header_tests = None;
 }
 
 abbrev pub fields_at : Data → Fields
@@ -251,6 +273,16 @@ numbers_at is_taken d = result_unwrap_or (numbers_in is_taken d) no_numbers
 unfoldable pub frames_in : Option Data → Fields → Result (Unit {0}) RuleRefusal
 frames_in action f = unless_refused (refused_if (is_allow_all (type_of action) && not (gives_frames f.kinds)) AllowAllTypes) tt
 
+-- the tests of response headers, in both lists
+abbrev pub header_test_tests : Fields → List (Option RuleRefusal)
+header_test_tests f =
+    header_test path.ResponseHeaders f.header_tests
+    ∷ header_test path.ExcludedResponseHeaders f.not_header_tests
+    ∷ []
+
+unfoldable pub header_tests_in : Fields → Result (Unit {0}) RuleRefusal
+header_tests_in f = unless_refused (first_refusal (header_test_tests f)) tt
+
 -- tabs need a session rule
 unfoldable pub tabs_in : RuleKind → Fields → Result (Unit {0}) RuleRefusal
 tabs_in kind f = unless_refused (refused_if (not (may_name_tabs kind) && (is_some f.tabs || is_some f.not_tabs)) TabsNotSession) tt
@@ -262,6 +294,7 @@ tabs_in kind f = unless_refused (refused_if (not (may_name_tabs kind) && (is_som
 -- BadDomain;
 -- EmptyList, BothTypeLists;
 -- AllowAllTypes;
+-- BadHeaderTest;
 -- TabsNotSession;
 -- BadAction, BadRedirect, BadTransform, BadHeader
 abbrev pub rule_tests : RuleKind → (ℕ → Bool) → Data → List (Option RuleRefusal)
@@ -272,6 +305,7 @@ rule_tests kind is_taken d =
     ∷ refusal_in (domain_lists_in (fields_at d))
     ∷ refusal_in (lists_in (fields_at d))
     ∷ refusal_in (frames_in (get (codes "action") d) (fields_at d))
+    ∷ refusal_in (header_tests_in (fields_at d))
     ∷ refusal_in (tabs_in kind (fields_at d))
     ∷ refusal_in (action_in (groups_at d) (get (codes "action") d))
     ∷ []

@@ -1,6 +1,6 @@
 -- The fields of a rule's condition as they stand in a JSON object: Chrome's reference of declarativeNetRequest,
 -- `RuleCondition`. Keys that are not known are ignored.
-use Rattle.std.specs.Prelude.{ℕ, ℤ, List, [], ◌∷◌, ◌++◌, codes, filter, fold, Bool, true, false, Option, Some, None, option_map, option_and_then, Result, Ok, Err, if◌then◌else◌}
+use Rattle.std.specs.Prelude.{ℕ, ℤ, List, [], ◌∷◌, ◌++◌, codes, filter, fold, Bool, true, false, Option, Some, None, option_map, option_and_then, unwrap_or, Result, Ok, Err, if◌then◌else◌}
 use Rattle.std.specs.Result.{result_unwrap_or}
 use Rattle.std.specs.Str.{bytes_eq}
 use Rattle.serde_json.specs.Data.{Data, Items, no_items, item}
@@ -9,6 +9,7 @@ use Rattle.dnr_base.specs.declared.kind.Kind.{Kind}
 use Rattle.dnr_base.specs.declared.method.Method.{Method}
 use Rattle.dnr_base.specs.Kind.{all_kinds, kind_named, has_kind}
 use Rattle.dnr_base.specs.Method.{all_methods, method_named, has_method}
+use Rattle.dnr_spec.specs.HeaderTests.{HeaderTest}
 use Rattle.rule_spec.specs.declared.rule_path.RulePath.{RulePath}
 use Rattle.rule_spec.specs.declared.rule_path.RulePath.TheVariants as path
 use Rattle.rule_spec.specs.declared.rule_refusal.RuleRefusal.{RuleRefusal}
@@ -99,6 +100,24 @@ tab_set tabs = fold with_tab [] tabs
 abbrev pub as_tabs : Data → Option (List ℤ)
 as_tabs d = option_map tab_set (list_of as_tab d)
 
+-- a list of texts that may be absent
+abbrev pub texts_given : Option Data → Option (Option (List (List ℕ)))
+texts_given None = Some None
+texts_given (Some d) = option_map Some (as_texts d)
+
+-- a test of response headers: a name, with two lists of texts that may be absent
+abbrev pub as_header_test : Data → Option HeaderTest
+as_header_test d =
+    option_and_then (λ name.
+    option_and_then (λ values.
+    option_map (λ excluded. record { name = name; values = values; excluded = unwrap_or excluded [] })
+    (texts_given (get (codes "excludedValues") d)))
+    (texts_given (get (codes "values") d)))
+    (option_and_then as_str (get (codes "header") d))
+
+abbrev pub as_header_tests : Data → Option (List HeaderTest)
+as_header_tests d = list_of as_header_test d
+
 -- ---- fields
 
 abbrev pub given_field : {X : Type 0} → RulePath → Option X → Result (Option X) RuleRefusal
@@ -150,14 +169,14 @@ pub record Fields : Type 0 where
   pub not_methods : Option (List Method)
   pub tabs : Option (List ℤ)
   pub not_tabs : Option (List ℤ)
+  pub header_tests : Option (List HeaderTest)
+  pub not_header_tests : Option (List HeaderTest)
 
 -- how each field is read, in the order in which they are tested
 abbrev pub field_tests : Data → List (Option RuleRefusal)
 field_tests c =
     refusal_in (absent_in path.TopDomains c)
     ∷ refusal_in (absent_in path.ExcludedTopDomains c)
-    ∷ refusal_in (absent_in path.ResponseHeaders c)
-    ∷ refusal_in (absent_in path.ExcludedResponseHeaders c)
     ∷ refusal_in (field_in as_str path.UrlFilter c)
     ∷ refusal_in (field_in as_str path.RegexFilter c)
     ∷ refusal_in (field_in as_bool path.IsUrlFilterCaseSensitive c)
@@ -174,6 +193,8 @@ field_tests c =
     ∷ refusal_in (field_in as_methods path.ExcludedRequestMethods c)
     ∷ refusal_in (field_in as_tabs path.TabIds c)
     ∷ refusal_in (field_in as_tabs path.ExcludedTabIds c)
+    ∷ refusal_in (field_in as_header_tests path.ResponseHeaders c)
+    ∷ refusal_in (field_in as_header_tests path.ExcludedResponseHeaders c)
     ∷ []
 
 -- a field that was read, or none
@@ -198,6 +219,8 @@ fields_of c = record {
   not_methods = field_of (field_in as_methods path.ExcludedRequestMethods c);
   tabs = field_of (field_in as_tabs path.TabIds c);
   not_tabs = field_of (field_in as_tabs path.ExcludedTabIds c);
+  header_tests = field_of (field_in as_header_tests path.ResponseHeaders c);
+  not_header_tests = field_of (field_in as_header_tests path.ExcludedResponseHeaders c);
 }
 
 -- the fields of an object, or the first that is at fault

@@ -25,6 +25,7 @@ use Rattle.dnr_base.specs.declared.transform.Transform as changed
 use Rattle.dnr_base.specs.declared.query_transform.QueryTransform.{QueryTransform}
 use Rattle.dnr_base.specs.declared.query_pair.QueryPair.{QueryPair}
 use Rattle.dnr_spec.specs.Headers.{HeaderOp}
+use Rattle.dnr_spec.specs.HeaderTests.{HeaderTest}
 use Rattle.rule_spec.specs.Rule.{Condition, Action, block, redirect, allow, upgrade_scheme, modify_headers, allow_all_requests, Rule}
 use Rattle.json_spec.specs.RuleFields.{kind_set, method_set}
 
@@ -145,13 +146,30 @@ tab_fields c =
     ∷ (codes "excludedTabIds", unless_empty (map tab_written (ascending_tabs c.not_tabs)))
     ∷ []
 
+-- the patterns of values keep their order and their repeats
+abbrev pub test_written : HeaderTest → Data
+test_written test =
+    object_of (
+    (codes "header", Some (string test.name))
+    ∷ (codes "values", option_map (written_list string) test.values)
+    ∷ (codes "excludedValues", unless_empty (map string test.excluded))
+    ∷ []
+    )
+
+abbrev pub test_fields : Condition → List Field
+test_fields c =
+    (codes "responseHeaders", option_map (written_list test_written) c.header_tests)
+    ∷ (codes "excludedResponseHeaders", unless_empty (map test_written c.not_header_tests))
+    ∷ []
+
 unfoldable pub condition_written : Condition → Data
 condition_written c =
     let filters = with_fields no_members (filter_fields c) in
     let domains = with_fields filters (domain_fields c) in
     let kinds = with_fields domains (kind_fields c) in
     let methods = with_fields kinds (method_fields c) in
-    object (with_fields methods (tab_fields c))
+    let tabs = with_fields methods (tab_fields c) in
+    object (with_fields tabs (test_fields c))
 
 -- ---- the action
 

@@ -5,7 +5,7 @@ ghost use Rattle.json_spec.specs.Examples.{FieldsAreRead, OldNamesStandAlone, He
 ghost use Rattle.json_spec.specs.Examples.{FieldsComeBeforeFilters, ListsComeInOrder};
 ghost use Rattle.json_spec.specs.Examples.{SessionRulesNameTabs, AllowAllListsFrames};
 ghost use Rattle.json_spec.specs.Examples.{RedirectsHaveForms, HeaderChangesHaveForms};
-ghost use Rattle.json_spec.specs.Examples.{SecondOfAnIdIsNamed};
+ghost use Rattle.json_spec.specs.Examples.{SecondOfAnIdIsNamed, TestsAreRead, TestsComeInOrder};
 
 /// Domains are read in lower case, in their order and with their repeats; types count once, in the reference's order.
 #[tactic(auto, using(crate::proofs::Computed::fields_are_read))]
@@ -65,4 +65,16 @@ pub fn header_changes_have_forms()
 #[tactic(auto, using(crate::proofs::Computed::second_of_an_id_is_named))]
 pub fn second_of_an_id_is_named()
     ensures { SecondOfAnIdIsNamed }
+{}
+
+/// Tests of response headers keep their patterns in order, and their names in lower case.
+#[tactic(auto, using(crate::proofs::Computed::tests_are_read))]
+pub fn tests_are_read()
+    ensures { TestsAreRead }
+{}
+
+/// The form of tests comes before their empty lists, and these before a name or a pattern that is none.
+#[tactic(auto, using(crate::proofs::Computed::tests_come_in_order))]
+pub fn tests_come_in_order()
+    ensures { TestsComeInOrder }
 {}

@@ -13,7 +13,7 @@ pub use command_path::CommandPath;
 pub use examples::{
     allow_all_lists_frames, fields_are_read, fields_come_before_filters, head_comes_in_order,
     header_changes_have_forms, lists_come_in_order, old_names_stand_alone, redirects_have_forms,
-    second_of_an_id_is_named, session_rules_name_tabs,
+    second_of_an_id_is_named, session_rules_name_tabs, tests_are_read, tests_come_in_order,
 };
 pub use line_fault::LineFault;
 pub use request_examples::{
