@@ -1,11 +1,7 @@
--- Examples of manifests and installations, each computed from the definitions alone.
-use Rattle.std.specs.Prelude.{◌≡◌, ℕ, List, [], ◌∷◌, ◌++◌, codes, replicate, Bool, true, false, Some, None, Ok, Err}
+-- Examples of manifests, each computed from the definitions alone.
+use Rattle.std.specs.Prelude.{◌≡◌, ℕ, List, [], ◌∷◌, ◌++◌, codes, true, false, Ok, Err}
 use Rattle.load_spec.specs.declared.manifest_path.ManifestPath.TheVariants as path
-use Rattle.load_spec.specs.declared.refusal.Refusal.TheVariants.{ExtensionThere, EnabledLimit}
-use Rattle.rule_spec.specs.State.{RuleSet, Extension}
 use Rattle.load_spec.specs.Manifest.{Resource, no_json, at, manifest_of}
-use Rattle.load_spec.specs.Extensions.{extension_of}
-use Rattle.load_spec.specs.Installing.{empty, judge_install, opening}
 
 -- ---- manifests
 
@@ -59,29 +55,3 @@ PathsStayInside =
     × (manifest_of (naming (codes "[" ++ ads_at (codes "a/../../b") ++ codes "]")) ≡ Err (at path.Path))
     × (manifest_of (naming (codes "[" ++ ads_at (codes "a\\\\b") ++ codes "]")) ≡ Err (at path.Path))
     × (manifest_of (naming (codes "[" ++ ads_at (codes "./a..b/...") ++ codes "]")) ≡ Ok (ads (codes "./a..b/...") ∷ []))
-
--- ---- installations
-
-abbrev pub set_named : List ℕ → Bool → RuleSet
-set_named id enabled = record { id = id; enabled = enabled; rules = []; origins = []; disabled = [] }
-
-abbrev pub without_rules : List ℕ → Extension
-without_rules name = extension_of name []
-
--- Extensions stand in the order of their installation, and count for nothing before the first line.
-abbrev pub OldestStandsFirst : Type 0
-OldestStandsFirst =
-    opening (without_rules (codes "a") ∷ without_rules (codes "b") ∷ [])
-    ≡ Ok (record { extensions = without_rules (codes "a") ∷ without_rules (codes "b") ∷ []; count = 0 })
-
--- A name is installed once.
-abbrev pub NameIsInstalledOnce : Type 0
-NameIsInstalledOnce =
-    opening (without_rules (codes "a") ∷ without_rules (codes "a") ∷ [])
-    ≡ Err (record { extension = codes "a"; cause = ExtensionThere (codes "a") })
-
--- Fifty enabled rulesets are installed, and one more is refused; those that are not enabled do not count.
-abbrev pub EnabledRulesetsHaveALimit : Type 0
-EnabledRulesetsHaveALimit =
-    (judge_install empty (extension_of (codes "a") (replicate 50 (set_named (codes "s") true) ++ replicate 50 (set_named (codes "t") false))) ≡ None)
-    × (judge_install empty (extension_of (codes "a") (replicate 51 (set_named (codes "s") true))) ≡ Some (EnabledLimit 51))

@@ -84,6 +84,7 @@ abbrev pub extension_of : List ℕ → List Rule → Extension
 extension_of name rules = record {
   name = name;
   sets = record { id = codes "s"; enabled = true; rules = rules; origins = []; disabled = [] } ∷ [];
+  access = None;
   dynamic = [];
   session = [];
 }

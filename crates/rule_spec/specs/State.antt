@@ -15,10 +15,12 @@ pub record RuleSet : Type 0 where
   pub origins : List (List ℕ)
   pub disabled : List ℕ
 
--- the rulesets stand in the order of the manifest
+-- The rulesets stand in the order of the manifest. `access` has the texts of the match patterns of the requests that
+-- the extension has access to, as they were written, if they are restricted.
 pub record Extension : Type 0 where
   pub name : List ℕ
   pub sets : List RuleSet
+  pub access : Option (List (List ℕ))
   pub dynamic : List Rule
   pub session : List Rule
 
