@@ -113,7 +113,7 @@ duplicate_id state (session name remove add) =
 duplicate_id state update = None
 
 abbrev pub lacks_rule : RuleSet → ℤ → Bool
-lacks_rule set id = not (list_any (λ rule. int_eq (pos rule.id) id) set.rules)
+lacks_rule set id = not (list_any (λ rule. int_eq id (pos rule.id)) set.rules)
 
 -- each rule is there, of those to disable first
 abbrev pub no_static_rule : State → Update → Option Refusal

@@ -62,6 +62,11 @@ name_in (uninstall name) = name
 
 -- ---- the state after an update
 
+-- the list with the first that passes the test changed; names and ids are there once, so it is the one that is meant
+abbrev pub with_first : {X : Type 0} → (X → Bool) → (X → X) → List X → List X
+with_first is_meant change [] = []
+with_first is_meant change (x ∷ xs) = if is_meant x then change x ∷ xs else x ∷ with_first is_meant change xs
+
 abbrev pub has_text : List (List ℕ) → List ℕ → Bool
 has_text texts text = list_any (λ other. bytes_eq text other) texts
 
@@ -94,9 +99,6 @@ with_rules_switched disable enable set =
 abbrev pub has_set_id : List ℕ → RuleSet → Bool
 has_set_id id set = bytes_eq set.id id
 
-abbrev pub with_set_switched : List ℕ → List ℤ → List ℤ → RuleSet → RuleSet
-with_set_switched id disable enable set = if has_set_id id set then with_rules_switched disable enable set else set
-
 abbrev pub has_name : List ℕ → Extension → Bool
 has_name name extension = bytes_eq extension.name name
 
@@ -106,18 +108,15 @@ updated (dynamic name remove add) extension = record extension { dynamic = repla
 updated (session name remove add) extension = record extension { session = replaced remove add extension.session }
 updated (rulesets name disable enable) extension = record extension { sets = map (switched disable enable) extension.sets }
 updated (static name set disable enable) extension =
-    record extension { sets = map (with_set_switched set disable enable) extension.sets }
+    record extension { sets = with_first (has_set_id set) (with_rules_switched disable enable) extension.sets }
 updated (install new) extension = extension
 updated (uninstall name) extension = extension
-
-abbrev pub updated_if_named : Update → Extension → Extension
-updated_if_named update extension = if has_name (name_in update) extension then updated update extension else extension
 
 -- the extensions after the update: an installed one is the newest
 abbrev pub extensions_after : Update → List Extension → List Extension
 extensions_after (install new) extensions = extensions ++ installed new ∷ []
 extensions_after (uninstall name) extensions = filter (λ extension. not (has_name name extension)) extensions
-extensions_after update extensions = map (updated_if_named update) extensions
+extensions_after update extensions = with_first (has_name (name_in update)) (updated update) extensions
 
 -- the change that the update makes; the count of updates stays
 abbrev pub changed : State → Update → State
