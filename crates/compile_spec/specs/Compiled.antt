@@ -5,7 +5,7 @@ use Rattle.std.specs.Prelude.{ℕ, ◌+◌, List, [], ◌∷◌, ◌++◌, map, 
 use Rattle.std.specs.List.{flat_map}
 use Rattle.dnr_base.specs.declared.kind.Kind.{Kind}
 use Rattle.dnr_base.specs.declared.kind.Kind.TheVariants.{MainFrame, SubFrame}
-use Rattle.rule_spec.specs.Rule.{Condition, Action, block, allow, allow_all_requests, Rule}
+use Rattle.rule_spec.specs.Rule.{Condition, plain_condition, Action, block, allow, allow_all_requests, Rule}
 use Rattle.list_spec.specs.LineKind.{FilterPattern, every_url, plain, regex, FilterLine, line_of}
 use Rattle.list_spec.specs.Says.{filter_in}
 use Rattle.compile_spec.specs.Initiators.{Initiators, initiators_of}
@@ -65,20 +65,13 @@ regex_filter_of (regex pattern) = Some pattern
 
 -- the filter's pattern and party, these types, and these initiators
 abbrev pub condition_of : FilterLine → List Kind → Initiators → Condition
-condition_of filter kinds initiators = record {
+condition_of filter kinds initiators = record (plain_condition kinds) {
   url_filter = url_filter_of filter.pattern;
   regex_filter = regex_filter_of filter.pattern;
   case_sensitive = filter.match_case;
   initiators = initiators.among;
   not_initiators = initiators.not_among;
-  hosts = None;
-  not_hosts = [];
   third_party = filter.third_party;
-  kinds = kinds;
-  methods = None;
-  not_methods = [];
-  tabs = None;
-  not_tabs = [];
 }
 
 -- ---- the rules of a filter

@@ -2,8 +2,8 @@
 use Rattle.std.proofs.Common.{◌≡◌, ℕ, List, ◌++◌, codes, decimal, ap, ◌∙◌, append_assoc}
 use Rattle.json.specs.Print.{quoted}
 use Rattle.compile_spec.specs.declared.reported.Reported.{Reported}
-use Rattle.load_spec.specs.Installing.{RefusedInstall}
-use Rattle.session_spec.specs.Refusals.{file_line, install_line, install_code, install_count, count_field, unsupported_line, reason_code, option_at_fault, name_field}
+use Rattle.update_spec.specs.Entries.{RefusedInstall}
+use Rattle.session_spec.specs.Refusals.{file_line, install_line, update_code, update_count, count_field, unsupported_line, reason_code, option_at_fault, name_field}
 
 -- what was appended one after another was appended as one
 behind_three : (t a b c d e : List ℕ) → ((((t ++ a) ++ b) ++ c) ++ d) ++ e ≡ t ++ ((((a ++ b) ++ c) ++ d) ++ e)
@@ -26,13 +26,13 @@ file_line_written before begun now after file fields first second third =
 
 -- the line of a refused installation
 pub install_line_written : (before begun now after : List ℕ) (refused : RefusedInstall)
-    → begun ≡ before ++ (codes "{\"extension\":" ++ (quoted refused.extension ++ (codes ",\"refused\":\"" ++ (install_code refused.cause ++ codes "\""))))
-    → now ≡ begun ++ count_field (install_count refused.cause) → after ≡ now ++ codes "}\n"
+    → begun ≡ before ++ (codes "{\"extension\":" ++ (quoted refused.extension ++ (codes ",\"refused\":\"" ++ (update_code refused.cause ++ codes "\""))))
+    → now ≡ begun ++ count_field (update_count refused.cause) → after ≡ now ++ codes "}\n"
     → after ≡ before ++ install_line refused
 install_line_written before begun now after refused first second third =
-    let count = count_field (install_count refused.cause) in
+    let count = count_field (update_count refused.cause) in
     three begun now after _ count (codes "}\n") first second third
-    ∙ behind_five before (codes "{\"extension\":") (quoted refused.extension) (codes ",\"refused\":\"") (install_code refused.cause) (codes "\"") count (codes "}\n")
+    ∙ behind_five before (codes "{\"extension\":") (quoted refused.extension) (codes ",\"refused\":\"") (update_code refused.cause) (codes "\"") count (codes "}\n")
 
 -- the line of a filter line that gives nothing
 pub unsupported_line_written : (before begun now after : List ℕ) (one : Reported)

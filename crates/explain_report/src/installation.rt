@@ -5,8 +5,8 @@ ghost use Rattle.session_spec.specs.Refusals as spec;
 
 use crate::names::quoted_text;
 use dnr_base::NoMemory;
-use load_spec::Refusal;
 use std::alloc::Global;
+use update_spec::Refusal;
 
 /// Appends what an extension of this name prints that is not installed.
 ///
@@ -20,8 +20,8 @@ pub fn write_install_refusal(
     ensures { OnOk result (string_bytes into.new
         ≡ string_bytes into.old ++ spec.install_line (record { extension = extension.now; cause = refusal.now })) }
 {
-    write_start(alloc, extension, install_code(refusal), into)?;
-    write_count_field(install_count(refusal), into)?;
+    write_start(alloc, extension, update_code(refusal), into)?;
+    write_count_field(update_count(refusal), into)?;
     into.push_str("}\n")?;
     Ok(())
 }
@@ -51,34 +51,53 @@ fn write_count_field(count: Option<usize>, into: &mut String) -> Result<(), NoMe
     Ok(())
 }
 
-fn install_code(refusal: &Refusal) -> &'static str
-    ensures { result.now ≡ spec.install_code refusal.now }
+fn update_code(refusal: &Refusal) -> &'static str
+    ensures { result.now ≡ spec.update_code refusal.now }
 {
     match refusal {
+        Refusal::NoExtension(_) => "no-extension",
         Refusal::ExtensionThere(_) => "extension-there",
+        Refusal::NoRuleset(_) => "no-ruleset",
+        Refusal::DuplicateId(_) => "duplicate-id",
+        Refusal::NoStaticRule(_) => "no-static-rule",
+        Refusal::BothLists(_) => "both-lists",
         Refusal::ExtensionLimit(_) => "extension-limit",
         Refusal::RulesetLimit(_) => "ruleset-limit",
         Refusal::RulesLimit(_) => "rules-limit",
         Refusal::EnabledLimit(_) => "enabled-limit",
         Refusal::PoolLimit(_) => "pool-limit",
+        Refusal::DynamicLimit(_) => "dynamic-limit",
+        Refusal::UnsafeLimit(_) => "unsafe-limit",
+        Refusal::SessionLimit(_) => "session-limit",
         Refusal::RegexLimit(_) => "regex-limit",
+        Refusal::DisabledLimit(_) => "disabled-limit",
         Refusal::TooManyUpdates(_) => "too-many-updates",
         Refusal::NoMemory => "no-memory",
     }
 }
 
 // The count that a limit is compared with.
-fn install_count(refusal: &Refusal) -> Option<usize>
-    ensures { result ≡ spec.install_count refusal.now }
+fn update_count(refusal: &Refusal) -> Option<usize>
+    ensures { result ≡ spec.update_count refusal.now }
 {
     match refusal {
-        Refusal::ExtensionThere(_) | Refusal::NoMemory => None,
+        Refusal::NoExtension(_)
+        | Refusal::ExtensionThere(_)
+        | Refusal::NoRuleset(_)
+        | Refusal::DuplicateId(_)
+        | Refusal::NoStaticRule(_)
+        | Refusal::BothLists(_)
+        | Refusal::NoMemory => None,
         Refusal::ExtensionLimit(count)
         | Refusal::RulesetLimit(count)
         | Refusal::RulesLimit(count)
         | Refusal::EnabledLimit(count)
         | Refusal::PoolLimit(count)
+        | Refusal::DynamicLimit(count)
+        | Refusal::UnsafeLimit(count)
+        | Refusal::SessionLimit(count)
         | Refusal::RegexLimit(count)
+        | Refusal::DisabledLimit(count)
         | Refusal::TooManyUpdates(count) => Some(*count),
     }
 }

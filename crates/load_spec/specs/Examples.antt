@@ -1,11 +1,7 @@
--- Examples of manifests and installations, each computed from the definitions alone.
-use Rattle.std.specs.Prelude.{◌≡◌, ℕ, List, [], ◌∷◌, ◌++◌, codes, replicate, Bool, true, false, Some, None, Ok, Err}
+-- Examples of manifests, each computed from the definitions alone.
+use Rattle.std.specs.Prelude.{◌≡◌, ℕ, List, [], ◌∷◌, ◌++◌, codes, true, false, Some, None, Ok, Err}
 use Rattle.load_spec.specs.declared.manifest_path.ManifestPath.TheVariants as path
-use Rattle.load_spec.specs.declared.refusal.Refusal.TheVariants.{ExtensionThere, EnabledLimit}
-use Rattle.rule_spec.specs.State.{RuleSet, Extension}
-use Rattle.load_spec.specs.Manifest.{Resource, no_json, at, manifest_of}
-use Rattle.load_spec.specs.Extensions.{extension_of}
-use Rattle.load_spec.specs.Installing.{empty, judge_install, opening}
+use Rattle.load_spec.specs.Manifest.{Resource, Manifest, no_json, at, manifest_of}
 
 -- ---- manifests
 
@@ -20,19 +16,23 @@ ads_at text = codes "{\"id\":\"ads\",\"enabled\":true,\"path\":\"" ++ text ++ co
 abbrev pub ads : List ℕ → Resource
 ads text = record { id = codes "ads"; enabled = true; path = text }
 
+-- a manifest that names these resources alone
+abbrev pub only : List Resource → Manifest
+only resources = record { resources = resources; access = None }
+
 -- A manifest without rulesets names none; keys that are not known are ignored.
 abbrev pub NoResourcesAreNone : Type 0
 NoResourcesAreNone =
-    (manifest_of (codes "{}") ≡ Ok [])
-    × (manifest_of (codes "{\"declarative_net_request\":{}}") ≡ Ok [])
-    × (manifest_of (naming (codes "[]")) ≡ Ok [])
-    × (manifest_of (codes "{\"name\":\"Shop\",\"manifest_version\":3}") ≡ Ok [])
+    (manifest_of (codes "{}") ≡ Ok (only []))
+    × (manifest_of (codes "{\"declarative_net_request\":{}}") ≡ Ok (only []))
+    × (manifest_of (naming (codes "[]")) ≡ Ok (only []))
+    × (manifest_of (codes "{\"name\":\"Shop\",\"manifest_version\":3}") ≡ Ok (only []))
 
 -- Resources stand in the order of the manifest.
 abbrev pub ResourcesKeepTheirOrder : Type 0
 ResourcesKeepTheirOrder =
     manifest_of (naming (codes "[" ++ ads_at (codes "b/ads.json") ++ codes ",{\"id\":\"extra\",\"enabled\":false,\"path\":\"extra.json\"}]"))
-    ≡ Ok (ads (codes "b/ads.json") ∷ record { id = codes "extra"; enabled = false; path = codes "extra.json" } ∷ [])
+    ≡ Ok (only (ads (codes "b/ads.json") ∷ record { id = codes "extra"; enabled = false; path = codes "extra.json" } ∷ []))
 
 -- The outermost part at fault is named first, and null is no object.
 abbrev pub OutermostFaultIsNamed : Type 0
@@ -58,30 +58,13 @@ PathsStayInside =
     × (manifest_of (naming (codes "[" ++ ads_at (codes "/etc/passwd") ++ codes "]")) ≡ Err (at path.Path))
     × (manifest_of (naming (codes "[" ++ ads_at (codes "a/../../b") ++ codes "]")) ≡ Err (at path.Path))
     × (manifest_of (naming (codes "[" ++ ads_at (codes "a\\\\b") ++ codes "]")) ≡ Err (at path.Path))
-    × (manifest_of (naming (codes "[" ++ ads_at (codes "./a..b/...") ++ codes "]")) ≡ Ok (ads (codes "./a..b/...") ∷ []))
+    × (manifest_of (naming (codes "[" ++ ads_at (codes "./a..b/...") ++ codes "]")) ≡ Ok (only (ads (codes "./a..b/...") ∷ [])))
 
--- ---- installations
-
-abbrev pub set_named : List ℕ → Bool → RuleSet
-set_named id enabled = record { id = id; enabled = enabled; rules = []; origins = []; disabled = [] }
-
-abbrev pub without_rules : List ℕ → Extension
-without_rules name = extension_of name []
-
--- Extensions stand in the order of their installation, and count for nothing before the first line.
-abbrev pub OldestStandsFirst : Type 0
-OldestStandsFirst =
-    opening (without_rules (codes "a") ∷ without_rules (codes "b") ∷ [])
-    ≡ Ok (record { extensions = without_rules (codes "a") ∷ without_rules (codes "b") ∷ []; count = 0 })
-
--- A name is installed once.
-abbrev pub NameIsInstalledOnce : Type 0
-NameIsInstalledOnce =
-    opening (without_rules (codes "a") ∷ without_rules (codes "a") ∷ [])
-    ≡ Err (record { extension = codes "a"; cause = ExtensionThere (codes "a") })
-
--- Fifty enabled rulesets are installed, and one more is refused; those that are not enabled do not count.
-abbrev pub EnabledRulesetsHaveALimit : Type 0
-EnabledRulesetsHaveALimit =
-    (judge_install empty (extension_of (codes "a") (replicate 50 (set_named (codes "s") true) ++ replicate 50 (set_named (codes "t") false))) ≡ None)
-    × (judge_install empty (extension_of (codes "a") (replicate 51 (set_named (codes "s") true))) ≡ Some (EnabledLimit 51))
+-- Match patterns are kept as they stand, and are the last to be tested.
+abbrev pub AccessComesLast : Type 0
+AccessComesLast =
+    (manifest_of (codes "{\"host_permissions\":[\"*://*.x.com/*\",\"?\"]}")
+    ≡ Ok (record { resources = []; access = Some (codes "*://*.x.com/*" ∷ codes "?" ∷ []) }))
+    × (manifest_of (codes "{\"host_permissions\":[]}") ≡ Ok (record { resources = []; access = Some [] }))
+    × (manifest_of (codes "{\"host_permissions\":null}") ≡ Err (at path.HostPermissions))
+    × (manifest_of (codes "{\"host_permissions\":[1],\"declarative_net_request\":[]}") ≡ Err (at path.DeclarativeNetRequest))

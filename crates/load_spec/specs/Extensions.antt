@@ -1,13 +1,13 @@
 -- An extension of a folder: its manifest, and the rules of the files that it names, each within the limit of a file.
-use Rattle.std.specs.Prelude.{◌≡◌, ◌⊎◌, ℕ, List, [], ◌∷◌, ◌++◌, codes, Ok, Err}
+use Rattle.std.specs.Prelude.{◌≡◌, ◌⊎◌, ℕ, List, [], ◌∷◌, ◌++◌, codes, Option, Ok, Err}
 use Rattle.std.specs.List.{AllZip}
 use Rattle.rule_spec.specs.declared.rule_kind.RuleKind.TheVariants.{Static}
 use Rattle.rule_spec.specs.Rule.{Rule}
-use Rattle.rule_spec.specs.State.{RuleSet, Extension}
 use Rattle.json_spec.specs.RulesFile.{FileRefusal, bad_json}
+use Rattle.update_spec.specs.Update.{NewRuleSet, NewExtension}
 use Rattle.load_spec.specs.declared.manifest_path.ManifestPath.{ManifestPath}
 use Rattle.load_spec.specs.Files.{Files, HoldsFile, HoldsLongFile, HoldsRules, BreaksForm, StopsAtHost}
-use Rattle.load_spec.specs.Manifest.{Resource, ManifestFault, no_json, at, manifest_of}
+use Rattle.load_spec.specs.Manifest.{Resource, Manifest, ManifestFault, no_json, at, manifest_of}
 
 -- ---- names
 
@@ -21,32 +21,32 @@ manifest_name extension = file_in extension (codes "manifest.json")
 -- ---- an extension that is read
 
 -- the ruleset of these rules, which the manifest names so
-abbrev pub set_of : Resource → List Rule → RuleSet
-set_of resource rules = record { id = resource.id; enabled = resource.enabled; rules = rules; origins = []; disabled = [] }
+abbrev pub set_of : Resource → List Rule → NewRuleSet
+set_of resource rules = record { id = resource.id; enabled = resource.enabled; rules = rules; origins = [] }
 
--- an extension as it is installed: rulesets, and no rules that were added since
-abbrev pub extension_of : List ℕ → List RuleSet → Extension
-extension_of name sets = record { name = name; sets = sets; dynamic = []; session = [] }
+-- an extension as it is installed
+abbrev pub extension_of : List ℕ → List NewRuleSet → Option (List (List ℕ)) → NewExtension
+extension_of name sets access = record { name = name; sets = sets; access = access }
 
 -- the file that a resource names holds the rules of the ruleset
-pub record HoldsSet (files : Files) (extension : List ℕ) (resource : Resource) (set : RuleSet) : Type 0 where
+pub record HoldsSet (files : Files) (extension : List ℕ) (resource : Resource) (set : NewRuleSet) : Type 0 where
   pub rules : List Rule
   pub loaded : HoldsRules files Static (file_in extension resource.path) rules
   pub same : set ≡ set_of resource rules
 
--- the manifest names these resources
-pub record HoldsManifest (files : Files) (extension : List ℕ) (resources : List Resource) : Type 0 where
+-- the file of the manifest holds this one
+pub record HoldsManifest (files : Files) (extension : List ℕ) (manifest : Manifest) : Type 0 where
   pub bytes : List ℕ
   pub file : HoldsFile files (manifest_name extension) bytes
-  pub read : manifest_of bytes ≡ Ok resources
+  pub read : manifest_of bytes ≡ Ok manifest
 
 -- the folder of this name holds the extension
-pub record HoldsExtension (files : Files) (name : List ℕ) (extension : Extension) : Type 0 where
-  pub resources : List Resource
-  pub manifest : HoldsManifest files name resources
-  pub sets : List RuleSet
-  pub loaded : AllZip (HoldsSet files name) resources sets
-  pub same : extension ≡ extension_of name sets
+pub record HoldsExtension (files : Files) (name : List ℕ) (extension : NewExtension) : Type 0 where
+  pub manifest : Manifest
+  pub held : HoldsManifest files name manifest
+  pub sets : List NewRuleSet
+  pub loaded : AllZip (HoldsSet files name) manifest.resources sets
+  pub same : extension ≡ extension_of name sets manifest.access
 
 -- ---- one that is not read
 
@@ -87,9 +87,9 @@ pub record BreaksSet (files : Files) (rose : Type 0) (extension : List ℕ) (ref
 
 -- the first rules file that is not read ends so
 pub record EndsInSets (files : Files) (extension : List ℕ) (Ends : Resource → Type 0) : Type 0 where
-  pub resources : List Resource
-  pub manifest : HoldsManifest files extension resources
-  pub first : EndsAtOne (HoldsSet files extension) Ends resources
+  pub manifest : Manifest
+  pub held : HoldsManifest files extension manifest
+  pub first : EndsAtOne (HoldsSet files extension) Ends manifest.resources
 
 -- a file of the extension is refused, and those that are read before it are not
 abbrev pub RefusesExtension : Files → Type 0 → List ℕ → RefusedFile → Type 0

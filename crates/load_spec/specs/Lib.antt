@@ -2,5 +2,4 @@ pub mod Files
 pub mod ManifestPath
 pub mod Manifest
 pub mod Extensions
-pub mod Installing
 pub mod Examples

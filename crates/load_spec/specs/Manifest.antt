@@ -1,6 +1,7 @@
--- The static rulesets that an extension's manifest names: Chrome's reference of declarativeNetRequest,
--- `declarative_net_request.rule_resources`. Keys that are not known are ignored, and the first field at fault is named.
-use Rattle.std.specs.Prelude.{ℕ, List, [], ◌∷◌, ◌++◌, length, slice_index, codes, Bool, true, not, ◌==◌, ◌&&◌, nat_lt, nat_le, Option, Some, None, is_some, option_and_then, ok_or, Result, Ok, Err, if◌then◌else◌}
+-- The static rulesets that an extension's manifest names, and what it may touch: Chrome's reference of
+-- declarativeNetRequest, `declarative_net_request.rule_resources`, and `host_permissions`. Keys that are not known are
+-- ignored, and the first field at fault is named.
+use Rattle.std.specs.Prelude.{ℕ, List, [], ◌∷◌, ◌++◌, length, slice_index, codes, Bool, true, not, ◌==◌, ◌&&◌, nat_lt, nat_le, Option, Some, None, is_some, option_map, option_and_then, ok_or, Result, Ok, Err, if◌then◌else◌}
 use Rattle.std.specs.List.{list_any, slice_split}
 use Rattle.std.specs.Str.{bytes_eq}
 use Rattle.serde_json.specs.Data.{Data, Items, no_items, item, Members}
@@ -8,6 +9,7 @@ use Rattle.serde_json.specs.Find.{get, as_array, as_bool, as_object}
 use Rattle.load_spec.specs.declared.manifest_path.ManifestPath.{ManifestPath}
 use Rattle.load_spec.specs.declared.manifest_path.ManifestPath.TheVariants as path
 use Rattle.json_spec.specs.Json.{tree_of, text_at}
+use Rattle.json_spec.specs.RuleFields.{as_texts}
 use Rattle.load_spec.specs.ManifestPath.{path_name}
 
 -- a static ruleset as the manifest names it: its id, whether it is enabled, and the file of its rules
@@ -96,12 +98,31 @@ abbrev pub requests_given : Option Data → Result (List Resource) ManifestPath
 requests_given None = Ok []
 requests_given (Some d) = requests_from d (as_object d)
 
-abbrev pub manifest_from : Data → Option Members → Result (List Resource) ManifestPath
-manifest_from d None = Err path.Manifest
-manifest_from d (Some _) = requests_given (get (path_name path.DeclarativeNetRequest) d)
+-- ---- access
 
--- the resources that a tree names, or the first field at fault
-unfoldable pub manifest_in : Data → Result (List Resource) ManifestPath
+-- the texts of match patterns, if their list is given
+abbrev pub access_given : Option Data → Result (Option (List (List ℕ))) ManifestPath
+access_given None = Ok None
+access_given (Some d) = ok_or (option_map Some (as_texts d)) path.HostPermissions
+
+unfoldable pub access_in : Data → Result (Option (List (List ℕ))) ManifestPath
+access_in d = access_given (get (path_name path.HostPermissions) d)
+
+-- ---- the manifest
+
+-- what a manifest names: rulesets, and the match patterns of what the extension may touch, if it is restricted
+pub record Manifest : Type 0 where
+  pub resources : List Resource
+  pub access : Option (List (List ℕ))
+
+abbrev pub manifest_from : Data → Option Members → Result Manifest ManifestPath
+manifest_from d None = Err path.Manifest
+manifest_from d (Some _) =
+    and_then (requests_given (get (path_name path.DeclarativeNetRequest) d)) (λ resources.
+    and_then (access_in d) (λ access. Ok (record { resources = resources; access = access })))
+
+-- the manifest of a tree, or its first field at fault
+unfoldable pub manifest_in : Data → Result Manifest ManifestPath
 manifest_in d = manifest_from d (as_object d)
 
 -- ---- the whole
@@ -115,10 +136,10 @@ abbrev pub or_fault : {X : Type 0} → Result X ManifestPath → Result X Manife
 or_fault (Ok x) = Ok x
 or_fault (Err field) = Err (at field)
 
-abbrev pub manifest_of_tree : Option Data → Result (List Resource) ManifestFault
+abbrev pub manifest_of_tree : Option Data → Result Manifest ManifestFault
 manifest_of_tree None = Err no_json
 manifest_of_tree (Some d) = or_fault (manifest_in d)
 
--- the resources that the bytes of a manifest name, or why it is refused
-unfoldable pub manifest_of : List ℕ → Result (List Resource) ManifestFault
+-- the manifest of these bytes, or why it is refused
+unfoldable pub manifest_of : List ℕ → Result Manifest ManifestFault
 manifest_of bytes = manifest_of_tree (tree_of bytes)

@@ -3,8 +3,7 @@
 
 ghost use Rattle.load_spec.specs.Examples.{NoResourcesAreNone, ResourcesKeepTheirOrder};
 ghost use Rattle.load_spec.specs.Examples.{OutermostFaultIsNamed, FieldsComeInOrder};
-ghost use Rattle.load_spec.specs.Examples.{PathsStayInside, OldestStandsFirst, NameIsInstalledOnce};
-ghost use Rattle.load_spec.specs.Examples.{EnabledRulesetsHaveALimit};
+ghost use Rattle.load_spec.specs.Examples.{PathsStayInside, AccessComesLast};
 
 /// A manifest without rulesets names none; keys that are not known are ignored.
 #[tactic(auto, using(crate::proofs::Computed::no_resources_are_none))]
@@ -36,20 +35,8 @@ pub fn paths_stay_inside()
     ensures { PathsStayInside }
 {}
 
-/// Extensions stand in the order of their installation, and count for nothing before the first line.
-#[tactic(auto, using(crate::proofs::Computed::oldest_stands_first))]
-pub fn oldest_stands_first()
-    ensures { OldestStandsFirst }
-{}
-
-/// A name is installed once.
-#[tactic(auto, using(crate::proofs::Computed::name_is_installed_once))]
-pub fn name_is_installed_once()
-    ensures { NameIsInstalledOnce }
-{}
-
-/// Fifty enabled rulesets are installed, and one more is refused; those that are not enabled do not count.
-#[tactic(auto, using(crate::proofs::Computed::enabled_rulesets_have_a_limit))]
-pub fn enabled_rulesets_have_a_limit()
-    ensures { EnabledRulesetsHaveALimit }
+/// Match patterns are kept as they stand, and are the last to be tested.
+#[tactic(auto, using(crate::proofs::Computed::access_comes_last))]
+pub fn access_comes_last()
+    ensures { AccessComesLast }
 {}

@@ -16,6 +16,8 @@ pub enum ManifestPath {
     Enabled,
     /// The path of a ruleset is no text, is empty, or leaves the extension's folder.
     Path,
+    /// `host_permissions` is given and no list of texts.
+    HostPermissions,
 }
 
 impl ManifestPath {
@@ -30,6 +32,7 @@ impl ManifestPath {
             ManifestPath::Id => "id",
             ManifestPath::Enabled => "enabled",
             ManifestPath::Path => "path",
+            ManifestPath::HostPermissions => "host_permissions",
         }
     }
 }

@@ -15,8 +15,8 @@ pub record RuleSet : Type 0 where
   pub origins : List (List ℕ)
   pub disabled : List ℕ
 
--- The rulesets stand in the order of the manifest. `access` has the match patterns of what the extension may send
--- elsewhere or change the headers of; without a list it may do so with every request.
+-- The rulesets stand in the order of the manifest. `access` has the texts of the match patterns of what the extension may
+-- send elsewhere or change the headers of; without a list it may do so with every request.
 pub record Extension : Type 0 where
   pub name : List ℕ
   pub sets : List RuleSet

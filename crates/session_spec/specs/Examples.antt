@@ -17,12 +17,12 @@ use Rattle.list_spec.specs.declared.reason.Reason.TheVariants.{ElementHiding, Un
 use Rattle.list_spec.specs.LineKind as list
 use Rattle.compile_spec.specs.Compiled.{compiled}
 use Rattle.load_spec.specs.declared.manifest_path.ManifestPath.TheVariants as path
-use Rattle.load_spec.specs.declared.refusal.Refusal.TheVariants.{ExtensionThere, RegexLimit}
+use Rattle.update_spec.specs.declared.refusal.Refusal.TheVariants.{ExtensionThere, RegexLimit}
 use Rattle.load_spec.specs.Extensions.{bad_manifest}
 use Rattle.session_spec.specs.Refusals.{refusal_line, refused_file_line, suffixes_line, too_many_rules, host_failed, list_line, install_line, unsupported_line}
 use Rattle.session_spec.specs.Words.{folder, list as from_list, match_files, check_file, compile_file, serve_script, task_of}
 use Rattle.load_spec.specs.Files.{Files}
-use Rattle.load_spec.specs.Installing.{RefusedInstall, opening}
+use Rattle.update_spec.specs.Entries.{RefusedInstall, opening}
 use Rattle.session_spec.specs.Out.{Counts, local, compiled_text, Out}
 
 -- ---- what `match` writes where no host fails

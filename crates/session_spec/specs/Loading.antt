@@ -5,10 +5,10 @@ use Rattle.std.specs.List.{AllZip}
 use Rattle.dnr_spec.specs.declared.suffix_refusal.SuffixRefusal.{SuffixRefusal}
 use Rattle.dnr_spec.specs.Suffixes.{SuffixRule}
 use Rattle.rule_spec.specs.declared.rule_kind.RuleKind.{RuleKind}
-use Rattle.rule_spec.specs.State.{Extension}
+use Rattle.update_spec.specs.Update.{NewExtension}
 use Rattle.list_spec.specs.LineKind.{lines_of}
 use Rattle.compile_spec.specs.Compiled.{CompiledRule, max_compiled, compiled}
-use Rattle.compile_spec.specs.Installed.{list_extension}
+use Rattle.compile_spec.specs.Installed.{new_list}
 use Rattle.compile_spec.specs.Report.{StopsAtLine}
 use Rattle.json_spec.specs.RulesFile.{FileRefusal}
 use Rattle.load_spec.specs.Files.{Files, HoldsFile, HoldsLongFile, BreaksForm, StopsAtHost, HoldsSuffixes, BreaksSuffixes}
@@ -45,16 +45,16 @@ pub record RefusesList (files : Files) (rose : Type 0) (name : List ℕ) (refusa
   pub refused : IsRefusedList rose bytes refusal
 
 -- the file is a list, and the extension of its rules has this name
-pub record HoldsListExtension (files : Files) (name file : List ℕ) (extension : Extension) : Type 0 where
+pub record HoldsListExtension (files : Files) (name file : List ℕ) (extension : NewExtension) : Type 0 where
   pub bytes : List ℕ
   pub rules : List CompiledRule
   pub held : HoldsList files file bytes rules
-  pub same : extension ≡ list_extension name rules
+  pub same : extension ≡ new_list name rules
 
 -- ---- one that is installed
 
 -- what is to be installed was read as this extension
-abbrev pub Reads : Files → Installed → Extension → Type 0
+abbrev pub Reads : Files → Installed → NewExtension → Type 0
 Reads files (folder name) extension = HoldsExtension files name extension
 Reads files (list name file) extension = HoldsListExtension files name file extension
 
@@ -104,7 +104,7 @@ IsLongSuffixFile files (Some name) = HoldsLongFile files name
 -- what was read: the suffix rules, and the extensions in the order of the words
 pub record Loaded : Type 0 where
   pub suffixes : List SuffixRule
-  pub extensions : List Extension
+  pub extensions : List NewExtension
 
 -- all that the words name was read
 pub record Loads (files : Files) (serving : Serving) (loaded : Loaded) : Type 0 where

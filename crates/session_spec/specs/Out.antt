@@ -9,13 +9,14 @@ use Rattle.dnr_base.specs.Faults.{Rose, Count}
 use Rattle.rule_spec.specs.declared.rule_kind.RuleKind.{RuleKind}
 use Rattle.rule_spec.specs.declared.rule_kind.RuleKind.TheVariants.{Static}
 use Rattle.rule_spec.specs.Rule.{Rule}
-use Rattle.rule_spec.specs.State.{Extension, State}
+use Rattle.rule_spec.specs.State.{State}
 use Rattle.json_spec.specs.Written.{written as json_text}
 use Rattle.list_spec.specs.LineKind as list
 use Rattle.compile_spec.specs.Compiled.{CompiledRule, rules_in}
 use Rattle.compile_spec.specs.Report.{report}
 use Rattle.load_spec.specs.Files.{Files, HoldsRules, HoldsLongFile}
-use Rattle.load_spec.specs.Installing.{RefusedInstall, opening}
+use Rattle.update_spec.specs.Update.{NewExtension}
+use Rattle.update_spec.specs.Entries.{RefusedInstall, opening}
 use Rattle.session_spec.specs.Refusals.{install_line, count_line, unsupported_lines}
 use Rattle.session_spec.specs.Answers.{Setting, Answers}
 use Rattle.session_spec.specs.Loading.{PrintsRefusedRules, HoldsList, PrintsRefusedList, Loaded, Loads, RefusesFile, HasLongFileIn}
@@ -76,12 +77,11 @@ pub record IsCompiled (files : Files) (name output : List ℕ) : Type 0 where
 -- ---- sessions
 
 -- the extension `local` with the ruleset `rules`
-abbrev pub local : List Rule → Extension
+abbrev pub local : List Rule → NewExtension
 local rules = record {
   name = codes "local";
-  sets = record { id = codes "rules"; enabled = true; rules = rules; origins = []; disabled = [] } ∷ [];
-  dynamic = [];
-  session = [];
+  sets = record { id = codes "rules"; enabled = true; rules = rules; origins = [] } ∷ [];
+  access = None;
 }
 
 -- `match` has no suffix list

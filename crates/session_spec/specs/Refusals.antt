@@ -19,11 +19,11 @@ use Rattle.json_spec.specs.RulesFile.{FileRefusal, bad_json, bad_rules}
 use Rattle.list_spec.specs.declared.reason.Reason.{Reason}
 use Rattle.list_spec.specs.declared.reason.Reason.TheVariants as reason
 use Rattle.compile_spec.specs.declared.reported.Reported.{Reported}
-use Rattle.load_spec.specs.declared.refusal.Refusal.{Refusal}
-use Rattle.load_spec.specs.declared.refusal.Refusal.TheVariants as install
+use Rattle.update_spec.specs.declared.refusal.Refusal.{Refusal}
+use Rattle.update_spec.specs.declared.refusal.Refusal.TheVariants as update
 use Rattle.load_spec.specs.ManifestPath as manifest
 use Rattle.load_spec.specs.Extensions.{FileCause, bad_rules_file, bad_manifest, RefusedFile}
-use Rattle.load_spec.specs.Installing.{RefusedInstall}
+use Rattle.update_spec.specs.Entries.{RefusedInstall}
 
 -- Want of memory is written nowhere; its name here is that of its status.
 abbrev pub no_memory : List ℕ
@@ -157,40 +157,58 @@ list_fields (host_failed line) = codes "\"pattern-host\",\"line\":" ++ decimal l
 abbrev pub list_line : List ℕ → ListRefusal → List ℕ
 list_line file refusal = file_line file (list_fields refusal)
 
--- ---- installations
+-- ---- updates and installations
 
-abbrev pub install_code : Refusal → List ℕ
-install_code (install.ExtensionThere name) = codes "extension-there"
-install_code (install.ExtensionLimit count) = codes "extension-limit"
-install_code (install.RulesetLimit count) = codes "ruleset-limit"
-install_code (install.RulesLimit count) = codes "rules-limit"
-install_code (install.EnabledLimit count) = codes "enabled-limit"
-install_code (install.PoolLimit count) = codes "pool-limit"
-install_code (install.RegexLimit count) = codes "regex-limit"
-install_code (install.TooManyUpdates count) = codes "too-many-updates"
-install_code install.NoMemory = no_memory
+abbrev pub update_code : Refusal → List ℕ
+update_code (update.NoExtension name) = codes "no-extension"
+update_code (update.ExtensionThere name) = codes "extension-there"
+update_code (update.NoRuleset id) = codes "no-ruleset"
+update_code (update.DuplicateId id) = codes "duplicate-id"
+update_code (update.NoStaticRule id) = codes "no-static-rule"
+update_code (update.BothLists id) = codes "both-lists"
+update_code (update.ExtensionLimit count) = codes "extension-limit"
+update_code (update.RulesetLimit count) = codes "ruleset-limit"
+update_code (update.RulesLimit count) = codes "rules-limit"
+update_code (update.EnabledLimit count) = codes "enabled-limit"
+update_code (update.PoolLimit count) = codes "pool-limit"
+update_code (update.DynamicLimit count) = codes "dynamic-limit"
+update_code (update.UnsafeLimit count) = codes "unsafe-limit"
+update_code (update.SessionLimit count) = codes "session-limit"
+update_code (update.RegexLimit count) = codes "regex-limit"
+update_code (update.DisabledLimit count) = codes "disabled-limit"
+update_code (update.TooManyUpdates count) = codes "too-many-updates"
+update_code update.NoMemory = no_memory
 
--- the count that a limit is compared with; the name that is there already stands in the line anyway
-abbrev pub install_count : Refusal → Option ℕ
-install_count (install.ExtensionThere name) = None
-install_count (install.ExtensionLimit count) = Some count
-install_count (install.RulesetLimit count) = Some count
-install_count (install.RulesLimit count) = Some count
-install_count (install.EnabledLimit count) = Some count
-install_count (install.PoolLimit count) = Some count
-install_count (install.RegexLimit count) = Some count
-install_count (install.TooManyUpdates count) = Some count
-install_count install.NoMemory = None
+-- the count that a limit is compared with
+abbrev pub update_count : Refusal → Option ℕ
+update_count (update.NoExtension name) = None
+update_count (update.ExtensionThere name) = None
+update_count (update.NoRuleset id) = None
+update_count (update.DuplicateId id) = None
+update_count (update.NoStaticRule id) = None
+update_count (update.BothLists id) = None
+update_count (update.ExtensionLimit count) = Some count
+update_count (update.RulesetLimit count) = Some count
+update_count (update.RulesLimit count) = Some count
+update_count (update.EnabledLimit count) = Some count
+update_count (update.PoolLimit count) = Some count
+update_count (update.DynamicLimit count) = Some count
+update_count (update.UnsafeLimit count) = Some count
+update_count (update.SessionLimit count) = Some count
+update_count (update.RegexLimit count) = Some count
+update_count (update.DisabledLimit count) = Some count
+update_count (update.TooManyUpdates count) = Some count
+update_count update.NoMemory = None
 
 abbrev pub count_field : Option ℕ → List ℕ
 count_field None = []
 count_field (Some count) = codes ",\"count\":" ++ decimal count
 
--- what an extension prints that is not installed
+-- what an extension prints that is not installed; its name is not said again where it is there already
 abbrev pub install_line : RefusedInstall → List ℕ
 install_line refused =
-    codes "{\"extension\":" ++ quoted refused.extension ++ codes ",\"refused\":\"" ++ install_code refused.cause ++ codes "\""
-    ++ count_field (install_count refused.cause) ++ codes "}\n"
+    codes "{\"extension\":" ++ quoted refused.extension ++ codes ",\"refused\":\"" ++ update_code refused.cause ++ codes "\""
+    ++ count_field (update_count refused.cause) ++ codes "}\n"
 
 -- ---- counts and reports
 

@@ -18,6 +18,7 @@ abbrev pub normal_extension : Extension → Extension
 normal_extension extension = record {
   name = extension.name;
   sets = map normal_set extension.sets;
+  access = extension.access;
   dynamic = map normal extension.dynamic;
   session = map normal extension.session;
 }

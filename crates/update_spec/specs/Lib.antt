@@ -1,0 +1,4 @@
+pub mod Update
+pub mod Judge
+pub mod Entries
+pub mod Examples
