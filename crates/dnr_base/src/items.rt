@@ -31,6 +31,13 @@ impl<T> Items<T> {
     {
         self.items.as_slice()
     }
+
+    /// The vector of them. It takes no memory.
+    pub fn into_vec(self) -> Vec<T>
+        ensures { result.items ≡ self }
+    {
+        self.items
+    }
 }
 
 impl<T: Copied + Drop> Items<T> {

@@ -8,6 +8,7 @@ use Rattle.dnr_base.specs.declared.request.Request.{Request}
 use Rattle.dnr_base.specs.declared.rule_name.RuleName.{RuleName}
 use Rattle.dnr_base.specs.declared.verb.Verb.{Verb}
 use Rattle.dnr_spec.specs.Suffixes.{SuffixRule}
+use Rattle.rule_spec.specs.Access.{has_access}
 use Rattle.rule_spec.specs.Rule.{verb_of}
 use Rattle.rule_spec.specs.State.{Extension, Live, State, live_rules}
 use Rattle.rule_spec.specs.Scan.{Decision, candidate_of, decision_of, is_candidate, name_of}
@@ -46,7 +47,7 @@ module _ (Q : Live → Type 0) (suffixes : List SuffixRule) (request : Request) 
   pub lives_have : (lives : List Live) (kept : Kept) → IfSome kept.best (λ b. Q b.0) → AllByRecursion Q lives → IfSome (with_lives suffixes request kept lives).best (λ b. Q b.0)
   lives_have [] kept h all = h
   lives_have (live ∷ lives) kept h all =
-      lives_have lives (with_live suffixes request kept live) (case_has (is_candidate suffixes kept.name request live.rule) kept live h all.0) all.1
+      lives_have lives (with_live suffixes request kept live) (case_has (is_candidate suffixes kept.name kept.access request live.rule) kept live h all.0) all.1
 
 -- ---- what extensions say
 
@@ -70,7 +71,7 @@ decisions_in_force : (suffixes : List SuffixRule) (request : Request) (age : ℕ
     → AllByRecursion (IsIn all) (filter_map decision_in (kept_from suffixes request age rest))
 decisions_in_force suffixes request age all [] h = tt
 decisions_in_force suffixes request age all (extension ∷ rest) h =
-    let start = nothing_of extension.name age in
+    let start = nothing_of extension.name age (has_access extension.access request) in
     let kept = kept_of suffixes request age extension in
     both_in all (decision_in kept) (filter_map decision_in (kept_from suffixes request (age + 1) rest))
     (said_in all extension kept.name kept.age kept.best h.0 (lives_name suffixes request start (live_rules extension))

@@ -58,12 +58,19 @@ verb_name (Some verb) kept live = refl
 pub candidate_name : (kept : Kept) (live : Live) → (with_candidate kept live).name ≡ kept.name
 candidate_name kept live = verb_name (verb_of live.rule.action) kept live
 
+verb_access : (o : Option Verb) (kept : Kept) (live : Live) → (with_verb o kept live).access ≡ kept.access
+verb_access None kept live = refl
+verb_access (Some verb) kept live = refl
+
+pub candidate_access : (kept : Kept) (live : Live) → (with_candidate kept live).access ≡ kept.access
+candidate_access kept live = verb_access (verb_of live.rule.action) kept live
+
 live_name : (suffixes : List SuffixRule) (request : Request) (kept : Kept) (live : Live) → (with_live suffixes request kept live).name ≡ kept.name
 live_name suffixes request kept live =
     ⊎_elim
-    (λ yes. ap (λ k. k.name) (cond-true (is_candidate suffixes kept.name request live.rule) (with_candidate kept live) kept yes) ∙ candidate_name kept live)
-    (λ no. ap (λ k. k.name) (cond-false (is_candidate suffixes kept.name request live.rule) (with_candidate kept live) kept no))
-    (cases_Bool (is_candidate suffixes kept.name request live.rule))
+    (λ yes. ap (λ k. k.name) (cond-true (is_candidate suffixes kept.name kept.access request live.rule) (with_candidate kept live) kept yes) ∙ candidate_name kept live)
+    (λ no. ap (λ k. k.name) (cond-false (is_candidate suffixes kept.name kept.access request live.rule) (with_candidate kept live) kept no))
+    (cases_Bool (is_candidate suffixes kept.name kept.access request live.rule))
 
 pub lives_name : (suffixes : List SuffixRule) (request : Request) (kept : Kept) (lives : List Live) → (with_lives suffixes request kept lives).name ≡ kept.name
 lives_name suffixes request kept [] = refl

@@ -5,21 +5,24 @@ use Rattle.dnr_base.specs.declared.request.Request.{Request}
 use Rattle.dnr_base.specs.declared.verb.Verb.{Verb}
 use Rattle.dnr_spec.specs.Order.{beats}
 use Rattle.dnr_spec.specs.Suffixes.{SuffixRule}
+use Rattle.rule_spec.specs.Access.{has_access}
 use Rattle.rule_spec.specs.Rule.{verb_of}
 use Rattle.rule_spec.specs.Scan.{allowed_priority, candidate_of, is_candidate}
 use Rattle.rule_spec.specs.State.{Extension, Live, live_rules}
 
 -- Of its candidates: the one that decides so far, those that change headers, and the greatest priority of those that
--- allow. `age` is the extension's place in the order of installation.
+-- allow. `age` is the extension's place in the order of installation, and `access` whether it has access to the request.
 pub record Kept : Type 0 where
   pub name : List ℕ
   pub age : ℕ
+  pub access : Bool
   pub best : Option (Live × Candidate)
   pub changing : List Live
   pub allowed : ℕ
 
-abbrev pub nothing_of : List ℕ → ℕ → Kept
-nothing_of name age = record { name = name; age = age; best = None; changing = []; allowed = 0 }
+abbrev pub nothing_of : List ℕ → ℕ → Bool → Kept
+nothing_of name age access =
+    record { name = name; age = age; access = access; best = None; changing = []; allowed = 0 }
 
 -- the better of what is kept and the next one
 abbrev pub better_of : {X : Type 0} → (X → X → Bool) → Option X → X → Option X
@@ -49,7 +52,7 @@ with_candidate kept live = with_verb (verb_of live.rule.action) kept live
 -- one more rule in force
 abbrev pub with_live : List SuffixRule → Request → Kept → Live → Kept
 with_live suffixes request kept live =
-    if is_candidate suffixes kept.name request live.rule then with_candidate kept live else kept
+    if is_candidate suffixes kept.name kept.access request live.rule then with_candidate kept live else kept
 
 abbrev pub with_lives : List SuffixRule → Request → Kept → List Live → Kept
 with_lives suffixes request kept lives = fold (with_live suffixes request) kept lives
@@ -61,7 +64,8 @@ with_some suffixes request kept (Some live) = with_live suffixes request kept li
 
 -- what is kept of an extension at the end
 abbrev pub kept_of : List SuffixRule → Request → ℕ → Extension → Kept
-kept_of suffixes request age extension = with_lives suffixes request (nothing_of extension.name age) (live_rules extension)
+kept_of suffixes request age extension =
+    with_lives suffixes request (nothing_of extension.name age (has_access extension.access request)) (live_rules extension)
 
 -- what is kept of extensions, of which the first has this age
 abbrev pub kept_from : List SuffixRule → Request → ℕ → List Extension → List Kept

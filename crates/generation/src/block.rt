@@ -6,7 +6,7 @@ ghost use Rattle.generation.specs.Block.{lines_at, lives_in};
 use crate::live::Live;
 use dnr_base::{Items, Rank};
 use dnr_rules::Rule;
-use ruleset_store::{Extension, RuleSet};
+use ruleset_store::{Installed, InstalledSet};
 
 // Rules that stand together, with the lines that each comes from, if any, and the ids of those that are switched off.
 #[derive(Drop)]
@@ -50,14 +50,14 @@ impl<'a> Block<'a> {
     }
 
     // The session rules of an extension.
-    pub(crate) fn session(extension: &'a Extension) -> Block<'a>
+    pub(crate) fn session(extension: &'a Installed) -> Block<'a>
         ensures { lives_in result ≡ spec.live_with rank.Session (codes "_session") extension.now.session }
     {
         Block::added(Rank::Session, "_session", extension.session())
     }
 
     // The dynamic rules of an extension.
-    pub(crate) fn dynamic(extension: &'a Extension) -> Block<'a>
+    pub(crate) fn dynamic(extension: &'a Installed) -> Block<'a>
         ensures { lives_in result ≡ spec.live_with rank.Dynamic (codes "_dynamic") extension.now.dynamic }
     {
         Block::added(Rank::Dynamic, "_dynamic", extension.dynamic())
@@ -65,7 +65,7 @@ impl<'a> Block<'a> {
 
     // The rules of the enabled ruleset at this place of its manifest.
     #[tactic(auto, using(crate::proofs::Blocks::set_lives))]
-    pub(crate) fn of_set(place: u32, set: &'a RuleSet) -> Block<'a>
+    pub(crate) fn of_set(place: u32, set: &'a InstalledSet) -> Block<'a>
         requires { set.now.enabled ≡ true }
         ensures { lives_in result ≡ spec.live_of place set.now }
     {

@@ -1,5 +1,5 @@
 ghost use Rattle.std.specs.Prelude.{◌≡◌, [], ◌∷◌, Ok, IfOk, IfErr};
-ghost use Rattle.load_spec.specs.Installing as spec;
+ghost use Rattle.update_spec.specs.Entries as spec;
 ghost use Rattle.generation.specs.First.{IsFirstRefusal, IsRefusedSo};
 
 use dnr_base::Text;
@@ -40,7 +40,7 @@ fn with(alloc: Global, store: Store, extension: Extension) -> Result<Store, Firs
     ensures installed { IfOk result (λ next. spec.install_all store (extension ∷ []) ≡ Ok next) }
     ensures refused { IfErr result (IsFirstRefusal (spec.install_all store (extension ∷ []))) }
 {
-    let name = Text::build(String::from_str(alloc, extension.name())?);
+    let name = Text::build(String::from_str(alloc, extension.name.as_str())?);
     match store.install(alloc, extension) {
         Ok(store) => Ok(store),
         Err(refusal) => Err(refused(name, refusal)),
@@ -60,10 +60,9 @@ fn with_all(alloc: Global, extensions: Vec<Extension>) -> Result<Store, FirstRef
 }
 
 // The store before any update, once these extensions are installed.
-#[tactic(auto, using(crate::proofs::Opening::opening_refused))]
 pub(crate) fn first_store(alloc: Global, extensions: Vec<Extension>) -> Result<Store, FirstRefusal>
     ensures opened { IfOk result (λ store. spec.opening extensions.items ≡ Ok store) }
     ensures refused { IfErr result (IsFirstRefusal (spec.opening extensions.items)) }
 {
-    Ok(with_all(alloc, extensions)?.opened())
+    with_all(alloc, extensions)
 }

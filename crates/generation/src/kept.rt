@@ -4,7 +4,7 @@ ghost use Rattle.generation.specs.Kept as spec;
 use crate::live::Live;
 use dnr_base::{Candidate, NoMemory, Verb};
 use precedence::beats;
-use ruleset_store::Extension;
+use ruleset_store::Installed;
 use std::alloc::Global;
 use std::marker::Model;
 
@@ -14,6 +14,7 @@ use std::marker::Model;
 pub(crate) struct Kept<'a> {
     pub name: &'a str,
     pub age: u32,
+    pub access: bool,
     pub best: Option<(Live<'a>, Candidate)>,
     pub changing: Vec<Live<'a>>,
     pub allowed: u32,
@@ -24,7 +25,14 @@ impl<'a> Model for Kept<'a> {
 
     ghost Value = { spec.Kept };
 
-    ghost view = { λ k. record { name = k.name.now; age = k.age; best = k.best; changing = k.changing.items; allowed = k.allowed } };
+    ghost view = { λ k. record {
+      name = k.name.now;
+      age = k.age;
+      access = k.access;
+      best = k.best;
+      changing = k.changing.items;
+      allowed = k.allowed;
+    } };
 }
 
 // The better of two candidates, where the first is the earlier.
@@ -47,13 +55,19 @@ fn greater(a: u32, b: u32) -> u32
 }
 
 impl<'a> Kept<'a> {
-    // What is kept of the extension, which has this age, before its first rule.
-    pub(crate) fn new(alloc: Global, extension: &'a Extension, age: u32) -> Kept<'a>
-        ensures { result ≡ spec.nothing_of extension.now.name age }
+    // What is kept of the extension, which has this age and access to the request or not, before its first rule.
+    pub(crate) fn new(
+        alloc: Global,
+        extension: &'a Installed,
+        age: u32,
+        access: bool,
+    ) -> Kept<'a>
+        ensures { result ≡ spec.nothing_of extension.now.name age access }
     {
         Kept {
             name: extension.name(),
             age,
+            access,
             best: None,
             changing: Vec::new(alloc),
             allowed: 0,

@@ -3,6 +3,7 @@
 //! What the scan answers stands in `rule_spec`, `specs/Scan.antt`, over the state of `specs/State.antt` there.
 #![tactic(auto)]
 
+mod access;
 mod block;
 mod conclusion;
 mod decision;
@@ -23,4 +24,4 @@ pub use first::FirstRefusal;
 pub use generation::Generation;
 pub use refusal::DecideRefusal;
 pub use rule_spec::Outcome;
-pub use ruleset_store::{Extension, Refusal, RuleSet};
+pub use ruleset_store::{Extension, Installed, Refusal, RuleSet};

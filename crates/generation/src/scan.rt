@@ -9,6 +9,7 @@ ghost use Rattle.generation.specs.Refused.{Ends, IsPattern, IsPatternOf, IsRefus
 ghost use Rattle.dnr_base.specs.Request.{max_frames};
 
 use crate::DecideRefusal;
+use crate::access::has_access;
 use crate::block::Block;
 use crate::kept::Kept;
 use crate::live::Live;
@@ -17,7 +18,7 @@ use dnr_base::{Request, Steps};
 use dnr_rules::Rule;
 use regex_host::RegexHost;
 use rule_match::{MatchRefusal, PreparedRequest};
-use ruleset_store::{Extension, RuleSet};
+use ruleset_store::{Installed, InstalledSet};
 use std::alloc::Global;
 use std::marker::Model;
 use std::sync::ledger::Ledger;
@@ -83,11 +84,12 @@ impl<'r> Scan<'r> {
     fn is_candidate<H: RegexHost, L: Ledger>(
         &self,
         extension: &str,
+        access: bool,
         rule: &Rule,
         host: &mut H,
         steps: &mut Steps<L>,
     ) -> Result<bool, MatchRefusal>
-        ensures value { IfOk result (λ is. is ≡ is_candidate self.now.suffixes extension.now self.now.request rule.now) }
+        ensures value { IfOk result (λ is. is ≡ is_candidate self.now.suffixes extension.now access self.now.request rule.now) }
         ensures asked { IsErrOf result MatchRefusal.HostFault → IsSome rule.now.condition.regex_filter }
         ensures cause { HasCauseOf MatchRefusal.HostFault (H.faults host.old) (H.faults host.new) result }
         ensures calm { IsCalm (H.faults host.old) (H.faults host.new) result }
@@ -95,7 +97,7 @@ impl<'r> Scan<'r> {
         if self.prepared.reaches(rule, host, steps)?.is_none() {
             return Ok(false);
         }
-        may_act(self.alloc, extension, rule, &self.request.view, host)
+        may_act(self.alloc, extension, access, rule, &self.request.view, host)
     }
 
     // Takes the rule at a place of a block in, if it is in force and a candidate.
@@ -114,7 +116,7 @@ impl<'r> Scan<'r> {
         if block.is_off(rule) {
             return Ok(());
         }
-        match self.is_candidate(kept.name, rule, host, steps) {
+        match self.is_candidate(kept.name, kept.access, rule, host, steps) {
             Ok(true) => match kept.add(block.live(place, rule)) {
                 Ok(()) => Ok(()),
                 Err(_) => Err(DecideRefusal::NoMemory),
@@ -153,7 +155,7 @@ impl<'r> Scan<'r> {
         &self,
         kept: Kept<'a>,
         place: usize,
-        set: &'a RuleSet,
+        set: &'a InstalledSet,
         host: &mut H,
         steps: &mut Steps<L>,
     ) -> Result<Kept<'a>, DecideRefusal>
@@ -174,7 +176,7 @@ impl<'r> Scan<'r> {
     fn take_sets<'a, H: RegexHost, L: Ledger>(
         &self,
         kept: Kept<'a>,
-        sets: &'a [RuleSet],
+        sets: &'a [InstalledSet],
         host: &mut H,
         steps: &mut Steps<L>,
     ) -> Result<Kept<'a>, DecideRefusal>
@@ -195,7 +197,7 @@ impl<'r> Scan<'r> {
     fn take_added<'a, H: RegexHost, L: Ledger>(
         &self,
         kept: Kept<'a>,
-        extension: &'a Extension,
+        extension: &'a Installed,
         host: &mut H,
         steps: &mut Steps<L>,
     ) -> Result<Kept<'a>, DecideRefusal>
@@ -214,7 +216,7 @@ impl<'r> Scan<'r> {
     fn take_extension<'a, H: RegexHost, L: Ledger>(
         &self,
         age: usize,
-        extension: &'a Extension,
+        extension: &'a Installed,
         host: &mut H,
         steps: &mut Steps<L>,
     ) -> Result<Kept<'a>, DecideRefusal>
@@ -225,7 +227,8 @@ impl<'r> Scan<'r> {
         let Some(age) = narrow(age) else {
             return Err(DecideRefusal::NoMemory);
         };
-        let kept = Kept::new(self.alloc, extension, age);
+        let access = has_access(extension.access(), self.request);
+        let kept = Kept::new(self.alloc, extension, age, access);
         match self.take_added(kept, extension, host, steps) {
             Ok(kept) => self.take_sets(kept, extension.sets(), host, steps),
             Err(refusal) => Err(refusal),
@@ -235,7 +238,7 @@ impl<'r> Scan<'r> {
     // What is kept of each extension.
     pub(crate) fn take_all<'a, H: RegexHost, L: Ledger>(
         &self,
-        extensions: &'a [Extension],
+        extensions: &'a [Installed],
         host: &mut H,
         steps: &mut Steps<L>,
     ) -> Result<Vec<Kept<'a>>, DecideRefusal>

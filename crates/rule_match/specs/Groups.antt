@@ -6,7 +6,7 @@ use Rattle.dnr_base.specs.Request.{Part}
 use Rattle.dnr_spec.specs.Domains.{covers_some}
 use Rattle.dnr_spec.specs.Suffixes.{SuffixRule}
 use Rattle.rule_spec.specs.Rule.{Condition}
-use Rattle.rule_spec.specs.Holds.{is_by, is_not_by, has_tab, is_in, is_among, is_from, is_not_from, is_party}
+use Rattle.rule_spec.specs.Holds.{is_by, is_not_by, has_tab, is_in, is_among, is_from, is_not_from, is_party, has_response, has_no_response}
 use Rattle.rule_match.specs.Prepared.{is_third}
 
 -- by its type, its method and its party
@@ -30,3 +30,9 @@ holds_by_rest condition part =
     && is_not_from condition.not_initiators part.initiator
     && is_in condition.tabs part.tab
     && not (has_tab condition.not_tabs part.tab)
+
+-- by the headers of the response
+abbrev pub holds_by_response : Condition → Part → Bool
+holds_by_response condition part =
+    has_response condition.header_tests part.response_headers
+    && has_no_response condition.not_header_tests part.response_headers

@@ -6,8 +6,9 @@ ghost use Rattle.dnr_base.specs.View.{host_of};
 ghost use Rattle.dnr_spec.specs.Domains.{covers_some};
 ghost use Rattle.rule_spec.specs.Holds as spec;
 
-use dnr_base::{Items, Method, MethodSet, Scheme, Text, View};
+use dnr_base::{Header, Items, Method, MethodSet, Scheme, Text, View};
 use domain_set::DomainSet;
+use header_tests::{HeaderTest, some_holds};
 use url_filter::Pattern;
 
 // ---- methods and tabs
@@ -102,5 +103,32 @@ pub(crate) fn is_party(asked: Option<bool>, third: bool) -> bool
     match asked {
         None => true,
         Some(asked) => asked == third,
+    }
+}
+
+// ---- the headers of the response
+
+pub(crate) fn has_response(
+    tests: Option<&Items<HeaderTest>>,
+    headers: Option<&Items<Header>>,
+) -> bool
+    ensures { result ≡ spec.has_response (option_copied tests.entry) (option_copied headers.entry) }
+{
+    match (tests, headers) {
+        (None, _) => true,
+        (Some(_), None) => false,
+        (Some(tests), Some(headers)) => some_holds(tests.as_slice(), headers.as_slice()),
+    }
+}
+
+pub(crate) fn has_no_response(tests: &[HeaderTest], headers: Option<&Items<Header>>) -> bool
+    ensures { result ≡ spec.has_no_response tests.now (option_copied headers.entry) }
+{
+    if tests.is_empty() {
+        return true;
+    }
+    match headers {
+        None => false,
+        Some(headers) => !some_holds(tests, headers.as_slice()),
     }
 }

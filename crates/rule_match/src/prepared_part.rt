@@ -10,7 +10,8 @@ ghost use Rattle.rule_match.specs.Patterns.{without_pattern, asks_for_match};
 
 use crate::MatchRefusal;
 use crate::conditions::{
-    fits, has_tab, is_among, is_by, is_from, is_in, is_not_among, is_not_by, is_not_from, is_party,
+    fits, has_no_response, has_response, has_tab, is_among, is_by, is_from, is_in, is_not_among,
+    is_not_by, is_not_from, is_party,
 };
 use dnr_base::{Part, Steps, Text};
 use dnr_rules::{Condition, Rule};
@@ -64,7 +65,8 @@ impl<'a> PreparedPart<'a> {
         PreparedPart { part, list, third }
     }
 
-    // Whether all of the condition holds but for its pattern. Cheap tests come first, and the urlFilter last.
+    // Whether all of the condition holds but for its pattern. Cheap tests come first, and last the urlFilter and what
+    // very few rules ask for.
     #[tactic(auto, using(crate::proofs::PatternLast::holds_by_groups))]
     fn holds_but_pattern(&self, condition: &Condition) -> bool
         ensures { result
@@ -78,6 +80,7 @@ impl<'a> PreparedPart<'a> {
                 !condition.case_sensitive(),
                 self.part.view,
             )
+            && self.holds_by_response(condition)
     }
 
     fn holds_by_type(&self, condition: &Condition) -> bool
@@ -105,6 +108,14 @@ impl<'a> PreparedPart<'a> {
             && is_not_from(condition.not_initiators(), part.initiator)
             && is_in(condition.tabs(), part.tab)
             && !has_tab(condition.not_tabs(), part.tab)
+    }
+
+    fn holds_by_response(&self, condition: &Condition) -> bool
+        ensures { result ≡ groups.holds_by_response condition.now self.now.part }
+    {
+        let headers = self.part.response_headers;
+        has_response(condition.header_tests(), headers)
+            && has_no_response(condition.not_header_tests(), headers)
     }
 
     // Whether a pattern has a match in the URL.

@@ -25,6 +25,7 @@ fn lent<'a>(part: &Part<'a>) -> Part<'a>
         kind: part.kind,
         method: part.method,
         tab: part.tab,
+        response_headers: part.response_headers,
     }
 }
 

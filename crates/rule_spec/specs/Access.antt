@@ -21,7 +21,7 @@ may_serve patterns kind None = true
 may_serve patterns kind (Some initiator) = same_kind kind MainFrame || some_covers patterns initiator
 
 -- by match patterns; an extension without a list has access to every request
-unfoldable pub has_access : Option (List (List ℕ)) → Request → Bool
+abbrev pub has_access : Option (List (List ℕ)) → Request → Bool
 has_access None request = true
 has_access (Some patterns) request =
     some_fits patterns request.view && may_serve patterns request.kind request.initiator

@@ -43,23 +43,23 @@ abbrev pub target_by : List ℕ → Rule → Redirect → View → Option (List 
 target_by extension rule target view = target_of target extension view (places_in rule.condition view)
 
 -- a redirect needs access and a target, an upgrade a scheme that is upgraded, and a change of headers access
-abbrev pub may_act : Extension → Rule → Action → Request → Bool
-may_act extension rule block request = true
-may_act extension rule (redirect target) request =
-    has_access extension.access request && is_some (target_by extension.name rule target request.view)
-may_act extension rule allow request = true
-may_act extension rule upgrade_scheme request = is_upgraded request.view.scheme
-may_act extension rule (modify_headers first second) request = has_access extension.access request
-may_act extension rule allow_all_requests request = true
+abbrev pub may_act : List ℕ → Bool → Rule → Action → View → Bool
+may_act extension access rule block view = true
+may_act extension access rule (redirect target) view = access && is_some (target_by extension rule target view)
+may_act extension access rule allow view = true
+may_act extension access rule upgrade_scheme view = is_upgraded view.scheme
+may_act extension access rule (modify_headers request response) view = access
+may_act extension access rule allow_all_requests view = true
 
--- a rule that reaches the request and may act on it
-abbrev pub is_candidate : List SuffixRule → Extension → Request → Rule → Bool
-is_candidate suffixes extension request rule =
-    is_some (reach_of suffixes rule request) && may_act extension rule rule.action request
+-- a rule that reaches the request and may act on it, where its extension has access to the request or not
+abbrev pub is_candidate : List SuffixRule → List ℕ → Bool → Request → Rule → Bool
+is_candidate suffixes extension access request rule =
+    is_some (reach_of suffixes rule request) && may_act extension access rule rule.action request.view
 
 abbrev pub candidates : List SuffixRule → Extension → Request → List Live
 candidates suffixes extension request =
-    filter (λ live. is_candidate suffixes extension request live.rule) (live_rules extension)
+    filter (λ live. is_candidate suffixes extension.name (has_access extension.access request) request live.rule)
+    (live_rules extension)
 
 -- ---- which rule decides
 

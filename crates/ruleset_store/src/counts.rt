@@ -1,7 +1,7 @@
 ghost use Rattle.std.specs.Prelude.{◌≡◌, ◌+◌, [], ◌∷◌, length, count_by, IfOk};
-ghost use Rattle.load_spec.specs.Installing as spec;
+ghost use Rattle.update_spec.specs.Judge as spec;
 
-use crate::{Extension, RuleSet};
+use crate::{Installed, InstalledSet};
 use dnr_base::NoMemory;
 use dnr_rules::Rule;
 
@@ -17,14 +17,14 @@ pub(crate) fn sum(a: usize, b: usize) -> Result<usize, NoMemory>
 }
 
 // How many of the rulesets are enabled.
-pub(crate) fn count_enabled(sets: &[RuleSet]) -> usize
+pub(crate) fn count_enabled(sets: &[InstalledSet]) -> usize
     ensures { result ≡ length (spec.enabled_sets sets.now) }
 {
     sets.iter().filter(|set| set.is_enabled()).count()
 }
 
 // How many rules the rulesets have, enabled or not.
-pub(crate) fn count_rules(sets: &[RuleSet]) -> Result<usize, NoMemory>
+pub(crate) fn count_rules(sets: &[InstalledSet]) -> Result<usize, NoMemory>
     ensures { IfOk result (λ count. count ≡ spec.count_rules sets.now) }
 {
     let mut count = 0;
@@ -35,7 +35,7 @@ pub(crate) fn count_rules(sets: &[RuleSet]) -> Result<usize, NoMemory>
 }
 
 // How many rules the ruleset has, if it is enabled.
-fn enabled_rules(set: &RuleSet) -> usize
+fn enabled_rules(set: &InstalledSet) -> usize
     ensures { result ≡ spec.count_rules (spec.enabled_sets (set.now ∷ [])) }
 {
     if set.is_enabled() {
@@ -46,7 +46,7 @@ fn enabled_rules(set: &RuleSet) -> usize
 }
 
 // How many rules the enabled ones of the rulesets have.
-fn count_enabled_rules(sets: &[RuleSet]) -> Result<usize, NoMemory>
+fn count_enabled_rules(sets: &[InstalledSet]) -> Result<usize, NoMemory>
     ensures { IfOk result (λ count. count ≡ spec.count_rules (spec.enabled_sets sets.now)) }
 {
     let mut count = 0;
@@ -57,14 +57,14 @@ fn count_enabled_rules(sets: &[RuleSet]) -> Result<usize, NoMemory>
 }
 
 // What the extension takes from the pool that all share.
-pub(crate) fn drawn_by(extension: &Extension) -> Result<usize, NoMemory>
+pub(crate) fn drawn_by(extension: &Installed) -> Result<usize, NoMemory>
     ensures { IfOk result (λ drawn. drawn ≡ spec.drawn_by extension.now) }
 {
     Ok(count_enabled_rules(extension.sets())?.saturating_sub(OWN_SHARE))
 }
 
 // What the extensions take from the pool that all share.
-pub(crate) fn drawn(extensions: &[Extension]) -> Result<usize, NoMemory>
+pub(crate) fn drawn(extensions: &[Installed]) -> Result<usize, NoMemory>
     ensures { IfOk result (λ drawn. drawn ≡ spec.drawn extensions.now) }
 {
     let mut drawn = 0;
@@ -82,7 +82,7 @@ fn patterns_among(rules: &[Rule]) -> usize
 }
 
 // How many rules of the ruleset have a `regexFilter`, if it is enabled.
-fn enabled_patterns(set: &RuleSet) -> usize
+fn enabled_patterns(set: &InstalledSet) -> usize
     ensures { result ≡ spec.count_patterns (spec.enabled_sets (set.now ∷ [])) }
 {
     if set.is_enabled() {
@@ -93,7 +93,7 @@ fn enabled_patterns(set: &RuleSet) -> usize
 }
 
 // How many rules of the enabled rulesets have a `regexFilter`.
-pub(crate) fn count_enabled_patterns(sets: &[RuleSet]) -> Result<usize, NoMemory>
+pub(crate) fn count_enabled_patterns(sets: &[InstalledSet]) -> Result<usize, NoMemory>
     ensures { IfOk result (λ count. count ≡ spec.count_patterns (spec.enabled_sets sets.now)) }
 {
     let mut count = 0;

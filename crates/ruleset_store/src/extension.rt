@@ -1,77 +1,32 @@
 ghost use Rattle.std.specs.Prelude.{◌≡◌, IfOk};
 
 use crate::RuleSet;
-use crate::copies::copies;
-use dnr_base::{Copied, NoMemory, Text};
-use dnr_rules::Rule;
+use dnr_base::{Copied, Items, NoMemory, Text};
+use match_patterns::MatchPattern;
 use std::alloc::Global;
 use std::marker::Model;
 
-/// An extension, as it is installed: its static rulesets, and the rules that were added since. A clause sees
-/// the extension of `rule_spec`.
+/// An extension as it is brought, to be installed. A clause sees the new extension of `update_spec`.
 #[derive(Debug, Drop)]
 pub struct Extension {
-    name: Text,
-    sets: Vec<RuleSet>,
-    dynamic: Vec<Rule>,
-    session: Vec<Rule>,
+    /// Its name.
+    pub name: Text,
+    /// Its static rulesets, in the order of its manifest. No two have one id.
+    pub sets: Items<RuleSet>,
+    /// The match patterns of what it may send elsewhere or change the headers of: `host_permissions`. `None`: it is not
+    /// restricted.
+    pub access: Option<Items<MatchPattern>>,
 }
 
 impl Model for Extension {
-    ghost use Rattle.rule_spec.specs.State as spec;
+    ghost use Rattle.update_spec.specs.Update.{NewExtension};
 
-    ghost Value = { spec.Extension };
+    ghost Value = { NewExtension };
 
-    ghost view = { λ e. record { name = e.name; sets = e.sets.items; dynamic = e.dynamic.items; session = e.session.items } };
+    ghost view = { λ e. record { name = e.name; sets = e.sets; access = e.access } };
 }
 
 impl Extension {
-    /// An extension of these parts, which takes no memory: its name, its static rulesets in the order of its
-    /// manifest, its dynamic rules and its session rules.
-    pub fn build(
-        name: Text,
-        sets: Vec<RuleSet>,
-        dynamic: Vec<Rule>,
-        session: Vec<Rule>,
-    ) -> Extension
-        ensures { result ≡ record { name = name; sets = sets.items; dynamic = dynamic.items; session = session.items } }
-    {
-        Extension {
-            name,
-            sets,
-            dynamic,
-            session,
-        }
-    }
-
-    /// Its name.
-    pub fn name(&self) -> &str
-        ensures { result.now ≡ self.now.name }
-    {
-        self.name.as_str()
-    }
-
-    /// Its static rulesets, in the order of its manifest.
-    pub fn sets(&self) -> &[RuleSet]
-        ensures { result.now ≡ self.now.sets }
-    {
-        self.sets.as_slice()
-    }
-
-    /// Its dynamic rules.
-    pub fn dynamic(&self) -> &[Rule]
-        ensures { result.now ≡ self.now.dynamic }
-    {
-        self.dynamic.as_slice()
-    }
-
-    /// Its session rules.
-    pub fn session(&self) -> &[Rule]
-        ensures { result.now ≡ self.now.session }
-    {
-        self.session.as_slice()
-    }
-
     /// An equal extension.
     ///
     /// `NoMemory`: no memory is left for its parts.
@@ -80,9 +35,8 @@ impl Extension {
     {
         Ok(Extension {
             name: self.name.copy(alloc)?,
-            sets: copies(alloc, self.sets())?,
-            dynamic: copies(alloc, self.dynamic())?,
-            session: copies(alloc, self.session())?,
+            sets: self.sets.copy(alloc)?,
+            access: Copied::copied(&self.access, alloc)?,
         })
     }
 }

@@ -1,13 +1,15 @@
 ghost use Rattle.std.specs.Prelude.{◌≡◌, ◌+◌, ◌<◌, length, OnOk, nat_lt, nat_le};
 ghost use Rattle.std.specs.List.{list_any};
-ghost use Rattle.load_spec.specs.declared.refusal.Refusal.TheVariants as refusal;
-ghost use Rattle.load_spec.specs.Installing as spec;
+ghost use Rattle.update_spec.specs.declared.refusal.Refusal.TheVariants as refusal;
+ghost use Rattle.update_spec.specs.Judge as spec;
+ghost use Rattle.update_spec.specs.Update.{has_name};
+ghost use Rattle.ruleset_store.specs.Installing.{judge_installed};
 ghost use Rattle.ruleset_store.specs.Update.{Answers};
 
 use crate::counts::{count_enabled, count_enabled_patterns, count_rules, drawn, drawn_by, sum};
-use crate::{Extension, Store};
+use crate::{Installed, Store};
 use dnr_base::Text;
-use load_spec::Refusal;
+use update_spec::Refusal;
 use std::alloc::Global;
 
 const MAX_EXTENSIONS: usize = 16;
@@ -36,7 +38,7 @@ fn within(most: usize, count: usize, refusal: Refusal) -> Result<(), Refusal>
 
 // Whether an extension of this name is installed.
 fn has(store: &Store, name: &str) -> bool
-    ensures { result ≡ list_any (spec.has_name name.now) store.now.extensions }
+    ensures { result ≡ list_any (has_name name.now) store.now.extensions }
 {
     store
         .extensions()
@@ -44,8 +46,8 @@ fn has(store: &Store, name: &str) -> bool
         .any(|extension| extension.name() == name)
 }
 
-fn judge_name(store: &Store, alloc: Global, extension: &Extension) -> Result<(), Refusal>
-    ensures { Answers (spec.refused_if (list_any (spec.has_name extension.now.name) store.now.extensions)
+fn judge_name(store: &Store, alloc: Global, extension: &Installed) -> Result<(), Refusal>
+    ensures { Answers (spec.refused_if (list_any (has_name extension.now.name) store.now.extensions)
         (refusal.ExtensionThere extension.now.name)) result }
 {
     let name = extension.name();
@@ -63,28 +65,28 @@ fn judge_extensions(store: &Store) -> Result<(), Refusal>
     within(MAX_EXTENSIONS, count, Refusal::ExtensionLimit(count))
 }
 
-fn judge_rulesets(extension: &Extension) -> Result<(), Refusal>
+fn judge_rulesets(extension: &Installed) -> Result<(), Refusal>
     ensures { Answers (spec.limited 100 refusal.RulesetLimit (length extension.now.sets)) result }
 {
     let count = extension.sets().len();
     within(MAX_RULESETS, count, Refusal::RulesetLimit(count))
 }
 
-fn judge_rules(extension: &Extension) -> Result<(), Refusal>
+fn judge_rules(extension: &Installed) -> Result<(), Refusal>
     ensures { Answers (spec.limited 330000 refusal.RulesLimit (spec.count_rules extension.now.sets)) result }
 {
     let count = count_rules(extension.sets())?;
     within(MAX_RULES, count, Refusal::RulesLimit(count))
 }
 
-fn judge_enabled(extension: &Extension) -> Result<(), Refusal>
+fn judge_enabled(extension: &Installed) -> Result<(), Refusal>
     ensures { Answers (spec.limited 50 refusal.EnabledLimit (length (spec.enabled_sets extension.now.sets))) result }
 {
     let count = count_enabled(extension.sets());
     within(MAX_ENABLED, count, Refusal::EnabledLimit(count))
 }
 
-fn judge_pool(store: &Store, extension: &Extension) -> Result<(), Refusal>
+fn judge_pool(store: &Store, extension: &Installed) -> Result<(), Refusal>
     ensures { Answers (spec.limited 300000 refusal.PoolLimit
         (spec.drawn store.now.extensions + spec.drawn_by extension.now)) result }
 {
@@ -92,7 +94,7 @@ fn judge_pool(store: &Store, extension: &Extension) -> Result<(), Refusal>
     within(MAX_DRAWN, count, Refusal::PoolLimit(count))
 }
 
-fn judge_patterns(extension: &Extension) -> Result<(), Refusal>
+fn judge_patterns(extension: &Installed) -> Result<(), Refusal>
     ensures { Answers (spec.limited 1000 refusal.RegexLimit
         (spec.count_patterns (spec.enabled_sets extension.now.sets))) result }
 {
@@ -112,13 +114,12 @@ fn judge_count(store: &Store) -> Result<(), Refusal>
 }
 
 // Whether the extension may be installed.
-#[tactic(auto, unfolding(load_spec::specs::Installing::judge_install))]
 pub(crate) fn judge_install(
     store: &Store,
     alloc: Global,
-    extension: &Extension,
+    extension: &Installed,
 ) -> Result<(), Refusal>
-    ensures answer { Answers (spec.judge_install store.now extension.now) result }
+    ensures answer { Answers (judge_installed store.now extension.now) result }
     ensures fits { OnOk result (store.now.count < spec.max_updates) }
 {
     judge_name(store, alloc, extension)?;

@@ -1,20 +1,24 @@
-ghost use Rattle.std.specs.Prelude.{◌≡◌, ◌+◌, ◌<◌, None, Ok, IfOk, IfErr, OnOk};
-ghost use Rattle.load_spec.specs.Installing as install;
-ghost use Rattle.ruleset_store.specs.Update as spec;
+ghost use Rattle.std.specs.Prelude.{◌≡◌, ◌+◌, ◌<◌, [], ◌∷◌, ◌++◌, None, Ok, IfOk, IfErr, OnOk};
+ghost use Rattle.update_spec.specs.Judge.{judge_update, max_updates};
+ghost use Rattle.update_spec.specs.Update.{install, installed, changed};
+ghost use Rattle.update_spec.specs.Entries as entries;
+ghost use Rattle.update_spec.specs.Entries.{one, after, install_one};
+ghost use Rattle.ruleset_store.specs.Update.{IsRefusalOf, update_of};
+ghost use Rattle.ruleset_store.specs.Installing.{judge_installed};
 
 use crate::copies::copies;
 use crate::judging::judge_install;
-use crate::{Extension, Update};
+use crate::{Extension, Installed, Update};
 use dnr_base::NoMemory;
-use load_spec::Refusal;
 use std::alloc::Global;
 use std::marker::Model;
+use update_spec::Refusal;
 
 /// What is installed: the extensions, oldest first, and the count of the updates that were accepted. A clause sees
 /// the state of `rule_spec`.
 #[derive(Debug, Drop)]
 pub struct Store {
-    extensions: Vec<Extension>,
+    extensions: Vec<Installed>,
     count: u32,
 }
 
@@ -26,33 +30,15 @@ impl Model for Store {
     ghost view = { λ s. record { extensions = s.extensions.items; count = s.count } };
 }
 
-// These extensions, before any update.
-fn uncounted(extensions: Vec<Extension>) -> Store
-    ensures { result ≡ record { extensions = extensions.items; count = 0 } }
-{
-    Store {
-        extensions,
-        count: 0,
-    }
-}
-
-// These extensions, after one more update than so many.
-fn counted(extensions: Vec<Extension>, before: u32) -> Store
-    requires { before < install.max_updates }
-    ensures { result ≡ record { extensions = extensions.items; count = before + 1 } }
-{
-    Store {
-        extensions,
-        count: before + 1,
-    }
-}
-
 impl Store {
     /// Nothing is installed, and no update was accepted. It takes no memory.
     pub fn empty(alloc: Global) -> Store
-        ensures { result ≡ install.empty }
+        ensures { result ≡ entries.empty }
     {
-        uncounted(Vec::new(alloc))
+        Store {
+            extensions: Vec::new(alloc),
+            count: 0,
+        }
     }
 
     /// The count of the updates that were accepted.
@@ -63,7 +49,7 @@ impl Store {
     }
 
     /// The extensions, in the order of their installation.
-    pub fn extensions(&self) -> &[Extension]
+    pub fn extensions(&self) -> &[Installed]
         ensures { result.now ≡ self.now.extensions }
     {
         self.extensions.as_slice()
@@ -71,9 +57,12 @@ impl Store {
 
     /// The same extensions, with no update counted. It takes no memory.
     pub fn opened(self) -> Store
-        ensures { result ≡ install.opened self }
+        ensures { result ≡ entries.opened self }
     {
-        uncounted(self.extensions)
+        Store {
+            extensions: self.extensions,
+            count: 0,
+        }
     }
 
     /// Whether the update may be made. The tests, their order and their limits are this engine's own; nothing is
@@ -82,12 +71,16 @@ impl Store {
     /// # Errors
     ///
     /// The first refusal, in the order in which they stand in `Refusal`; `NoMemory`, if memory ran out.
+    #[tactic(auto, using(crate::proofs::Installs::judged))]
     pub fn judge(&self, alloc: Global, update: &Update) -> Result<(), Refusal>
-        ensures judged { OnOk result (spec.judge self.now update.now ≡ None) }
-        ensures refused { IfErr result (spec.IsRefusalOf (spec.judge self.now update.now)) }
+        ensures judged { OnOk result (judge_update self.now (update_of update.now) ≡ None) }
+        ensures refused { IfErr result (IsRefusalOf (judge_update self.now (update_of update.now))) }
     {
         match update {
-            Update::Install(extension) => judge_install(self, alloc, extension),
+            Update::Install(extension) => {
+                let installed = Installed::build(alloc, extension.copy(alloc)?)?;
+                judge_install(self, alloc, &installed)
+            }
         }
     }
 
@@ -96,42 +89,54 @@ impl Store {
     /// # Errors
     ///
     /// Those of `judge`.
-    #[tactic(auto, using(crate::proofs::Made::is_made))]
+    #[tactic(auto, using(crate::proofs::Installs::judged))]
     pub fn apply(&self, alloc: Global, update: &Update) -> Result<Store, Refusal>
-        ensures applied { IfOk result (λ store. spec.apply self.now update.now ≡ Ok store) }
-        ensures refused { IfErr result (spec.IsRefusalOf (spec.judge self.now update.now)) }
+        ensures judged { OnOk result (judge_update self.now (update_of update.now) ≡ None) }
+        ensures applied { IfOk result (λ store. store ≡ after self.now (one (update_of update.now))) }
+        ensures refused { IfErr result (IsRefusalOf (judge_update self.now (update_of update.now))) }
     {
         match update {
             Update::Install(extension) => {
-                judge_install(self, alloc, extension)?;
-                Ok(self.with_copy(alloc, extension)?)
+                let installed = Installed::build(alloc, extension.copy(alloc)?)?;
+                judge_install(self, alloc, &installed)?;
+                Ok(self.copy_with(alloc, installed)?)
             }
         }
     }
 
-    /// What is installed once this extension is, as the newest. Nothing is copied but a name.
+    /// What is installed once this extension is, as the newest; it counts for nothing. Nothing is copied but a name.
     ///
     /// # Errors
     ///
     /// Those of `judge`.
-    #[tactic(auto, using(crate::proofs::Made::is_made))]
+    #[tactic(auto, using(crate::proofs::Installs::is_installed))]
     pub fn install(self, alloc: Global, extension: Extension) -> Result<Store, Refusal>
-        ensures installed { IfOk result (λ store. install.install self extension ≡ Ok store) }
-        ensures refused { IfErr result (spec.IsRefusalOf (install.judge_install self extension)) }
+        ensures installed { IfOk result (λ store. install_one self extension ≡ Ok store) }
+        ensures refused { IfErr result (IsRefusalOf (judge_update self (install extension))) }
     {
-        judge_install(&self, alloc, &extension)?;
+        let installed = Installed::build(alloc, extension)?;
+        judge_install(&self, alloc, &installed)?;
         let mut extensions = self.extensions;
-        extensions.push(extension)?;
-        Ok(counted(extensions, self.count))
+        extensions.push(installed)?;
+        Ok(Store {
+            extensions,
+            count: self.count,
+        })
     }
 
-    // What is installed once a copy of this extension is.
-    fn with_copy(&self, alloc: Global, extension: &Extension) -> Result<Store, NoMemory>
-        requires { self.now.count < install.max_updates }
-        ensures { IfOk result (λ store. store ≡ install.after_install self.now extension.now) }
+    // What is installed after one more update, once this extension is.
+    fn copy_with(&self, alloc: Global, extension: Installed) -> Result<Store, NoMemory>
+        requires { self.now.count < max_updates }
+        ensures { IfOk result (λ store. store ≡ record {
+            extensions = self.now.extensions ++ extension ∷ [];
+            count = self.now.count + 1;
+        }) }
     {
         let mut extensions = copies(alloc, self.extensions())?;
-        extensions.push(extension.copy(alloc)?)?;
-        Ok(counted(extensions, self.count))
+        extensions.push(extension)?;
+        Ok(Store {
+            extensions,
+            count: self.count + 1,
+        })
     }
 }

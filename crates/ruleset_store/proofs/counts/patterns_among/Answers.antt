@@ -2,7 +2,7 @@ use Rattle.std.proofs.Common.{rules, tests, ◌∙◌}
 use Rattle.std.proofs.lemmas.Iterator.{YieldsList-from_slice}
 use Rattle.std.proofs.lemmas.Iterator.Consumers.{YieldsList-from_filter, count_from_yields_List}
 use Rattle.std.proofs.lemmas.List.Sums.{length-filter}
-use Rattle.load_spec.specs.Installing.{uses_regex}
+use Rattle.update_spec.specs.Judge.{uses_regex}
 use Rattle.ruleset_store.proofs.counts.patterns_among.Goals as goal
 
 pub returns : goal.returns
