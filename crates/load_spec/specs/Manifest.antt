@@ -115,10 +115,14 @@ pub record Manifest : Type 0 where
   pub resources : List Resource
   pub access : Option (List (List ℕ))
 
+-- the rulesets that a manifest names, if it speaks of requests
+abbrev pub rulesets_in : Data → Result (List Resource) ManifestPath
+rulesets_in d = requests_given (get (path_name path.DeclarativeNetRequest) d)
+
 abbrev pub manifest_from : Data → Option Members → Result Manifest ManifestPath
 manifest_from d None = Err path.Manifest
 manifest_from d (Some _) =
-    and_then (requests_given (get (path_name path.DeclarativeNetRequest) d)) (λ resources.
+    and_then (rulesets_in d) (λ resources.
     and_then (access_in d) (λ access. Ok (record { resources = resources; access = access })))
 
 -- the manifest of a tree, or its first field at fault

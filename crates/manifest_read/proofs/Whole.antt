@@ -4,10 +4,10 @@ use Rattle.std.specs.Prelude.{IfSome}
 use Rattle.std.specs.List.{AllZip}
 use Rattle.rule_spec.specs.declared.rule_kind.RuleKind.TheVariants.{Static}
 use Rattle.rule_spec.specs.Rule.{Rule}
-use Rattle.rule_spec.specs.State.{RuleSet, Extension}
+use Rattle.update_spec.specs.Update.{NewRuleSet, NewExtension}
 use Rattle.json_spec.specs.RulesFile.{bad_json, bad_rules}
 use Rattle.load_spec.specs.Files.{Files, HoldsLongFile, HoldsRules}
-use Rattle.load_spec.specs.Manifest.{Resource}
+use Rattle.load_spec.specs.Manifest.{Resource, Manifest}
 use Rattle.load_spec.specs.Extensions.{bad_manifest, extension_of, file_in, manifest_name, set_of, HoldsExtension, HoldsManifest, HoldsSet, BreaksSet}
 use Rattle.rules_file.specs.Load as load_specs
 use Rattle.rules_file.specs.declared.FileRefusal.TheVariants as content
@@ -20,7 +20,7 @@ use Rattle.manifest_read.proofs.Sets.{ends_wider}
 
 -- ---- a ruleset
 
-pub holds_set : (known : Option Files) (name : List ℕ) (resource : Resource) (rules : List Rule) (set : RuleSet) → set ≡ set_of resource rules
+pub holds_set : (known : Option Files) (name : List ℕ) (resource : Resource) (rules : List Rule) (set : NewRuleSet) → set ≡ set_of resource rules
     → IfSome known (λ files. HoldsRules files Static (file_in name resource.path) rules) → IfSome known (λ files. HoldsSet files name resource set)
 holds_set None name resource rules set same loaded = tt
 holds_set (Some files) name resource rules set same loaded = record { rules = rules; loaded = loaded; same = same }
@@ -48,10 +48,11 @@ memory_apart file load.NoMemory apart = tt
 
 -- ---- the extension
 
-pub holds_extension : (known : Option Files) (name : List ℕ) (resources : List Resource) (sets : List RuleSet) (extension : Extension) → extension ≡ extension_of name sets
-    → IfSome known (λ files. HoldsManifest files name resources) → IfSome known (λ files. AllZip (HoldsSet files name) resources sets) → IfSome known (λ files. HoldsExtension files name extension)
-holds_extension None name resources sets extension same manifest loaded = tt
-holds_extension (Some files) name resources sets extension same manifest loaded = record { resources = resources; manifest = manifest; sets = sets; loaded = loaded; same = same }
+pub holds_extension : (known : Option Files) (name : List ℕ) (manifest : Manifest) (sets : List NewRuleSet) (extension : NewExtension) → extension ≡ extension_of name sets manifest.access
+    → IfSome known (λ files. HoldsManifest files name manifest) → IfSome known (λ files. AllZip (HoldsSet files name) manifest.resources sets) → IfSome known (λ files. HoldsExtension files name extension)
+holds_extension None name manifest sets extension same held loaded = tt
+holds_extension (Some files) name manifest sets extension same held loaded =
+    record { manifest = manifest; held = held; sets = sets; loaded = loaded; same = same }
 
 by_manifest : (files : Files) (rose : Type 0) (name : List ℕ) (refusal : ManifestRefusal) → RefusesManifest files name refusal → Refuses files rose name refusal
 by_manifest files rose name ReadFault why = tt
@@ -66,27 +67,27 @@ pub refused_by_manifest : (known : Option Files) (rose : Type 0) (name : List �
 refused_by_manifest None rose name refusal why = tt
 refused_by_manifest (Some files) rose name refusal why = by_manifest files rose name refusal why
 
-by_sets : (files : Files) (rose : Type 0) (name : List ℕ) (resources : List Resource) (refusal : ManifestRefusal) → HoldsManifest files name resources → RefusesSets files rose name resources refusal
+by_sets : (files : Files) (rose : Type 0) (name : List ℕ) (manifest : Manifest) (refusal : ManifestRefusal) → HoldsManifest files name manifest → RefusesSets files rose name manifest.resources refusal
     → Refuses files rose name refusal
-by_sets files rose name resources ReadFault manifest why = tt
-by_sets files rose name resources (FileTooLong file) manifest why = (
+by_sets files rose name manifest ReadFault held why = tt
+by_sets files rose name manifest (FileTooLong file) held why = (
   inr (record {
-    resources = resources;
     manifest = manifest;
-    first = ends_wider (HoldsSet files name) (RefusesSet files rose name (FileTooLong file)) (λ resource. HoldsLongFile files (file_in name resource.path)) resources (λ resource h. subst (λ f. HoldsLongFile files f) h.0 h.1) why;
+    held = held;
+    first = ends_wider (HoldsSet files name) (RefusesSet files rose name (FileTooLong file)) (λ resource. HoldsLongFile files (file_in name resource.path)) manifest.resources (λ resource h. subst (λ f. HoldsLongFile files f) h.0 h.1) why;
   }),
-  inr (record { resources = resources; manifest = manifest; first = why }),
+  inr (record { manifest = manifest; held = held; first = why }),
 )
-by_sets files rose name resources (BadJson file) manifest why = inr (record { resources = resources; manifest = manifest; first = why })
-by_sets files rose name resources (BadManifest field) manifest why = inr (record {
-  resources = resources;
+by_sets files rose name manifest (BadJson file) held why = inr (record { manifest = manifest; held = held; first = why })
+by_sets files rose name manifest (BadManifest field) held why = inr (record {
   manifest = manifest;
-  first = ends_wider (HoldsSet files name) (RefusesSet files rose name (BadManifest field)) (BreaksSet files rose name (record { file = manifest_name name; cause = bad_manifest field })) resources (λ resource h. absurd h) why;
+  held = held;
+  first = ends_wider (HoldsSet files name) (RefusesSet files rose name (BadManifest field)) (BreaksSet files rose name (record { file = manifest_name name; cause = bad_manifest field })) manifest.resources (λ resource h. absurd h) why;
 })
-by_sets files rose name resources (RuleRefused file refusal) manifest why = inr (record { resources = resources; manifest = manifest; first = why })
-by_sets files rose name resources NoMemory manifest why = tt
+by_sets files rose name manifest (RuleRefused file refusal) held why = inr (record { manifest = manifest; held = held; first = why })
+by_sets files rose name manifest NoMemory held why = tt
 
-pub refused_by_sets : (known : Option Files) (rose : Type 0) (name : List ℕ) (resources : List Resource) (refusal : ManifestRefusal) → IfSome known (λ files. HoldsManifest files name resources)
-    → IfSome known (λ files. RefusesSets files rose name resources refusal) → IfSome known (λ files. Refuses files rose name refusal)
-refused_by_sets None rose name resources refusal manifest why = tt
-refused_by_sets (Some files) rose name resources refusal manifest why = by_sets files rose name resources refusal manifest why
+pub refused_by_sets : (known : Option Files) (rose : Type 0) (name : List ℕ) (manifest : Manifest) (refusal : ManifestRefusal) → IfSome known (λ files. HoldsManifest files name manifest)
+    → IfSome known (λ files. RefusesSets files rose name manifest.resources refusal) → IfSome known (λ files. Refuses files rose name refusal)
+refused_by_sets None rose name manifest refusal held why = tt
+refused_by_sets (Some files) rose name resources refusal manifest why = by_sets files rose name manifest refusal held why

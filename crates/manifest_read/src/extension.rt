@@ -6,9 +6,9 @@ ghost use Rattle.manifest_read.specs.Refusals.{Refuses, IsNoMemoryApart, Refuses
 
 use crate::ManifestRefusal;
 use crate::fault::Fault;
-use crate::manifest::read_resources;
+use crate::manifest::{Manifest, read_bytes};
 use crate::resource::Resource;
-use dnr_base::{NoMemory, Text};
+use dnr_base::{Items, NoMemory, Text};
 use dnr_io::{Shelf, ShelfRefusal};
 use dnr_rules::Rule;
 use regex_host::RegexHost;
@@ -18,7 +18,8 @@ use ruleset_store::{Extension, RuleSet};
 use std::alloc::Global;
 
 /// Reads the extension of the folder of this name: its manifest `manifest.json`, and the static rulesets that the
-/// manifest names, in its order (Chrome's reference of declarativeNetRequest, `rule_resources`). The manifest is
+/// manifest names, in its order (Chrome's reference of declarativeNetRequest, `rule_resources`), and what it may touch
+/// (`host_permissions`). The manifest is
 /// tested whole before a rules file is opened, so a path that leaves the folder opens none.
 ///
 /// # Errors
@@ -47,20 +48,23 @@ pub fn read_extension<F: Shelf, H: RegexHost>(
     ensures files { F.Source.files shelf.new ≡ F.Source.files shelf.old }
     ensures cause { HasCauseOf ManifestRefusal.ReadFault (F.Source.faults shelf.old) (F.Source.faults shelf.new) result }
 {
-    let resources = read_manifest(alloc, shelf, name)?;
-    let sets = read_sets(alloc, shelf, name, &resources, host)?;
-    let own_name = Text::build(String::from_str(alloc, name)?);
-    Ok(Extension::build(own_name, sets, Vec::new(alloc), Vec::new(alloc)))
+    let manifest = read_manifest(alloc, shelf, name)?;
+    let sets = read_sets(alloc, shelf, name, &manifest.resources, host)?;
+    Ok(Extension {
+        name: Text::build(String::from_str(alloc, name)?),
+        sets: Items::build(sets),
+        access: manifest.access,
+    })
 }
 
-// Reads the rulesets that the manifest names.
+// Reads the manifest.
 fn read_manifest<F: Shelf>(
     alloc: Global,
     shelf: &mut F,
     name: &str,
-) -> Result<Vec<Resource>, ManifestRefusal>
-    ensures ok { IfOk result (λ resources. IfSome (F.Source.files shelf.old) (λ files.
-        HoldsManifest files name.now resources.items)) }
+) -> Result<Manifest, ManifestRefusal>
+    ensures ok { IfOk result (λ manifest. IfSome (F.Source.files shelf.old) (λ files.
+        HoldsManifest files name.now manifest)) }
     ensures refused { IfErr result (λ refusal. IfSome (F.Source.files shelf.old) (λ files.
         RefusesManifest files name.now refusal)) }
     ensures apart { IfErr result IsNoMemoryApart }
@@ -72,8 +76,8 @@ fn read_manifest<F: Shelf>(
     if let Err(refusal) = shelf.fetch(file.as_str(), MAX_FILE, &mut bytes) {
         return Err(fetch_refusal(file, refusal));
     }
-    match read_resources(alloc, &bytes) {
-        Ok(resources) => Ok(resources),
+    match read_bytes(alloc, &bytes) {
+        Ok(manifest) => Ok(manifest),
         Err(fault) => Err(manifest_refusal(file, fault)),
     }
 }
@@ -162,14 +166,12 @@ fn read_set<F: Shelf, H: RegexHost>(
 fn set_of(alloc: Global, resource: &Resource, rules: Vec<Rule>) -> Result<RuleSet, NoMemory>
     ensures { IfOk result (λ set. set ≡ set_of resource.now rules.items) }
 {
-    let id = resource.id().copy(alloc)?;
-    Ok(RuleSet::build(
-        id,
-        resource.is_enabled(),
-        rules,
-        Vec::new(alloc),
-        Vec::new(alloc),
-    ))
+    Ok(RuleSet {
+        id: resource.id().copy(alloc)?,
+        enabled: resource.is_enabled(),
+        rules: Items::build(rules),
+        origins: Items::build(Vec::new(alloc)),
+    })
 }
 
 fn set_refusal(file: Text, refusal: LoadRefusal) -> ManifestRefusal

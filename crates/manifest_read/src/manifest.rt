@@ -1,23 +1,42 @@
-// The rulesets that a manifest names.
+// What a manifest names: rulesets, and the match patterns of what the extension may touch.
 ghost use Rattle.std.specs.Prelude.{◌≡◌, [], Ok, Some, IfOk, IfErr, is_some};
-ghost use Rattle.serde_json.specs.Find.{as_object};
+ghost use Rattle.serde_json.specs.Find.{as_object, as_array, as_str};
 ghost use Rattle.serde_json.specs.View.{view, items_view};
 ghost use Rattle.json_spec.specs.Json.{tree_of};
+ghost use Rattle.json_spec.specs.RuleFields as form;
 ghost use Rattle.load_spec.specs.Manifest as spec;
 ghost use Rattle.manifest_read.specs.Reading.{IsFaultOf, IsFaultOfBytes};
 
 use crate::fault::Fault;
 use crate::resource::{Resource, resource_in, take_id};
+use dnr_base::{Items, NoMemory};
 use json_spec::read_tree;
 use load_spec::ManifestPath;
+use match_patterns::MatchPattern;
 use serde_json::Value;
 use std::alloc::Global;
 use std::collections::BTreeSet;
+use std::marker::Model;
+
+// A manifest, of which a clause sees that of `load_spec`.
+#[derive(Drop)]
+pub(crate) struct Manifest {
+    pub resources: Vec<Resource>,
+    pub access: Option<Items<MatchPattern>>,
+}
+
+impl Model for Manifest {
+    ghost use Rattle.load_spec.specs.Manifest as spec;
+
+    ghost Value = { spec.Manifest };
+
+    ghost view = { λ m. record { resources = m.resources.items; access = m.access } };
+}
 
 // Reads the bytes of a manifest. It is tested whole.
 #[tactic(auto, unfolding(load_spec::specs::Manifest::manifest_of))]
-pub(crate) fn read_resources(alloc: Global, bytes: &[u8]) -> Result<Vec<Resource>, Fault>
-    ensures read { IfOk result (λ resources. spec.manifest_of bytes.now ≡ Ok resources.items) }
+pub(crate) fn read_bytes(alloc: Global, bytes: &[u8]) -> Result<Manifest, Fault>
+    ensures read { IfOk result (λ manifest. spec.manifest_of bytes.now ≡ Ok manifest) }
     ensures refused { IfErr result (IsFaultOfBytes bytes.now) }
 {
     match read_tree(alloc, bytes)? {
@@ -27,13 +46,60 @@ pub(crate) fn read_resources(alloc: Global, bytes: &[u8]) -> Result<Vec<Resource
 }
 
 #[tactic(auto, unfolding(load_spec::specs::Manifest::manifest_in))]
-fn manifest_in(alloc: Global, tree: &Value) -> Result<Vec<Resource>, Fault>
-    ensures read { IfOk result (λ resources. spec.manifest_in (view tree.now) ≡ Ok resources.items) }
+fn manifest_in(alloc: Global, tree: &Value) -> Result<Manifest, Fault>
+    ensures read { IfOk result (λ manifest. spec.manifest_in (view tree.now) ≡ Ok manifest) }
     ensures refused { IfErr result (IsFaultOf (spec.manifest_in (view tree.now))) }
 {
     if tree.as_object().is_none() {
         return Err(Fault::At(ManifestPath::Manifest));
     }
+    let resources = rulesets_in(alloc, tree)?;
+    let access = access_in(alloc, tree)?;
+    Ok(Manifest { resources, access })
+}
+
+// The match patterns, if their list is given.
+#[tactic(auto, unfolding(load_spec::specs::Manifest::access_in))]
+fn access_in(alloc: Global, tree: &Value) -> Result<Option<Items<MatchPattern>>, Fault>
+    ensures read { IfOk result (λ access. spec.access_in (view tree.now) ≡ Ok access) }
+    ensures refused { IfErr result (IsFaultOf (spec.access_in (view tree.now))) }
+{
+    let Some(list) = tree.get(ManifestPath::HostPermissions.name()) else {
+        return Ok(None);
+    };
+    match patterns_in(alloc, list)? {
+        Some(patterns) => Ok(Some(patterns)),
+        None => Err(Fault::At(ManifestPath::HostPermissions)),
+    }
+}
+
+fn patterns_in(alloc: Global, list: &Value) -> Result<Option<Items<MatchPattern>>, NoMemory>
+    ensures { IfOk result (λ patterns. patterns ≡ form.as_texts (view list.now)) }
+{
+    match list.as_array() {
+        Some(values) => each_pattern(alloc, values),
+        None => Ok(None),
+    }
+}
+
+fn each_pattern(alloc: Global, values: &[Value]) -> Result<Option<Items<MatchPattern>>, NoMemory>
+    ensures { IfOk result (λ patterns. patterns ≡ form.each as_str (items_view values.now)) }
+{
+    let mut patterns = Vec::with_capacity(alloc, values.len())?;
+    for value in values {
+        let Some(text) = value.as_str() else {
+            return Ok(None);
+        };
+        patterns.push(MatchPattern::read(alloc, text)?)?;
+    }
+    Ok(Some(Items::build(patterns)))
+}
+
+// The rulesets that the manifest names, if it speaks of requests.
+fn rulesets_in(alloc: Global, tree: &Value) -> Result<Vec<Resource>, Fault>
+    ensures read { IfOk result (λ resources. spec.rulesets_in (view tree.now) ≡ Ok resources.items) }
+    ensures refused { IfErr result (IsFaultOf (spec.rulesets_in (view tree.now))) }
+{
     match tree.get(ManifestPath::DeclarativeNetRequest.name()) {
         None => Ok(Vec::new(alloc)),
         Some(requests) => requests_in(alloc, requests),

@@ -86,11 +86,12 @@ fn rulesets_stand_in_the_order_of_the_manifest(rt: HostRuntime) -> Result<(), Fa
         r#"{"declarative_net_request":{"rule_resources":[{"id":"z","enabled":true,"path":"good.json"},{"id":"b","enabled":false,"path":"good.json"}]}}"#;
     let read = extension(rt.alloc(), manifest, 0)?.ok().ok_or("refused")?;
     assert_eq!(rt; read.name(), "a");
-    assert_eq!(rt; read.sets().len(), 2);
-    let first = read.sets().first().ok_or("no ruleset")?;
-    let second = read.sets().last().ok_or("no ruleset")?;
-    assert!(rt; first.id() == "z" && first.is_enabled() && first.rules().len() == 1);
-    assert!(rt; second.id() == "b" && !second.is_enabled() && second.rules().len() == 1);
+    let sets = read.sets.as_slice();
+    assert_eq!(rt; sets.len(), 2);
+    let first = sets.first().ok_or("no ruleset")?;
+    let second = sets.last().ok_or("no ruleset")?;
+    assert!(rt; first.id.as_str() == "z" && first.enabled && first.rules.as_slice().len() == 1);
+    assert!(rt; second.id.as_str() == "b" && !second.enabled && second.rules.as_slice().len() == 1);
     Ok(())
 }
 
