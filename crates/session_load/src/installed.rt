@@ -12,7 +12,7 @@ ghost use Rattle.session_spec.specs.Words.{folder, list};
 use crate::Stop;
 use crate::lists::{CompiledList, load_list};
 use abp_compile::Report;
-use dnr_base::{NoMemory, Text};
+use dnr_base::{Items, NoMemory, Text};
 use dnr_io::Shelf;
 use dnr_words::Installed;
 use explain_report::{write_bad_json, write_bad_manifest, write_refused_rule};
@@ -142,12 +142,18 @@ fn load_as_list<F: Shelf, H: RegexHost>(
 fn extension_of(alloc: Global, name: &str, list: CompiledList) -> Result<Extension, NoMemory>
     ensures { IfOk result (λ extension. extension ≡ extension_in name.now list) }
 {
-    let id = Text::build(String::from_str(alloc, "list")?);
     let CompiledList { rules, report } = list;
     let Report { origins, .. } = report;
-    let set = RuleSet::build(id, true, rules, origins, Vec::new(alloc));
     let mut sets = Vec::new(alloc);
-    sets.push(set)?;
-    let name = Text::build(String::from_str(alloc, name)?);
-    Ok(Extension::build(name, sets, Vec::new(alloc), Vec::new(alloc)))
+    sets.push(RuleSet {
+        id: Text::build(String::from_str(alloc, "list")?),
+        enabled: true,
+        rules: Items::build(rules),
+        origins: Items::build(origins),
+    })?;
+    Ok(Extension {
+        name: Text::build(String::from_str(alloc, name)?),
+        sets: Items::build(sets),
+        access: None,
+    })
 }

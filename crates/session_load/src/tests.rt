@@ -65,7 +65,7 @@ fn has_ids(rules: &[Rule], ids: &[u32]) -> bool {
 }
 
 fn is_set(set: &RuleSet, id: &str, enabled: bool, ids: &[u32]) -> bool {
-    set.id() == id && set.is_enabled() == enabled && has_ids(set.rules(), ids)
+    set.id.as_str() == id && set.enabled == enabled && has_ids(set.rules.as_slice(), ids)
 }
 
 #[test]
@@ -92,10 +92,11 @@ fn a_rules_file_is_the_extension_local(rt: HostRuntime) -> Result<(), Fail> {
     assert_eq!(rt; suffixes.registrable("a.b.co.uk"), Some("co.uk"));
     assert_eq!(rt; extensions.len(), 1);
     let local = extensions.first().ok_or("no extension")?;
-    assert!(rt; local.name() == "local" && local.sets().len() == 1);
+    assert!(rt; local.name.as_str() == "local" && local.sets.as_slice().len() == 1);
     assert!(rt;
         local
-            .sets()
+            .sets
+            .as_slice()
             .iter()
             .all(|set| is_set(set, "rules", true, &[7, 3]))
     );
@@ -122,15 +123,16 @@ fn extensions_and_lists_stand_in_the_order_of_the_words(rt: HostRuntime) -> Resu
     assert_eq!(rt; suffixes.registrable("a.b.co.uk"), Some("b.co.uk"));
     assert_eq!(rt; extensions.len(), 2);
     let list = extensions.first().ok_or("no list")?;
-    assert!(rt; list.name() == "l" && list.sets().len() == 1);
+    assert!(rt; list.name.as_str() == "l" && list.sets.as_slice().len() == 1);
     assert!(rt;
-        list.sets()
+        list.sets
+            .as_slice()
             .iter()
             .all(|set| is_set(set, "list", true, &[1, 2]))
     );
     let shop = extensions.last().ok_or("no extension")?;
-    assert!(rt; shop.name() == "shop" && shop.sets().len() == 1);
-    assert!(rt; shop.sets().iter().all(|set| is_set(set, "s", false, &[5])));
+    assert!(rt; shop.name.as_str() == "shop" && shop.sets.as_slice().len() == 1);
+    assert!(rt; shop.sets.as_slice().iter().all(|set| is_set(set, "s", false, &[5])));
     Ok(())
 }
 
