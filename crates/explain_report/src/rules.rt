@@ -69,8 +69,10 @@ fn detail_of(refusal: RuleRefusal) -> Detail
     ensures { detail_seen result ≡ spec.detail_of refusal }
 {
     match refusal {
-        RuleRefusal::BadField(path) | RuleRefusal::BadDomain(path) | RuleRefusal::EmptyList(path) =>
-            { Detail::Path(path) }
+        RuleRefusal::BadField(path)
+        | RuleRefusal::BadDomain(path)
+        | RuleRefusal::EmptyList(path)
+        | RuleRefusal::BadHeaderTest(path) => Detail::Path(path),
         RuleRefusal::BadUrlFilter(refusal) => Detail::Why(pattern_why(refusal)),
         RuleRefusal::BadHeader(cause) => Detail::Why(header_why(cause)),
         _ => Detail::Nothing,
@@ -93,6 +95,7 @@ fn rule_code(refusal: RuleRefusal) -> &'static str
         RuleRefusal::EmptyList(_) => "empty-list",
         RuleRefusal::BothTypeLists => "both-type-lists",
         RuleRefusal::AllowAllTypes => "allow-all-types",
+        RuleRefusal::BadHeaderTest(_) => "bad-header-test",
         RuleRefusal::TabsNotSession => "tabs-not-session",
         RuleRefusal::BadAction => "bad-action",
         RuleRefusal::BadRedirect => "bad-redirect",
