@@ -71,7 +71,7 @@ impl Store {
     /// # Errors
     ///
     /// The first refusal, in the order in which they stand in `Refusal`; `NoMemory`, if memory ran out.
-    #[tactic(auto, using(crate::proofs::Installs::judged))]
+    #[tactic(auto, using(crate::proofs::Installs::passed, crate::proofs::Installs::refused))]
     pub fn judge(&self, alloc: Global, update: &Update) -> Result<(), Refusal>
         ensures judged { OnOk result (judge_update self.now (update_of update.now) ≡ None) }
         ensures refused { IfErr result (IsRefusalOf (judge_update self.now (update_of update.now))) }
@@ -79,7 +79,8 @@ impl Store {
         match update {
             Update::Install(extension) => {
                 let installed = Installed::build(alloc, extension.copy(alloc)?)?;
-                judge_install(self, alloc, &installed)
+                judge_install(self, alloc, &installed)?;
+                Ok(())
             }
         }
     }
@@ -89,7 +90,7 @@ impl Store {
     /// # Errors
     ///
     /// Those of `judge`.
-    #[tactic(auto, using(crate::proofs::Installs::judged))]
+    #[tactic(auto, using(crate::proofs::Installs::passed, crate::proofs::Installs::refused))]
     pub fn apply(&self, alloc: Global, update: &Update) -> Result<Store, Refusal>
         ensures judged { OnOk result (judge_update self.now (update_of update.now) ≡ None) }
         ensures applied { IfOk result (λ store. store ≡ after self.now (one (update_of update.now))) }
@@ -109,7 +110,7 @@ impl Store {
     /// # Errors
     ///
     /// Those of `judge`.
-    #[tactic(auto, using(crate::proofs::Installs::is_installed))]
+    #[tactic(auto, using(crate::proofs::Installs::is_installed, crate::proofs::Installs::refused))]
     pub fn install(self, alloc: Global, extension: Extension) -> Result<Store, Refusal>
         ensures installed { IfOk result (λ store. install_one self extension ≡ Ok store) }
         ensures refused { IfErr result (IsRefusalOf (judge_update self (install extension))) }
