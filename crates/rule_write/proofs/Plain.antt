@@ -14,9 +14,10 @@ use Rattle.dnr_base.specs.declared.transform.Transform as changed
 use Rattle.dnr_base.specs.declared.query_transform.QueryTransform.{QueryTransform}
 use Rattle.dnr_base.specs.declared.query_pair.QueryPair.{QueryPair}
 use Rattle.dnr_spec.specs.Headers.{HeaderOp}
+use Rattle.dnr_spec.specs.HeaderTests.{HeaderTest}
 use Rattle.rule_spec.specs.Rule.{Condition, Action, block, redirect, allow, upgrade_scheme, modify_headers, allow_all_requests, Rule}
 use Rattle.json_spec.specs.RuleFields.{kind_set, method_set}
-use Rattle.json_spec.specs.Written.{Field, with_field, with_fields, unless_empty, if_true, ascending_domains, ascending_tabs, tab_written, domains_written, tabs_written, kind_written, are_default, kinds_written, exclusion_of, exclusion_written, method_written, methods_written, party_written, filter_fields, domain_fields, kind_fields, method_fields, tab_fields, condition_written, pair_written, changes_written, scheme_written, place_fields, query_fields, end_fields, transform_written, redirect_written, operation_name, op_written, type_name, target_fields, action_written, rule_written}
+use Rattle.json_spec.specs.Written.{Field, with_field, with_fields, unless_empty, if_true, ascending_domains, ascending_tabs, tab_written, domains_written, tabs_written, kind_written, are_default, kinds_written, exclusion_of, exclusion_written, method_written, methods_written, party_written, filter_fields, domain_fields, kind_fields, method_fields, tab_fields, written_list, test_written, test_fields, condition_written, pair_written, changes_written, scheme_written, place_fields, query_fields, end_fields, transform_written, redirect_written, operation_name, op_written, type_name, target_fields, action_written, rule_written}
 
 -- ---- objects and lists
 
@@ -107,6 +108,15 @@ excluded-plain : (kinds : List Kind) → IfSome (exclusion_written kinds) IsPlai
 unfolding exclusion_written
 excluded-plain kinds = exclusion-plain (kind_set kinds)
 
+test-plain : (test : HeaderTest) → IsPlain (test_written test)
+test-plain test =
+    fields-plain
+    ((codes "header", Some (string test.name))
+    ∷ (codes "values", option_map (written_list string) test.values)
+    ∷ (codes "excludedValues", unless_empty (map string test.excluded))
+    ∷ []) no_members refl
+    (refl, (given-plain (written_list string) (λ list. list-plain string (λ text. refl) list) test.values, (texts-plain test.excluded, tt)))
+
 condition-plain : (c : Condition) → IsPlain (condition_written c)
 unfolding condition_written
 condition-plain c =
@@ -125,9 +135,13 @@ condition-plain c =
       given-plain methods_written (λ list. list-plain method_written (λ method. refl) (method_set list)) c.methods,
       (some-plain (map method_written (method_set c.not_methods)) (list-plain method_written (λ method. refl) (method_set c.not_methods)), tt),
     ) in
-    fields-plain (tab_fields c) _ methods (
+    let tabs = fields-plain (tab_fields c) _ methods (
       given-plain tabs_written (λ list. list-plain tab_written tab-plain (ascending_tabs list)) c.tabs,
       (some-plain (map tab_written (ascending_tabs c.not_tabs)) (list-plain tab_written tab-plain (ascending_tabs c.not_tabs)), tt),
+    ) in
+    fields-plain (test_fields c) _ tabs (
+      given-plain (written_list test_written) (λ list. list-plain test_written test-plain list) c.header_tests,
+      (some-plain (map test_written c.not_header_tests) (list-plain test_written test-plain c.not_header_tests), tt),
     )
 
 -- ---- the action

@@ -11,6 +11,7 @@ ghost use Rattle.dnr_base.specs.MethodSet.{methods_of};
 ghost use Rattle.json_spec.specs.RuleFields.{method_set};
 
 use crate::fields::{put, put_text, true_or_none, unless_empty};
+use crate::header_tests::{given_tests, test_values};
 use crate::sets::{
     are_default, domain_values, kind_values, kinds_in, method_values, methods_in, tab_values,
 };
@@ -31,6 +32,7 @@ pub(crate) fn condition_value(alloc: Global, condition: &Condition) -> Result<Va
     put_kinds(alloc, &mut members, condition)?;
     put_methods(alloc, &mut members, condition)?;
     put_tabs(alloc, &mut members, condition)?;
+    put_tests(alloc, &mut members, condition)?;
     Ok(Value::Object(members))
 }
 
@@ -226,4 +228,18 @@ fn given_tabs(alloc: Global, tabs: Option<&Items<i32>>) -> Result<Option<Value>,
         Some(tabs) => Ok(Some(Value::Array(tab_values(alloc, tabs.as_slice())?))),
         None => Ok(None),
     }
+}
+
+fn put_tests(
+    alloc: Global,
+    members: &mut Map<String, Value>,
+    condition: &Condition,
+) -> Result<(), NoMemory>
+    ensures { OnOk result (members_view members.new.entries
+        ≡ with_fields (members_view members.old.entries) (spec.test_fields condition.now)) }
+{
+    let tests = given_tests(alloc, condition.header_tests())?;
+    put(alloc, members, "responseHeaders", tests)?;
+    let excluded = test_values(alloc, condition.not_header_tests())?;
+    put(alloc, members, "excludedResponseHeaders", unless_empty(excluded))
 }

@@ -6,6 +6,7 @@
 mod action;
 mod condition;
 mod fields;
+mod header_tests;
 mod rules;
 mod sets;
 #[cfg(test)]
