@@ -5,8 +5,10 @@
 
 mod fields;
 mod forms;
+mod header_tests;
 
 pub use fields::{Fields, read_fields};
+pub use header_tests::TestFields;
 
 #[cfg(test)]
 mod tests;
