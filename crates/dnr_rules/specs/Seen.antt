@@ -39,6 +39,8 @@ condition_seen parts = record {
   not_methods = methods_of parts.not_methods;
   tabs = (rare_seen parts.rare).tabs;
   not_tabs = (rare_seen parts.rare).not_tabs;
+  header_tests = (rare_seen parts.rare).header_tests;
+  not_header_tests = (rare_seen parts.rare).not_header_tests;
 }
 
 abbrev pub rule_of : ℕ → ℕ → spec.Condition → Action → spec.Rule

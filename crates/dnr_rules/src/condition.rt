@@ -10,6 +10,7 @@ use crate::ConditionParts;
 use crate::rest::Rest;
 use dnr_base::{Items, KindSet, MethodSet, NoMemory, Text};
 use domain_set::DomainSet;
+use header_tests::HeaderTest;
 use std::alloc::Global;
 use std::marker::Model;
 use url_filter::Pattern;
@@ -53,6 +54,8 @@ impl Model for Condition {
       not_methods = methods_of c.not_methods;
       tabs = (rest_seen c.rest).tabs;
       not_tabs = (rest_seen c.rest).not_tabs;
+      header_tests = (rest_seen c.rest).header_tests;
+      not_header_tests = (rest_seen c.rest).not_header_tests;
     } };
 }
 
@@ -167,6 +170,20 @@ impl Condition {
         ensures { result.now ≡ self.now.not_tabs }
     {
         self.rest.not_tabs()
+    }
+
+    /// The tests of which the headers of the response must pass one: `responseHeaders`.
+    pub fn header_tests(&self) -> Option<&Items<HeaderTest>>
+        ensures { option_copied result ≡ self.now.header_tests }
+    {
+        self.rest.header_tests()
+    }
+
+    /// The tests of which they must pass none: `excludedResponseHeaders`.
+    pub fn not_header_tests(&self) -> &[HeaderTest]
+        ensures { result.now ≡ self.now.not_header_tests }
+    {
+        self.rest.not_header_tests()
     }
 
     /// An equal condition.

@@ -13,6 +13,7 @@ mod tests;
 
 pub use action::{Action, HeaderOps};
 pub use condition::Condition;
+pub use header_tests::{HeaderTest, ValuePattern};
 pub use parts::{ConditionParts, RareParts, RuleParts};
 pub use rule::Rule;
 pub use rule_spec::{HeaderCause, PlacedRefusal, RuleKind, RulePath, RuleRefusal};

@@ -1,11 +1,13 @@
 ghost use Rattle.std.specs.Prelude.{◌≡◌, false, IfOk};
 ghost use Rattle.dnr_base.specs.KindSet.{kinds_of};
 ghost use Rattle.dnr_rules.specs.Seen.{condition_seen, rare_seen};
-ghost use Rattle.dnr_rules.specs.Plain.{plain_condition, no_rare};
+ghost use Rattle.rule_spec.specs.Rule.{plain_condition};
+ghost use Rattle.dnr_rules.specs.Plain.{no_rare};
 
 use crate::Action;
 use dnr_base::{Items, KindSet, MethodSet, NoMemory, Text};
 use domain_set::DomainSet;
+use header_tests::HeaderTest;
 use std::alloc::Global;
 use url_filter::Pattern;
 
@@ -59,6 +61,10 @@ pub struct RareParts {
     pub tabs: Option<Items<i32>>,
     /// The tabs that it must not come from.
     pub not_tabs: Items<i32>,
+    /// The tests of which the response's headers must pass one.
+    pub header_tests: Option<Items<HeaderTest>>,
+    /// The tests of which they must pass none.
+    pub not_header_tests: Items<HeaderTest>,
 }
 
 impl ConditionParts {
@@ -91,6 +97,8 @@ impl RareParts {
             not_hosts: DomainSet::empty(),
             tabs: None,
             not_tabs: Items::build(Vec::new(alloc)),
+            header_tests: None,
+            not_header_tests: Items::build(Vec::new(alloc)),
         }
     }
 
@@ -103,6 +111,8 @@ impl RareParts {
             || !self.not_tabs.as_slice().is_empty()
             || !self.not_initiators.entries().is_empty()
             || !self.not_hosts.entries().is_empty()
+            || self.header_tests.is_some()
+            || !self.not_header_tests.as_slice().is_empty()
     }
 
     /// The same behind a box, which is made where something is given.

@@ -6,6 +6,7 @@ ghost use Rattle.dnr_rules.specs.Seen.{rare_seen};
 use crate::RareParts;
 use dnr_base::{Copied, Items, NoMemory, Text};
 use domain_set::DomainSet;
+use header_tests::HeaderTest;
 use std::alloc::Global;
 
 // What few conditions give, as a condition keeps it.
@@ -71,6 +72,24 @@ impl Rest {
         }
     }
 
+    pub(crate) fn header_tests(&self) -> Option<&Items<HeaderTest>>
+        ensures { option_copied result ≡ (rest_seen self.now).header_tests }
+    {
+        match self {
+            Rest::Given(rare) => rare.header_tests.as_ref(),
+            Rest::Absent(_) => None,
+        }
+    }
+
+    pub(crate) fn not_header_tests(&self) -> &[HeaderTest]
+        ensures { result.now ≡ (rest_seen self.now).not_header_tests }
+    {
+        match self {
+            Rest::Given(rare) => rare.not_header_tests.as_slice(),
+            Rest::Absent(_) => &[],
+        }
+    }
+
     pub(crate) fn copy(&self, alloc: Global) -> Result<Rest, NoMemory>
         ensures { IfOk result (λ copy. rest_seen copy ≡ rest_seen self.now) }
     {
@@ -93,6 +112,8 @@ fn copy_rare(alloc: Global, rare: &RareParts) -> Result<RareParts, NoMemory>
         not_hosts: rare.not_hosts.copy(alloc)?,
         tabs: copy_tabs(alloc, &rare.tabs)?,
         not_tabs: copy_list(alloc, &rare.not_tabs)?,
+        header_tests: Copied::copied(&rare.header_tests, alloc)?,
+        not_header_tests: rare.not_header_tests.copy(alloc)?,
     })
 }
 

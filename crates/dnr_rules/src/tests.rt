@@ -88,6 +88,8 @@ fn whole_condition(alloc: Global) -> Option<Condition> {
         not_hosts: domain(alloc, "not-to.test")?,
         tabs: Some(no_tab_and_seven(alloc)?),
         not_tabs: Items::build(Vec::new(alloc)),
+        header_tests: None,
+        not_header_tests: Items::build(Vec::new(alloc)),
     };
     Some(Condition::build(ConditionParts {
         url_filter: Some(filter(alloc, "||host^")?),
