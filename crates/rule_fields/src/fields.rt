@@ -15,7 +15,7 @@ ghost use Rattle.rule_fields.specs.Groups.{HasNoForbidden, HasFilters, HasDomain
 ghost use Rattle.rule_fields.specs.Seen.{fields_seen};
 
 use crate::forms;
-use crate::header_tests::{self, TestFields};
+use crate::response_tests::{self, TestFields};
 use dnr_base::{Items, KindSet, MethodSet, Text};
 use rule_spec::{RulePath, RuleRefusal};
 use serde_json::Value;
@@ -356,7 +356,7 @@ fn tests_field(
     let Some(value) = condition.get(field.key()) else {
         return Ok(None);
     };
-    match header_tests::as_header_tests(alloc, value)? {
+    match response_tests::as_header_tests(alloc, value)? {
         Some(tests) => Ok(Some(tests)),
         None => Err(RuleRefusal::BadField(field)),
     }

@@ -5,10 +5,10 @@
 
 mod fields;
 mod forms;
-mod header_tests;
+mod response_tests;
 
 pub use fields::{Fields, read_fields};
-pub use header_tests::TestFields;
+pub use response_tests::TestFields;
 
 #[cfg(test)]
 mod tests;
