@@ -20,3 +20,4 @@ pub use header_op::HeaderOp;
 pub use laws::changes_read_again;
 pub use planning::plan;
 pub use table::apply;
+pub use words::is_name;

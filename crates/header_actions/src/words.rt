@@ -19,8 +19,8 @@ fn has_token_bytes(bytes: &[u8]) -> bool
     bytes.iter().all(|byte| is_token_char(*byte))
 }
 
-// Whether the name is a field name that is not too long.
-pub(crate) fn is_name(name: &str) -> bool
+/// Whether a text is a field name (RFC 9110, section 5.1), in any case, of at most 256 bytes.
+pub fn is_name(name: &str) -> bool
     ensures { result ≡ spec.is_name name.now }
 {
     let bytes = name.as_bytes();

@@ -2,6 +2,7 @@ ghost use Rattle.std.specs.Prelude.{◌≡◌, ℕ, true, Some, None, IfOk, IsEr
 ghost use Rattle.dnr_base.specs.Faults.{HasCauseOf};
 ghost use Rattle.dnr_spec.specs.Patterns.{groups_of, found, ArePlacesIn};
 ghost use Rattle.regex_host.specs.Answers.{IsCalm, KeepsPlaces};
+ghost use Rattle.regex_host.specs.Asked.{Asked};
 
 use dnr_base::Span;
 
@@ -22,6 +23,10 @@ pub trait RegexHost {
     /// How many faults there were.
     ghost faults: { Self → ℕ };
 
+    /// One call that asks for this may lead from the first state to the second. A caller that says which calls
+    /// it makes says so by `AsksFor`.
+    ghost asks: { Self → Asked → Self → Type 0 };
+
     /// The count of faults. It never falls, and stands still at the greatest `u64`.
     fn faults(&self) -> u64
         ensures { result ≡ faults self.now };
@@ -37,6 +42,7 @@ pub trait RegexHost {
     fn check(&mut self, pattern: &str, fold: bool) -> Result<u32, HostRefusal>
         ensures groups { IfOk result (λ count. groups_of pattern.now ≡ Some count) }
         ensures no_pattern { IsErrOf result HostRefusal.NoPattern → groups_of pattern.now ≡ None }
+        ensures asks { asks self.old (record { pattern = pattern.now; fold = fold }) self.new }
         ensures cause { HasCauseOf HostRefusal.HostFault (faults self.old) (faults self.new) result }
         ensures calm { IsCalm (faults self.old) (faults self.new) result };
 
@@ -62,6 +68,7 @@ pub trait RegexHost {
         ensures within { IfOk result (λ is_found. is_found ≡ true → ArePlacesIn text.now spans.new) }
         ensures kept { KeepsPlaces result spans.old spans.new }
         ensures pattern { IsErrOf result HostRefusal.NoPattern → ⊥ }
+        ensures asks { asks self.old (record { pattern = pattern.now; fold = fold }) self.new }
         ensures cause { HasCauseOf HostRefusal.HostFault (faults self.old) (faults self.new) result }
         ensures calm { IsCalm (faults self.old) (faults self.new) result };
 }

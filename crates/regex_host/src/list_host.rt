@@ -1,11 +1,12 @@
-ghost use Rattle.std.specs.Prelude.{◌≡◌, IsErrOf};
+ghost use Rattle.std.specs.Prelude.{◌≡◌, [], IsErrOf};
 ghost use Rattle.dnr_base.specs.Faults.{HasCauseOf};
 ghost use Rattle.regex_host.specs.Answers.{IsCalm};
-ghost use Rattle.regex_host.specs.ListHost.{both_counts};
+ghost use Rattle.regex_host.specs.ListHost.{both_counts, KeepsCall, KeepsOrNot};
 
 use crate::{HostRefusal, RegexHost};
 use dnr_base::{Plan, Span, Text};
 use std::alloc::Global;
+use std::marker::Model;
 
 /// A host for tests: it hands each call to a host below it, fails at listed calls, and keeps the patterns
 /// that it was asked for. Its count of faults is that of the host below and its own failed calls together.
@@ -18,11 +19,24 @@ pub struct ListHost<H> {
     pub asked: Vec<Text>,
 }
 
+impl<H> Model for ListHost<H> {
+    ghost use Rattle.regex_host.specs.ListHost.{Listed};
+
+    ghost Value = { Listed H };
+
+    ghost view = { λ h. record { below = h.below; plan = h.plan; asked = h.asked.items } };
+}
+
 impl<H: RegexHost> ListHost<H> {
     /// A host over the one below. The calls of the numbers in `failing` fail, where those of `check` and
     /// `find` are counted together from 1.
     pub fn new(alloc: Global, below: H, failing: Vec<u64>) -> ListHost<H>
-        ensures { ⟦<ListHost<H> as RegexHost>⟧.faults result ≡ both_counts (H.faults below) 0 }
+        ensures faults { ⟦<ListHost<H> as RegexHost>⟧.faults result ≡ both_counts (H.faults below) 0 }
+        ensures value { result ≡ record {
+            below = below;
+            plan = record { failing = failing.items; calls = 0; faults = 0 };
+            asked = [];
+        } }
     {
         ListHost {
             alloc,
@@ -35,6 +49,7 @@ impl<H: RegexHost> ListHost<H> {
     // Keeps the pattern of a call, and fails it where it is listed.
     fn ask(&mut self, pattern: &str) -> Result<(), HostRefusal>
         ensures below { self.new.below ≡ self.old.below }
+        ensures kept { KeepsCall self.old pattern.now self.new result }
         ensures pattern { IsErrOf result HostRefusal.NoPattern → ⊥ }
         ensures cause { HasCauseOf HostRefusal.HostFault self.old.plan.faults self.new.plan.faults result }
         ensures calm { IsCalm self.old.plan.faults self.new.plan.faults result }
@@ -54,6 +69,8 @@ impl<H: RegexHost> ListHost<H> {
 
 impl<H: RegexHost> RegexHost for ListHost<H> {
     ghost faults = { λ host. both_counts (H.faults host.below) host.plan.faults };
+
+    ghost asks = { KeepsOrNot H.asks };
 
     fn faults(&self) -> u64 {
         self.below.faults().saturating_add(self.plan.faults())

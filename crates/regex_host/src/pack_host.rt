@@ -97,6 +97,9 @@ fn key_of(alloc: Global, pattern: &str, fold: bool) -> Result<String, AllocError
 impl RegexHost for PackHost {
     ghost faults = { λ host. host.faults };
 
+    // A call tells no more than its own clauses.
+    ghost asks = { λ before asked now. Unit {0} };
+
     fn faults(&self) -> u64 {
         self.faults
     }

@@ -10,14 +10,13 @@ use Rattle.dnr_base.specs.MethodSet.{methods_of}
 use Rattle.rule_fields.specs.declared.fields.FilterFields.{FilterFields}
 use Rattle.rule_fields.specs.declared.fields.DomainFields.{DomainFields}
 use Rattle.rule_fields.specs.declared.fields.SetFields.{SetFields}
-use Rattle.json_spec.specs.RuleFields.{refusal_in, absent_in, field_in, old_list_in, as_texts, as_party, as_kinds, as_methods, as_tabs}
+use Rattle.rule_fields.specs.declared.fields.ResponseFields.{ResponseFields}
+use Rattle.json_spec.specs.RuleFields.{refusal_in, absent_in, field_in, old_list_in, as_texts, as_party, as_kinds, as_methods, as_tabs, as_header_tests}
 
 abbrev pub forbidden_tests : Data → List (Option RuleRefusal)
 forbidden_tests c =
     refusal_in (absent_in path.TopDomains c)
     ∷ refusal_in (absent_in path.ExcludedTopDomains c)
-    ∷ refusal_in (absent_in path.ResponseHeaders c)
-    ∷ refusal_in (absent_in path.ExcludedResponseHeaders c)
     ∷ []
 
 abbrev pub filter_tests : Data → List (Option RuleRefusal)
@@ -48,13 +47,17 @@ set_tests c =
     ∷ refusal_in (field_in as_tabs path.ExcludedTabIds c)
     ∷ []
 
+abbrev pub response_tests : Data → List (Option RuleRefusal)
+response_tests c =
+    refusal_in (field_in as_header_tests path.ResponseHeaders c)
+    ∷ refusal_in (field_in as_header_tests path.ExcludedResponseHeaders c)
+    ∷ []
+
 -- ---- what each group is read as
 
 pub record HasNoForbidden (c : Data) : Type 0 where
   pub top : absent_in path.TopDomains c ≡ Ok tt
   pub not_top : absent_in path.ExcludedTopDomains c ≡ Ok tt
-  pub headers : absent_in path.ResponseHeaders c ≡ Ok tt
-  pub not_headers : absent_in path.ExcludedResponseHeaders c ≡ Ok tt
 
 pub record HasFilters (c : Data) (f : FilterFields) : Type 0 where
   pub url_filter : field_in as_str path.UrlFilter c ≡ Ok (option_copied f.url_filter)
@@ -77,3 +80,7 @@ pub record HasSets (c : Data) (f : SetFields) : Type 0 where
   pub not_methods : field_in as_methods path.ExcludedRequestMethods c ≡ Ok (option_map methods_of f.not_methods)
   pub tabs : field_in as_tabs path.TabIds c ≡ Ok f.tabs
   pub not_tabs : field_in as_tabs path.ExcludedTabIds c ≡ Ok f.not_tabs
+
+pub record HasResponse (c : Data) (f : ResponseFields) : Type 0 where
+  pub tests : field_in as_header_tests path.ResponseHeaders c ≡ Ok f.header_tests
+  pub not_tests : field_in as_header_tests path.ExcludedResponseHeaders c ≡ Ok f.not_header_tests

@@ -24,4 +24,6 @@ fields_seen fields = record {
   not_methods = option_map methods_of fields.not_methods;
   tabs = fields.tabs;
   not_tabs = fields.not_tabs;
+  header_tests = fields.header_tests;
+  not_header_tests = fields.not_header_tests;
 }

@@ -5,14 +5,17 @@ ghost use Rattle.serde_json.specs.Find.{as_str, as_bool};
 ghost use Rattle.dnr_base.specs.KindSet.{kinds_of};
 ghost use Rattle.dnr_base.specs.MethodSet.{methods_of};
 ghost use Rattle.json_spec.specs.RuleFields.{as_texts, as_party, as_kinds, as_methods, as_tabs};
+ghost use Rattle.json_spec.specs.RuleFields.{as_header_tests};
 ghost use Rattle.json_spec.specs.RuleFields.{field_in, absent_in, old_list_in, fields_in};
 ghost use Rattle.json_spec.specs.RuleFields.{first_refusal};
 ghost use Rattle.json_spec.specs.MayRefuse.{IsRefused, RefusesTest};
 ghost use Rattle.rule_fields.specs.Groups.{forbidden_tests, filter_tests, domain_tests, set_tests};
+ghost use Rattle.rule_fields.specs.Groups.{response_tests, HasResponse};
 ghost use Rattle.rule_fields.specs.Groups.{HasNoForbidden, HasFilters, HasDomains, HasSets};
 ghost use Rattle.rule_fields.specs.Seen.{fields_seen};
 
 use crate::forms;
+use crate::response_tests::{self, TestFields};
 use dnr_base::{Items, KindSet, MethodSet, Text};
 use rule_spec::{RulePath, RuleRefusal};
 use serde_json::Value;
@@ -37,10 +40,13 @@ pub struct Fields<'a> {
     pub not_methods: Option<MethodSet>,
     pub tabs: Option<Items<i32>>,
     pub not_tabs: Option<Items<i32>>,
+    pub header_tests: Option<Items<TestFields>>,
+    pub not_header_tests: Option<Items<TestFields>>,
 }
 
 /// Reads the fields of a condition, which are tested in this order: those that no rule may have, the filters, the
-/// lists of domains (new names, then old ones, then hosts), the party, types, methods and tabs.
+/// lists of domains (new names, then old ones, then hosts), the party, types, methods, tabs and tests of response
+/// headers.
 ///
 /// # Errors
 ///
@@ -55,6 +61,7 @@ pub fn read_fields(alloc: Global, condition: &Value) -> Result<Fields<'_>, RuleR
     let filters = read_filters(condition)?;
     let domains = read_domains(alloc, condition)?;
     let sets = read_sets(alloc, condition)?;
+    let response = read_response(alloc, condition)?;
     Ok(Fields {
         url_filter: filters.url_filter,
         regex_filter: filters.regex_filter,
@@ -72,6 +79,8 @@ pub fn read_fields(alloc: Global, condition: &Value) -> Result<Fields<'_>, RuleR
         not_methods: sets.not_methods,
         tabs: sets.tabs,
         not_tabs: sets.not_tabs,
+        header_tests: response.header_tests,
+        not_header_tests: response.not_header_tests,
     })
 }
 
@@ -81,9 +90,7 @@ fn test_forbidden(condition: &Value) -> Result<(), RuleRefusal>
     ensures refused { IfErr result (RefusesTest (first_refusal (forbidden_tests (view condition.now))) ⊥) }
 {
     test_absent(condition, RulePath::TopDomains)?;
-    test_absent(condition, RulePath::ExcludedTopDomains)?;
-    test_absent(condition, RulePath::ResponseHeaders)?;
-    test_absent(condition, RulePath::ExcludedResponseHeaders)
+    test_absent(condition, RulePath::ExcludedTopDomains)
 }
 
 #[derive(Drop)]
@@ -172,6 +179,24 @@ fn read_sets(alloc: Global, condition: &Value) -> Result<SetFields, RuleRefusal>
         not_methods,
         tabs,
         not_tabs,
+    })
+}
+
+#[derive(Drop)]
+struct ResponseFields {
+    header_tests: Option<Items<TestFields>>,
+    not_header_tests: Option<Items<TestFields>>,
+}
+
+fn read_response(alloc: Global, condition: &Value) -> Result<ResponseFields, RuleRefusal>
+    ensures read { IfOk result (HasResponse (view condition.now)) }
+    ensures refused { IfErr result (RefusesTest (first_refusal (response_tests (view condition.now))) ⊥) }
+{
+    let header_tests = tests_field(alloc, condition, RulePath::ResponseHeaders)?;
+    let not_header_tests = tests_field(alloc, condition, RulePath::ExcludedResponseHeaders)?;
+    Ok(ResponseFields {
+        header_tests,
+        not_header_tests,
     })
 }
 
@@ -315,6 +340,24 @@ fn tabs_field(
     };
     match forms::as_tabs(alloc, value)? {
         Some(tabs) => Ok(Some(tabs)),
+        None => Err(RuleRefusal::BadField(field)),
+    }
+}
+
+#[tactic(auto, unfolding(json_spec::specs::RuleFields::field_in))]
+fn tests_field(
+    alloc: Global,
+    condition: &Value,
+    field: RulePath,
+) -> Result<Option<Items<TestFields>>, RuleRefusal>
+    ensures ok { IfOk result (λ tests. field_in as_header_tests field (view condition.now) ≡ Ok tests) }
+    ensures refused { IfErr result (IsRefused (field_in as_header_tests field (view condition.now))) }
+{
+    let Some(value) = condition.get(field.key()) else {
+        return Ok(None);
+    };
+    match response_tests::as_header_tests(alloc, value)? {
+        Some(tests) => Ok(Some(tests)),
         None => Err(RuleRefusal::BadField(field)),
     }
 }

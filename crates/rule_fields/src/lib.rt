@@ -5,8 +5,10 @@
 
 mod fields;
 mod forms;
+mod response_tests;
 
 pub use fields::{Fields, read_fields};
+pub use response_tests::TestFields;
 
 #[cfg(test)]
 mod tests;

@@ -23,7 +23,6 @@ fn the_first_field_of_another_form_is_named(rt: HostRuntime) -> Result<(), Fail>
     let rows = r#"read | {}
 read | {"anything":5,"tabIds":[-1,7],"domains":["a.com"]}
 topDomains | {"urlFilter":5,"topDomains":["a.com"]}
-responseHeaders | {"responseHeaders":[]}
 urlFilter | {"tabIds":5,"urlFilter":5}
 isUrlFilterCaseSensitive | {"isUrlFilterCaseSensitive":"true"}
 initiatorDomains | {"initiatorDomains":"a.com"}
@@ -33,7 +32,11 @@ domainType | {"domainType":"third"}
 resourceTypes | {"resourceTypes":["script","frame"]}
 requestMethods | {"requestMethods":["GET"]}
 tabIds | {"tabIds":[2147483648]}
-excludedTabIds | {"excludedTabIds":[1.5]}"#;
+excludedTabIds | {"excludedTabIds":[1.5]}
+read | {"responseHeaders":[{"header":" ","values":[],"excludedValues":["*"],"any":1},{"header":""}]}
+responseHeaders | {"excludedResponseHeaders":5,"responseHeaders":[{"header":"a"},{"values":["b"]}]}
+responseHeaders | {"responseHeaders":[{"header":"a","values":null}]}
+excludedResponseHeaders | {"excludedResponseHeaders":[{"header":"a","excludedValues":["b",1]}]}"#;
     for row in rows.lines() {
         let (field, text) = row.split_once(" | ").ok_or("no row")?;
         assert!(rt; refused(rt.alloc(), text) == field, "{text}");

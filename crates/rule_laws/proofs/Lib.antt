@@ -1,1 +1,2 @@
+mod HeaderTests
 pub mod ReadRules

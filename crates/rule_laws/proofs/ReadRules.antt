@@ -3,7 +3,7 @@ use Rattle.std.proofs.Common.{◌≡◌, ℕ, ℤ, fold, ◌+◌, ◌<◌, List,
 use Rattle.std.specs.Prelude.{IsTrue, IfSome, is_some, is_none, unwrap_or, option_map, option_and_then, nat_le, nat_lt, codes, nat_eq}
 use Rattle.std.specs.Option.{option_map_or}
 use Rattle.std.specs.Result.{result_unwrap_or, result_err}
-use Rattle.std.specs.List.{list_all, starts_with}
+use Rattle.std.specs.List.{list_all, list_any, starts_with}
 use Rattle.std.proofs.lemmas.List.{length-map}
 use Rattle.std.proofs.lemmas.Bool.Decides.{nat_tests}
 use Rattle.serde_json.specs.Data.{Data}
@@ -17,10 +17,11 @@ use Rattle.std.specs.Char.{is_ascii}
 use Rattle.dnr_spec.specs.UrlFilter.{pattern_of, max_pattern}
 use Rattle.dnr_spec.specs.Patterns.{groups_of}
 use Rattle.dnr_spec.specs.Domains.{domains_of, unless_bad, lower_case}
+use Rattle.dnr_spec.specs.HeaderTests.{HeaderTest, is_header_test}
 use Rattle.rule_spec.specs.declared.rule_path.RulePath.{RulePath}
 use Rattle.rule_spec.specs.declared.rule_path.RulePath.TheVariants as path
 use Rattle.rule_spec.specs.declared.rule_refusal.RuleRefusal.{RuleRefusal}
-use Rattle.rule_spec.specs.declared.rule_refusal.RuleRefusal.TheVariants.{BadId, BadPriority, EmptyList, BothFilters, BadUrlFilter, BadRegex, AllowAllTypes, BadAction, BadTransform, BadHeader}
+use Rattle.rule_spec.specs.declared.rule_refusal.RuleRefusal.TheVariants.{BadId, BadPriority, EmptyList, BothFilters, BadUrlFilter, BadRegex, AllowAllTypes, BadHeaderTest, BadAction, BadTransform, BadHeader}
 use Rattle.rule_spec.specs.Rule.{Condition, Action, Rule, modify_headers}
 use Rattle.rule_spec.specs.Rule as rules
 use Rattle.rule_spec.specs.Holds.{has_tab}
@@ -46,7 +47,8 @@ use Rattle.rule_spec.specs.declared.rule_refusal.HeaderCause.TheVariants.{NoHead
 use Rattle.rule_spec.specs.Redirects.{is_short, is_short_pair, is_new_host, is_new_port, is_new_path, is_new_query, is_new_fragment, is_new_scheme, is_extension_path, is_redirect_url, is_substitution, IsPart, IsKeptHost, AreChanges, IsTransform, IsRedirect}
 use Rattle.json_spec.specs.RuleFields.{each, tab_in_range, as_tab, with_tab, tab_set, as_tabs, given_field, field_from, field_in, field_of, field_tests, fields_of}
 use Rattle.json_spec.specs.RuleAction.{tested_text, short_text, new_scheme, as_new_scheme, list_from, pair_from, as_pair, changes_from, as_changes, given_part, part_from, part_in, part_of, transform_tests, transform_of, transform_in, extension_in, url_in, substitution_in, transformed_by, redirect_from, redirect_at, redirecting, redirect_in, or_bad_redirect, if_passes, Change, as_change, changes_at, read_change, with_op, ops_of, or_bad_op, ops_in, is_no_item, is_empty_list, modifying, modify_from, modify_in, action_named, type_of, or_bad_action, action_in}
-use Rattle.json_spec.specs.ReadRule.{url_filter_test, regex_text_test, pattern_test, filter_tests, filters_in, given_domains, domains_from, domains_in, domain_tests, DomainLists, domain_lists_of, domain_lists_in, either, list_of, empty_test, list_tests, lists_in, kinds_from, condition_of, in_range, as_id, id_of, priority_from, priority_of, Numbers, number_tests, numbers_of, numbers_in, condition_at, fields_at, no_lists, lists_at, no_fields, groups_at, gives_frames, is_allow_all, no_numbers, frames_in, rule_tests, rule_of, rule_in, RulesKeepTheirForm}
+use Rattle.json_spec.specs.ReadRule.{url_filter_test, regex_text_test, pattern_test, filter_tests, filters_in, given_domains, domains_from, domains_in, domain_tests, DomainLists, domain_lists_of, domain_lists_in, either, list_of, empty_test, lists_no_value, empty_values_test, header_test, header_test_tests, header_tests_in, list_tests, lists_in, kinds_from, condition_of, in_range, as_id, id_of, priority_from, priority_of, Numbers, number_tests, numbers_of, numbers_in, condition_at, fields_at, no_lists, lists_at, no_fields, groups_at, gives_frames, is_allow_all, no_numbers, frames_in, rule_tests, rule_of, rule_in, RulesKeepTheirForm}
+use Rattle.rule_laws.proofs.HeaderTests.{PassTests, tests_kept, or_no_tests_kept, tests_given}
 
 -- ---- tests that pass
 
@@ -267,16 +269,42 @@ pub record AreSets (f : Fields) : Type 0 where
   pub kinds : IsGivenWhole f.kinds
   pub methods : IsGivenWhole f.methods
   pub tabs : IsGivenWhole f.tabs
+  pub header_tests : IsGivenWhole f.header_tests
 
 pub sets-valid : (f : Fields) → lists_in f ≡ Ok tt → AreSets f
 unfolding lists_in
 sets-valid f e =
     let kinds = rest_pass (rest_pass (rest_pass (all_passed (list_tests f) tt tt e).0)) in
     let methods = rest_pass kinds in
+    let tabs = rest_pass methods in
     record {
       kinds = given_whole path.ResourceTypes f.kinds (first_none kinds);
       methods = given_whole path.RequestMethods f.methods (first_none methods);
-      tabs = given_whole path.TabIds f.tabs (first_none (rest_pass methods));
+      tabs = given_whole path.TabIds f.tabs (first_none tabs);
+      header_tests = given_whole path.ResponseHeaders f.header_tests (first_none (rest_pass tabs));
+    }
+
+-- ---- tests of response headers
+
+pub record AreTestLists (f : Fields) : Type 0 where
+  pub header_tests : IfSome f.header_tests PassTests
+  pub not_header_tests : IfSome f.not_header_tests PassTests
+
+tests_pass : (values field : RulePath) (o : Option (List HeaderTest)) → empty_values_test values o ≡ None → header_test field o ≡ None → IfSome o PassTests
+tests_pass values field None h e = tt
+tests_pass values field (Some tests) h e = record {
+  values = not_refused (list_any lists_no_value tests) (EmptyList values) h;
+  form = not_not (list_all is_header_test tests) (not_refused (not (list_all is_header_test tests)) (BadHeaderTest field) e);
+}
+
+pub tests-valid : (f : Fields) → lists_in f ≡ Ok tt → header_tests_in f ≡ Ok tt → AreTestLists f
+unfolding lists_in header_tests_in
+tests-valid f h e =
+    let values = rest_pass (rest_pass (rest_pass (rest_pass (rest_pass (rest_pass (rest_pass (all_passed (list_tests f) tt tt h).0)))))) in
+    let forms = (all_passed (header_test_tests f) tt tt e).0 in
+    record {
+      header_tests = tests_pass path.ResponseHeaderValues path.ResponseHeaders f.header_tests (first_none values) (first_none forms);
+      not_header_tests = tests_pass path.ExcludedResponseHeaderValues path.ExcludedResponseHeaders f.not_header_tests (first_none (rest_pass values)) (first_none (rest_pass forms));
     }
 
 -- ---- lists of one form
@@ -367,8 +395,8 @@ or_no_tabs (Some tabs) p = p
 
 -- ---- the condition
 
-pub condition-valid : (f : Fields) (lists : DomainLists) → AreFilters f → AreDomainLists lists → AreSets f → AreTabLists f → IsCondition (condition_of f lists)
-condition-valid f lists filters domains sets tabs = record {
+pub condition-valid : (f : Fields) (lists : DomainLists) → AreFilters f → AreDomainLists lists → AreSets f → AreTabLists f → AreTestLists f → IsCondition (condition_of f lists)
+condition-valid f lists filters domains sets tabs tests = record {
   one_filter = filters.one_filter;
   url_filter = filters.url_filter;
   regex_filter = filters.regex_filter;
@@ -379,6 +407,8 @@ condition-valid f lists filters domains sets tabs = record {
   methods = sets.methods;
   tabs = (sets.tabs, tabs.tabs);
   not_tabs = or_no_tabs f.not_tabs tabs.not_tabs;
+  header_tests = (tests_given f.header_tests sets.header_tests, tests_kept f.header_tests tests.header_tests);
+  not_header_tests = or_no_tests_kept f.not_header_tests tests.not_header_tests;
 }
 
 -- ---- redirects
@@ -714,13 +744,15 @@ rules_keep_their_form kind is_taken d rule h =
     let behind_domains = rest_pass behind_filters in
     let behind_lists = rest_pass behind_domains in
     let behind_frames = rest_pass behind_lists in
-    let behind_tabs = rest_pass behind_frames in
+    let behind_tests = rest_pass behind_frames in
+    let behind_tabs = rest_pass behind_tests in
     let f = fields_at d in
     let numbers = value_there (numbers_in is_taken d) (first_none read.0) in
     let filters = unit_there (filters_in f) (first_none behind_fields) in
     let domains = value_there (domain_lists_in f) (first_none behind_filters) in
     let whole = unit_there (lists_in f) (first_none behind_domains) in
     let frames = unit_there (frames_in (get (codes "action") d) f) (first_none behind_lists) in
+    let tests = tests-valid f whole (unit_there (header_tests_in f) (first_none behind_frames)) in
     let acts = value_there (action_in (groups_at d) (get (codes "action") d)) (first_none behind_tabs) in
     let valid = numbers-valid is_taken d numbers.0 numbers.1 in
     let sets = sets-valid f whole in
@@ -731,7 +763,7 @@ rules_keep_their_form kind is_taken d rule h =
     subst IsRule read.1 (record {
       id = subst (λ n. IsTrue (is_number n.id)) numbers_are valid.0;
       priority = subst (λ n. IsTrue (is_number n.priority)) numbers_are valid.1;
-      condition = subst (λ lists. IsCondition (condition_of f lists)) lists_are (condition-valid f domains.0 (filters-valid f filters) (lists-valid f domains.0 domains.1 whole) sets tabs);
+      condition = subst (λ lists. IsCondition (condition_of f lists)) lists_are (condition-valid f domains.0 (filters-valid f filters) (lists-valid f domains.0 domains.1 whole) sets tabs tests);
       action = subst (λ a. IsAction (condition_of f (lists_at d)) a) action_is
           (action-valid (condition_of f (lists_at d)) (groups_at d) (get (codes "action") d) acts.0 refl
           (λ all. frames-valid f.kinds f.not_kinds (frames_given (is_allow_all (type_of (get (codes "action") d))) (gives_frames f.kinds) (frames_pass (get (codes "action") d) f frames) all) sets.kinds) acts.1);

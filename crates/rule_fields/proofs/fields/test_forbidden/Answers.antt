@@ -12,15 +12,3 @@ returns-in_err-test_absent-clause-refused c =
     let d = view c.args.condition.now in
     let p = err_from_is_err_and c.from_residual.result c.from_residual.ensures.1 in
     rw (p.1, p.2) (test_refused (absent_in path.TopDomains d) (drop 1 (forbidden_tests d)) ⊥ c.in_err-test_absent.field-0.0 c.in_err-test_absent.ensures.refused)
-
-pub returns-in_err-test_absent-2-clause-refused : goal.returns-in_err-test_absent-2-clause-refused
-returns-in_err-test_absent-2-clause-refused c =
-    let d = view c.args.condition.now in
-    let p = err_from_is_err_and c.from_residual-in_err-test_absent-2.result c.from_residual-in_err-test_absent-2.ensures.1 in
-    rw (p.1, p.2, c.in_ok-test_absent.ensures.ok) (test_refused (absent_in path.ExcludedTopDomains d) (drop 2 (forbidden_tests d)) ⊥ c.in_err-test_absent-2.field-0.0 c.in_err-test_absent-2.ensures.refused)
-
-pub returns-in_err-test_absent-3-clause-refused : goal.returns-in_err-test_absent-3-clause-refused
-returns-in_err-test_absent-3-clause-refused c =
-    let d = view c.args.condition.now in
-    let p = err_from_is_err_and c.from_residual-in_err-test_absent-3.result c.from_residual-in_err-test_absent-3.ensures.1 in
-    rw (p.1, p.2, c.in_ok-test_absent.ensures.ok, c.in_ok-test_absent-2.ensures.ok) (test_refused (absent_in path.ResponseHeaders d) (drop 3 (forbidden_tests d)) ⊥ c.in_err-test_absent-3.field-0.0 c.in_err-test_absent-3.ensures.refused)
