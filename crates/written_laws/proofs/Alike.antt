@@ -18,10 +18,10 @@ use Rattle.dnr_spec.specs.Party.{is_third_party}
 use Rattle.header_actions.specs.Again.{ReadsAgain}
 use Rattle.rule_spec.specs.declared.rule_kind.RuleKind.TheVariants.{Session}
 use Rattle.rule_spec.specs.Rule.{Condition, Rule}
-use Rattle.rule_spec.specs.Holds.{fits_url, has_match, is_among, is_from, is_not_from, is_party, has_methods, is_by, is_not_by, has_tab, is_in, holds_on}
+use Rattle.rule_spec.specs.Holds.{fits_url, has_match, is_among, is_from, is_not_from, is_party, has_methods, is_by, is_not_by, has_tab, is_in, holds_on, has_response, has_no_response}
 use Rattle.json_spec.specs.ReadRule.{RulesKeepTheirForm}
 use Rattle.json_spec.specs.RuleFields.{kind_set, method_set}
-use Rattle.json_spec.specs.Written.{object_of, written_list, unless_empty, if_true, ascending_domains, ascending_tabs, domains_written, tab_written, tabs_written, kind_written, are_default, kinds_written, exclusion_of, exclusion_written, method_written, methods_written, party_written, condition_written, action_written, rule_written}
+use Rattle.json_spec.specs.Written.{object_of, written_list, unless_empty, if_true, ascending_domains, ascending_tabs, domains_written, tab_written, tabs_written, kind_written, are_default, kinds_written, exclusion_of, exclusion_written, method_written, methods_written, party_written, condition_written, action_written, rule_written, test_written}
 use Rattle.written_laws.specs.Normal.{normal_condition, normal}
 use Rattle.written_laws.specs.Alike.{NormalRulesHoldAlike, NormalRulesAreRules, NormalRulesAreWrittenAlike, NormalRulesStay}
 use Rattle.written_laws.proofs.Sets.{domains_any, domains_again, tabs_any, tabs_again}
@@ -83,6 +83,8 @@ holds_alike suffixes c part =
     && initiators i
     && not_initiators i
     && is_party c.third_party (is_third_party suffixes host part.initiator)
+    && has_response c.header_tests part.response_headers
+    && has_no_response c.not_header_tests part.response_headers
     && has_match c.regex_filter (not c.case_sensitive) part.view
 
 pub normal_rules_hold_alike : NormalRulesHoldAlike
@@ -112,6 +114,8 @@ condition_again c = λ i. record {
   not_methods = method_set-set c.not_methods i;
   tabs = given_again ascending_tabs tabs_again c.tabs i;
   not_tabs = tabs_again c.not_tabs i;
+  header_tests = c.header_tests;
+  not_header_tests = c.not_header_tests;
 }
 
 pub normal_rules_stay : NormalRulesStay
@@ -171,6 +175,8 @@ condition_alike c =
     ∷ (codes "excludedRequestMethods", unless_empty (map method_written (not_methods i)))
     ∷ (codes "tabIds", tabs i)
     ∷ (codes "excludedTabIds", unless_empty (map tab_written (not_tabs i)))
+    ∷ (codes "responseHeaders", option_map (written_list test_written) c.header_tests)
+    ∷ (codes "excludedResponseHeaders", unless_empty (map test_written c.not_header_tests))
     ∷ []
     )
 

@@ -1,6 +1,6 @@
 -- The fields of a written condition, as they are read.
 use Rattle.std.proofs.Common.{◌≡◌, ℕ, ℤ, pos, negsuc, ◌^◌, List, [], ◌∷◌, map, Bool, true, false, cond, Option, Some, None, Ok, refl, ap, ◌∙◌, arith}
-use Rattle.std.specs.Prelude.{IfSome, codes, option_map, option_and_then, nat_lt, if◌then◌else◌}
+use Rattle.std.specs.Prelude.{IfSome, codes, option_map, option_and_then, unwrap_or, nat_lt, if◌then◌else◌}
 use Rattle.std.specs.List.{AllByRecursion, list_all}
 use Rattle.std.proofs.lemmas.Bool.Decides.{nat_tests}
 use Rattle.serde_json.specs.Data.{Data, string}
@@ -11,16 +11,17 @@ use Rattle.dnr_base.specs.declared.kind.Kind.TheVariants as kind
 use Rattle.dnr_base.specs.Kind.{all_kinds}
 use Rattle.dnr_base.specs.declared.method.Method.{Method}
 use Rattle.dnr_base.specs.declared.method.Method.TheVariants as method
+use Rattle.dnr_spec.specs.HeaderTests.{HeaderTest}
 use Rattle.rule_spec.specs.declared.rule_path.RulePath.{RulePath}
 use Rattle.rule_spec.specs.declared.rule_path.RulePath.TheVariants as path
 use Rattle.rule_spec.specs.RulePath.{key_of}
 use Rattle.rule_spec.specs.Rule.{Condition}
 use Rattle.rule_spec.specs.IsRule.{is_tab, AreTabs, IsCondition}
-use Rattle.json_spec.specs.RuleFields.{each, list_of, as_texts, as_party, as_kind, as_kinds, kind_set, as_method, as_methods, method_set, as_tab, tab_in_range, tab_set, as_tabs, field_from, field_in, unless_given, absent_in, unless_beside, old_list_in, Fields, refusal_in, field_of, fields_in, first_refusal, unless_refused}
-use Rattle.json_spec.specs.Written.{written_list, unless_empty, if_true, ascending_domains, ascending_tabs, domains_written, tab_written, tabs_written, kind_written, are_default, kinds_written, exclusion_of, exclusion_written, method_written, methods_written, party_written, condition_written}
+use Rattle.json_spec.specs.RuleFields.{each, list_of, as_texts, as_party, as_kind, as_kinds, kind_set, as_method, as_methods, method_set, as_tab, tab_in_range, tab_set, as_tabs, texts_given, as_header_test, as_header_tests, field_from, field_in, unless_given, absent_in, unless_beside, old_list_in, Fields, refusal_in, field_of, fields_in, first_refusal, unless_refused}
+use Rattle.json_spec.specs.Written.{written_list, unless_empty, if_true, ascending_domains, ascending_tabs, domains_written, tab_written, tabs_written, kind_written, are_default, kinds_written, exclusion_of, exclusion_written, method_written, methods_written, party_written, test_written, condition_written}
 use Rattle.written_laws.proofs.Objects.{found, missing}
 use Rattle.written_laws.proofs.Sets.{both, tabs_all, tab_set-ascending}
-use Rattle.written_laws.proofs.Values.{condition_fields}
+use Rattle.written_laws.proofs.Values.{condition_fields, header_test_fields}
 use Rattle.written_laws.proofs.TypeSets.{kind_set-set, method_set-set}
 
 -- ---- lists
@@ -173,6 +174,40 @@ tabs-read field (Some tabs) h = given_read as_tabs field (tabs_written tabs) (as
 excluded_tabs-read : (field : RulePath) (tabs : List ℤ) → AreTabs tabs → field_from as_tabs field (unless_empty (map tab_written (ascending_tabs tabs))) ≡ Ok (given_list (ascending_tabs tabs))
 excluded_tabs-read field tabs h = some_read tab_written as_tabs field (ascending_tabs tabs) (tab_list-read tabs h)
 
+given_texts-read : (o : Option (List (List ℕ))) → texts_given (option_map (written_list string) o) ≡ Some o
+given_texts-read None = refl
+given_texts-read (Some list) = ap (option_map Some) (texts-read list)
+
+excluded_texts-read : (list : List (List ℕ)) → texts_given (unless_empty (map string list)) ≡ Some (given_list list)
+excluded_texts-read [] = refl
+excluded_texts-read (text ∷ texts) = ap (option_map Some) (texts-read (text ∷ texts))
+
+given-or_none : {X : Type 0} (list : List X) → unwrap_or (given_list list) [] ≡ list
+given-or_none [] = refl
+given-or_none (x ∷ xs) = refl
+
+test-read : (test : HeaderTest) → as_header_test (test_written test) ≡ Some test
+test-read test =
+    let name = ap (option_and_then as_str) (found (codes "header") (header_test_fields test) (Some (string test.name)) refl) in
+    let values = ap texts_given (found (codes "values") (header_test_fields test) (option_map (written_list string) test.values) refl) ∙ given_texts-read test.values in
+    let excluded = ap texts_given (found (codes "excludedValues") (header_test_fields test) (unless_empty (map string test.excluded)) refl) ∙ excluded_texts-read test.excluded in
+    (λ i. option_and_then (λ name.
+    option_and_then (λ values.
+    option_map (λ (list : Option (List (List ℕ))). test_of name values (unwrap_or list [])) (excluded i))
+    (values i))
+    (name i))
+    ∙ ap (λ list. Some (test_of test.name test.values list)) (given-or_none test.excluded)
+  where
+    test_of : List ℕ → Option (List (List ℕ)) → List (List ℕ) → HeaderTest
+    test_of name values excluded = record { name = name; values = values; excluded = excluded }
+
+test_list-read : (list : List HeaderTest) → as_header_tests (written_list test_written list) ≡ Some list
+test_list-read list = list_read test_written as_header_test test-read list
+
+tests-read : (field : RulePath) (o : Option (List HeaderTest)) → field_from as_header_tests field (option_map (written_list test_written) o) ≡ Ok o
+tests-read field None = refl
+tests-read field (Some list) = given_read as_header_tests field (written_list test_written list) list (test_list-read list)
+
 -- ---- the condition
 
 -- the fields that are read of a condition
@@ -194,6 +229,8 @@ fields_kept c = record {
   not_methods = given_list (method_set c.not_methods);
   tabs = option_map ascending_tabs c.tabs;
   not_tabs = given_list (ascending_tabs c.not_tabs);
+  header_tests = c.header_tests;
+  not_header_tests = given_list c.not_header_tests;
 }
 
 module _ {X : Type 0} where
@@ -321,13 +358,23 @@ no-not_top_domains : (c : Condition) → get (key_of path.ExcludedTopDomains) (c
 unfolding condition_written
 no-not_top_domains c = missing (codes "excludedTopDomains") (condition_fields c) refl
 
-no-response_headers : (c : Condition) → get (key_of path.ResponseHeaders) (condition_written c) ≡ None
+at-header_tests : (c : Condition) → get (key_of path.ResponseHeaders) (condition_written c) ≡ option_map (written_list test_written) c.header_tests
 unfolding condition_written
-no-response_headers c = missing (codes "responseHeaders") (condition_fields c) refl
+at-header_tests c = found (codes "responseHeaders") (condition_fields c) (option_map (written_list test_written) c.header_tests) refl
 
-no-not_response_headers : (c : Condition) → get (key_of path.ExcludedResponseHeaders) (condition_written c) ≡ None
+header_tests-read : (c : Condition) → field_in as_header_tests path.ResponseHeaders (condition_written c) ≡ Ok c.header_tests
+header_tests-read c =
+    read_at as_header_tests path.ResponseHeaders c (option_map (written_list test_written) c.header_tests) c.header_tests (at-header_tests c)
+    (tests-read path.ResponseHeaders c.header_tests)
+
+at-not_header_tests : (c : Condition) → get (key_of path.ExcludedResponseHeaders) (condition_written c) ≡ unless_empty (map test_written c.not_header_tests)
 unfolding condition_written
-no-not_response_headers c = missing (codes "excludedResponseHeaders") (condition_fields c) refl
+at-not_header_tests c = found (codes "excludedResponseHeaders") (condition_fields c) (unless_empty (map test_written c.not_header_tests)) refl
+
+not_header_tests-read : (c : Condition) → field_in as_header_tests path.ExcludedResponseHeaders (condition_written c) ≡ Ok (given_list c.not_header_tests)
+not_header_tests-read c =
+    read_at as_header_tests path.ExcludedResponseHeaders c (unless_empty (map test_written c.not_header_tests)) (given_list c.not_header_tests) (at-not_header_tests c)
+    (some_read test_written as_header_tests path.ExcludedResponseHeaders c.not_header_tests (test_list-read c.not_header_tests))
 
 no-old_initiators : (c : Condition) → get (key_of path.Domains) (condition_written c) ≡ None
 unfolding condition_written
@@ -343,15 +390,11 @@ unfolding fields_in
 fields_read c is =
     let top_domains = absent path.TopDomains c (no-top_domains c) in
     let not_top_domains = absent path.ExcludedTopDomains c (no-not_top_domains c) in
-    let response_headers = absent path.ResponseHeaders c (no-response_headers c) in
-    let not_response_headers = absent path.ExcludedResponseHeaders c (no-not_response_headers c) in
     let old_initiators = old-absent path.InitiatorDomains path.Domains c (no-old_initiators c) in
     let old_not_initiators = old-absent path.ExcludedInitiatorDomains path.ExcludedDomains c (no-old_not_initiators c) in
     λ i. unless_refused (first_refusal (
     refusal_in (top_domains i)
     ∷ refusal_in (not_top_domains i)
-    ∷ refusal_in (response_headers i)
-    ∷ refusal_in (not_response_headers i)
     ∷ refusal_in (url_filter-read c i)
     ∷ refusal_in (regex_filter-read c i)
     ∷ refusal_in (case_sensitive-read c i)
@@ -368,6 +411,8 @@ fields_read c is =
     ∷ refusal_in (not_methods-read c i)
     ∷ refusal_in (tabs-read-at c is i)
     ∷ refusal_in (not_tabs-read c is i)
+    ∷ refusal_in (header_tests-read c i)
+    ∷ refusal_in (not_header_tests-read c i)
     ∷ []
     )) (record {
       url_filter = field_of (url_filter-read c i);
@@ -386,4 +431,6 @@ fields_read c is =
       not_methods = field_of (not_methods-read c i);
       tabs = field_of (tabs-read-at c is i);
       not_tabs = field_of (not_tabs-read c is i);
+      header_tests = field_of (header_tests-read c i);
+      not_header_tests = field_of (not_header_tests-read c i);
     })

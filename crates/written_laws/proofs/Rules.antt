@@ -21,7 +21,7 @@ use Rattle.rule_spec.specs.IsRule.{is_number, IsRule}
 use Rattle.json_spec.specs.RuleFields.{first_refusal, refused_if, refusal_in, unless_refused, fields_in}
 use Rattle.json_spec.specs.RuleAction.{action_in}
 use Rattle.json_spec.specs.Written.{condition_written, action_written, rule_written, rules_written, written}
-use Rattle.json_spec.specs.ReadRule.{filters_in, domain_lists_in, lists_in, condition_of, as_id, id_of, priority_from, priority_of, condition_at, no_fields, no_lists, may_name_tabs, numbers_in, no_numbers, frames_in, tabs_in, rule_in, has_id, read_next, read_from, read_rules}
+use Rattle.json_spec.specs.ReadRule.{filters_in, domain_lists_in, lists_in, condition_of, as_id, id_of, priority_from, priority_of, condition_at, no_fields, no_lists, may_name_tabs, numbers_in, no_numbers, frames_in, header_tests_in, tabs_in, rule_in, has_id, read_next, read_from, read_rules}
 use Rattle.json_spec.specs.RulesFile.{rules_or_refusal, rules_in_tree, rules_of}
 use Rattle.json_spec.proofs.Trees.{tree_of_read}
 use Rattle.written_laws.specs.Normal.{normal, names_tabs}
@@ -30,7 +30,7 @@ use Rattle.written_laws.proofs.Objects.{found, text_back}
 use Rattle.written_laws.proofs.Sets.{both}
 use Rattle.written_laws.proofs.Values.{rule_fields, rules_back}
 use Rattle.written_laws.proofs.Fields.{fields_kept, fields_read}
-use Rattle.written_laws.proofs.Conditions.{filters_pass, lists_are_read, lists_pass, tabs_pass, condition_made}
+use Rattle.written_laws.proofs.Conditions.{filters_pass, lists_are_read, lists_pass, tests_pass, tabs_pass, condition_made}
 use Rattle.written_laws.proofs.Actions.{action_read}
 use Rattle.written_laws.proofs.Frames.{frames_pass}
 
@@ -105,6 +105,7 @@ module _ (rule : Rule) where
       let lists = lists_are_read c is.condition in
       let given = lists_pass c is.condition in
       let frames = frames_pass c rule.action is.action in
+      let tests = tests_pass c is.condition in
       let tabs = tabs_pass kind c may in
       let acts = action_read again c rule.action is.action in
       (λ i. unless_refused (first_refusal (
@@ -114,6 +115,7 @@ module _ (rule : Rule) where
       ∷ refusal_in (domain_lists_in (result_unwrap_or (fields i) no_fields))
       ∷ refusal_in (lists_in (result_unwrap_or (fields i) no_fields))
       ∷ refusal_in (frames_in (action i) (result_unwrap_or (fields i) no_fields))
+      ∷ refusal_in (header_tests_in (result_unwrap_or (fields i) no_fields))
       ∷ refusal_in (tabs_in kind (result_unwrap_or (fields i) no_fields))
       ∷ refusal_in (action_in (option_map_or groups_of (result_unwrap_or (fields i) no_fields).regex_filter None) (action i))
       ∷ []
@@ -130,6 +132,7 @@ module _ (rule : Rule) where
       ∷ refusal_in (lists i)
       ∷ refusal_in (given i)
       ∷ refusal_in (frames i)
+      ∷ refusal_in (tests i)
       ∷ refusal_in (tabs i)
       ∷ refusal_in (acts i)
       ∷ []
@@ -139,7 +142,7 @@ module _ (rule : Rule) where
         condition = condition_of kept (result_unwrap_or (lists i) no_lists);
         action = result_unwrap_or (acts i) block;
       }))
-      ∙ (λ i. Ok (record { id = rule.id; priority = rule.priority; condition = condition_made c i; action = rule.action }))
+      ∙ (λ i. Ok (record { id = rule.id; priority = rule.priority; condition = condition_made c is.condition i; action = rule.action }))
 
 -- ---- lists of rules
 

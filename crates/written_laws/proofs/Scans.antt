@@ -20,6 +20,7 @@ use Rattle.rule_spec.specs.declared.outcome.Outcome.TheVariants as outcome
 use Rattle.rule_spec.specs.Rule.{Action, block, redirect, allow, upgrade_scheme, modify_headers, allow_all_requests, verb_of, Rule}
 use Rattle.rule_spec.specs.Reaches.{holds_on_part, first_frame, by_first, through_frames, reach_of}
 use Rattle.rule_spec.specs.State.{RuleSet, Extension, State, Live, with_lines, live_in_set, has_number, live_of, live_from, live_with, live_rules}
+use Rattle.rule_spec.specs.Access.{has_access}
 use Rattle.rule_spec.specs.Scan.{may_act, is_candidate, candidates, candidate_of, deciding_of, unbeaten_of, winner_of, Decision, decision_of, list_of, decisions_from, winner_seen, deciding, Offer, name_of, offers_in, allowed_priority, greatest_allowed, changes_headers, comes_before, into_order, in_order, changing, offers_of, offers_from, named_op, taking_effect, NamedOp, is_on, named_ops, plain_verdict, with_ops, decided_target, decided, verdict_by, scan}
 use Rattle.written_laws.specs.Normal.{normal}
 use Rattle.written_laws.specs.Alike.{normal_set, normal_extension, normal_state, NormalStatesDecideAlike}
@@ -148,25 +149,28 @@ reached suffixes rule request =
     let frames = frames-reached suffixes rule request rule.action in
     λ i. if own i then Some Own else frames i
 
-acts : (extension : List ℕ) (rule : Rule) (action : Action) (view : View) → may_act extension (normal rule) action view ≡ may_act extension rule action view
-acts extension rule block view = refl
-acts extension rule (redirect target) view = refl
-acts extension rule allow view = refl
-acts extension rule upgrade_scheme view = refl
-acts extension rule (modify_headers request response) view = refl
-acts extension rule allow_all_requests view = refl
+acts : (extension : List ℕ) (access : Bool) (rule : Rule) (action : Action) (view : View)
+    → may_act extension access (normal rule) action view ≡ may_act extension access rule action view
+acts extension access rule block view = refl
+acts extension access rule (redirect target) view = refl
+acts extension access rule allow view = refl
+acts extension access rule upgrade_scheme view = refl
+acts extension access rule (modify_headers request response) view = refl
+acts extension access rule allow_all_requests view = refl
 
-is-candidate : (suffixes : List SuffixRule) (extension : List ℕ) (request : Request) (rule : Rule) → is_candidate suffixes extension request (normal rule) ≡ is_candidate suffixes extension request rule
-is-candidate suffixes extension request rule =
+is-candidate : (suffixes : List SuffixRule) (extension : List ℕ) (access : Bool) (request : Request) (rule : Rule)
+    → is_candidate suffixes extension access request (normal rule) ≡ is_candidate suffixes extension access request rule
+is-candidate suffixes extension access request rule =
     let reach = reached suffixes rule request in
-    let act = acts extension rule rule.action request.view in
+    let act = acts extension access rule rule.action request.view in
     λ i. is_some (reach i) && act i
 
 candidates-alike : (suffixes : List SuffixRule) (extension : Extension) (request : Request) → candidates suffixes (normal_extension extension) request ≡ map normal_live (candidates suffixes extension request)
 candidates-alike suffixes extension request =
-    ap (filter (λ live. is_candidate suffixes extension.name request live.rule)) (live-rules extension)
-    ∙ map-filter normal_live (λ live. is_candidate suffixes extension.name request live.rule) (λ live. is_candidate suffixes extension.name request live.rule)
-    (λ live. is-candidate suffixes extension.name request live.rule) (live_rules extension)
+    let access = has_access extension.access request in
+    ap (filter (λ live. is_candidate suffixes extension.name access request live.rule)) (live-rules extension)
+    ∙ map-filter normal_live (λ live. is_candidate suffixes extension.name access request live.rule) (λ live. is_candidate suffixes extension.name access request live.rule)
+    (λ live. is-candidate suffixes extension.name access request live.rule) (live_rules extension)
 
 -- ---- which rule decides
 

@@ -28,14 +28,15 @@ use Rattle.dnr_base.specs.declared.transform.Transform as changed
 use Rattle.dnr_base.specs.declared.query_transform.QueryTransform.{QueryTransform}
 use Rattle.dnr_base.specs.declared.query_pair.QueryPair.{QueryPair}
 use Rattle.dnr_spec.specs.Headers.{HeaderOp}
+use Rattle.dnr_spec.specs.HeaderTests.{HeaderTest}
 use Rattle.rule_spec.specs.Rule.{Condition, Action, block, redirect, allow, upgrade_scheme, modify_headers, allow_all_requests, Rule}
 use Rattle.rule_spec.specs.IsRule.{is_number, is_tab, AreTabs, IsCondition, IsRule}
 use Rattle.json_spec.specs.RuleFields.{kind_set, method_set}
-use Rattle.json_spec.specs.Written.{written_list, unless_empty, ascending_domains, ascending_tabs, domains_written, tab_written, tabs_written, kind_written, are_default, kinds_written, exclusion_of, exclusion_written, method_written, methods_written, party_written, condition_written, pair_written, changes_written, scheme_written, transform_written, redirect_written, operation_name, op_written, type_name, target_fields, action_written, rule_written}
-use Rattle.written_laws.specs.Texts.{condition_texts, pair_texts, changes_texts, transform_texts, redirect_texts, op_texts, action_texts, texts_of}
+use Rattle.json_spec.specs.Written.{written_list, unless_empty, ascending_domains, ascending_tabs, domains_written, tab_written, tabs_written, kind_written, are_default, kinds_written, exclusion_of, exclusion_written, method_written, methods_written, party_written, condition_written, pair_written, changes_written, scheme_written, transform_written, redirect_written, operation_name, op_written, type_name, target_fields, action_written, rule_written, test_written}
+use Rattle.written_laws.specs.Texts.{condition_texts, pair_texts, changes_texts, transform_texts, redirect_texts, op_texts, action_texts, texts_of, test_texts}
 use Rattle.written_laws.specs.Read.{WrittenTextsAreUtf8}
 use Rattle.written_laws.proofs.Sets.{both, set_all, tabs_all}
-use Rattle.written_laws.proofs.Values.{condition_fields, transform_fields, pair_fields, changes_fields, op_fields, action_fields, rule_fields}
+use Rattle.written_laws.proofs.Values.{condition_fields, transform_fields, pair_fields, changes_fields, op_fields, action_fields, rule_fields, header_test_fields}
 use Rattle.written_laws.proofs.Utf8.{IsText, AreFields, object_text, list_text, string_text, flag_text, number_text, negative_text}
 
 -- ---- texts
@@ -82,6 +83,16 @@ words-is form p list = list_text form list (everywhere (λ x. IsText (form x)) p
 given-is : {X : Type 0} (form : X → Data) → ((x : X) → IsText (form x)) → (o : Option X) → IfSome (option_map form o) IsText
 given-is form p None = tt
 given-is form p (Some x) = p x
+
+-- the texts of a list are those of its items
+each-part : {X : Type 0} (form : X → Data) (texts : X → List (List ℕ)) → ((x : X) → Are (texts x) → IsText (form x)) → (list : List X) → Are (flat_map texts list)
+    → AllByRecursion (λ x. IsText (form x)) list
+each-part form texts p [] h = tt
+each-part form texts p (x ∷ xs) h = let q = two (texts x) (flat_map texts xs) h in (p x q.0, each-part form texts p xs q.1)
+
+parts-is : {X : Type 0} (form : X → Data) (texts : X → List (List ℕ)) → ((x : X) → Are (texts x) → IsText (form x)) → (list : List X) → Are (flat_map texts list)
+    → IfSome (unless_empty (map form list)) IsText
+parts-is form texts p list h = some-is form list (list_text form list (each-part form texts p list h))
 
 -- ---- the condition
 
@@ -161,6 +172,21 @@ tabs-is : (o : Option (List ℤ)) → IfSome o AreTabs → IfSome (option_map ta
 tabs-is None h = tt
 tabs-is (Some tabs) h = tab_list-is tabs h
 
+values-is : (o : Option (List (List ℕ))) → Are (unwrap_or o []) → IfSome (option_map (written_list string) o) IsText
+values-is None h = tt
+values-is (Some list) h = list_text string list (each-is list h)
+
+test-is : (test : HeaderTest) → Are (test_texts test) → IsText (test_written test)
+test-is test h =
+    let name = both (is_utf8 test.name) (list_all is_utf8 (unwrap_or test.values [] ++ test.excluded)) h in
+    let values = two (unwrap_or test.values []) test.excluded name.1 in
+    object_text (header_test_fields test)
+    (refl, text-is test.name name.0, (refl, values-is test.values values.0, (refl, texts-is test.excluded values.1, tt)))
+
+tests-is : (o : Option (List HeaderTest)) → Are (flat_map test_texts (unwrap_or o [])) → IfSome (option_map (written_list test_written) o) IsText
+tests-is None h = tt
+tests-is (Some list) h = list_text test_written list (each-part test_written test_texts test-is list h)
+
 condition-is : (c : Condition) → IsCondition c → Are (condition_texts c) → IsText (condition_written c)
 unfolding condition_written
 condition-is c is h =
@@ -169,6 +195,8 @@ condition-is c is h =
     let initiators = two (unwrap_or c.initiators []) _ regex.1 in
     let not_initiators = two c.not_initiators _ initiators.1 in
     let hosts = two (unwrap_or c.hosts []) _ not_initiators.1 in
+    let not_hosts = two c.not_hosts _ hosts.1 in
+    let tests = two (flat_map test_texts (unwrap_or c.header_tests [])) _ not_hosts.1 in
     object_text (condition_fields c) (
       refl,
       option-is c.url_filter url.0,
@@ -192,7 +220,7 @@ condition-is c is h =
                   domains-is c.hosts hosts.0,
                   (
                     refl,
-                    texts-is (ascending_domains c.not_hosts) (ordered c.not_hosts hosts.1),
+                    texts-is (ascending_domains c.not_hosts) (ordered c.not_hosts not_hosts.0),
                     (
                       refl,
                       kinds-is c.kinds,
@@ -211,7 +239,11 @@ condition-is c is h =
                               (
                                 refl,
                                 some-is tab_written (ascending_tabs c.not_tabs) (tab_list-is c.not_tabs is.not_tabs),
-                                tt,
+                                (
+                                  refl,
+                                  tests-is c.header_tests tests.0,
+                                  (refl, parts-is test_written test_texts test-is c.not_header_tests tests.1, tt),
+                                ),
                               ),
                             ),
                           ),
@@ -234,15 +266,6 @@ pair-is pair h =
     let key = both (is_utf8 pair.key) (list_all is_utf8 (pair.value ∷ [])) h in
     let value = both (is_utf8 pair.value) true key.1 in
     object_text (pair_fields pair) (refl, text-is pair.key key.0, (refl, text-is pair.value value.0, (refl, flag_text pair.replace_only, tt)))
-
-each-part : {X : Type 0} (form : X → Data) (texts : X → List (List ℕ)) → ((x : X) → Are (texts x) → IsText (form x)) → (list : List X) → Are (flat_map texts list)
-    → AllByRecursion (λ x. IsText (form x)) list
-each-part form texts p [] h = tt
-each-part form texts p (x ∷ xs) h = let q = two (texts x) (flat_map texts xs) h in (p x q.0, each-part form texts p xs q.1)
-
-parts-is : {X : Type 0} (form : X → Data) (texts : X → List (List ℕ)) → ((x : X) → Are (texts x) → IsText (form x)) → (list : List X) → Are (flat_map texts list)
-    → IfSome (unless_empty (map form list)) IsText
-parts-is form texts p list h = some-is form list (list_text form list (each-part form texts p list h))
 
 changes-is : (o : Option QueryTransform) → Are (changes_texts o) → IfSome (option_map changes_written o) IsText
 changes-is None h = tt

@@ -15,17 +15,26 @@ use Rattle.dnr_base.specs.declared.transform.Transform as changed
 use Rattle.dnr_base.specs.declared.query_transform.QueryTransform.{QueryTransform}
 use Rattle.dnr_base.specs.declared.query_pair.QueryPair.{QueryPair}
 use Rattle.dnr_spec.specs.Headers.{HeaderOp}
+use Rattle.dnr_spec.specs.HeaderTests.{HeaderTest}
 use Rattle.rule_spec.specs.Rule.{Condition, Action, block, redirect, allow, upgrade_scheme, modify_headers, allow_all_requests, Rule}
 use Rattle.rule_spec.specs.IsRule.{is_number, is_tab, AreTabs, IsCondition, IsRule}
 use Rattle.json_spec.specs.RuleFields.{kind_set, method_set}
-use Rattle.json_spec.specs.Written.{Field, written_list, unless_empty, if_true, ascending_domains, ascending_tabs, domains_written, tab_written, tabs_written, kind_written, are_default, kinds_written, exclusion_of, exclusion_written, method_written, methods_written, party_written, filter_fields, domain_fields, kind_fields, method_fields, tab_fields, condition_written, pair_written, changes_written, scheme_written, place_fields, query_fields, end_fields, transform_written, redirect_written, operation_name, op_written, type_name, target_fields, action_written, rule_written, rules_written}
+use Rattle.json_spec.specs.Written.{Field, written_list, unless_empty, if_true, ascending_domains, ascending_tabs, domains_written, tab_written, tabs_written, kind_written, are_default, kinds_written, exclusion_of, exclusion_written, method_written, methods_written, party_written, filter_fields, domain_fields, kind_fields, method_fields, tab_fields, test_written, test_fields, condition_written, pair_written, changes_written, scheme_written, place_fields, query_fields, end_fields, transform_written, redirect_written, operation_name, op_written, type_name, target_fields, action_written, rule_written, rules_written}
 use Rattle.written_laws.proofs.Objects.{IsBack, FieldsBack, object_back, list_back}
 use Rattle.written_laws.proofs.Sets.{both, tabs_all}
 
 -- ---- the fields of objects
 
 abbrev pub condition_fields : Condition → List Field
-condition_fields c = filter_fields c ++ (domain_fields c ++ (kind_fields c ++ (method_fields c ++ tab_fields c)))
+condition_fields c =
+    filter_fields c ++ (domain_fields c ++ (kind_fields c ++ (method_fields c ++ (tab_fields c ++ test_fields c))))
+
+abbrev pub header_test_fields : HeaderTest → List Field
+header_test_fields test =
+    (codes "header", Some (string test.name))
+    ∷ (codes "values", option_map (written_list string) test.values)
+    ∷ (codes "excludedValues", unless_empty (map string test.excluded))
+    ∷ []
 
 abbrev pub transform_fields : changed.Transform → List Field
 transform_fields t = place_fields t ++ (query_fields t ++ end_fields t)
@@ -131,37 +140,51 @@ tabs_back : (n : ℕ) (o : Option (List ℤ)) → IfSome o AreTabs → IfSome (o
 tabs_back n None h = tt
 tabs_back n (Some tabs) h = tab_list_back n tabs h
 
-condition_back : (c : Condition) → IsCondition c → IsBack 2 (condition_written c)
+test_back : (test : HeaderTest) → IsBack 2 (test_written test)
+test_back test =
+    object_back 1 (header_test_fields test) (
+      text_back 1 test.name,
+      (given_back 1 (written_list string) (λ list. each_back 0 string (text_back 0) list) test.values, (texts_back 0 test.excluded, tt)),
+    )
+
+condition_back : (c : Condition) → IsCondition c → IsBack 4 (condition_written c)
 unfolding condition_written
 condition_back c is =
-    let method_list_back = λ (list : List Method). each_back 0 method_written (λ method. text_back 0 _) list in
-    object_back 1 (condition_fields c) (
-      given_text_back 1 c.url_filter,
+    let method_list_back = λ (list : List Method). each_back 2 method_written (λ method. text_back 2 _) list in
+    let test_list_back = λ (list : List HeaderTest). each_back 2 test_written test_back list in
+    object_back 3 (condition_fields c) (
+      given_text_back 3 c.url_filter,
       (
-        given_text_back 1 c.regex_filter,
+        given_text_back 3 c.regex_filter,
         (
-          flag_back 1 c.case_sensitive,
+          flag_back 3 c.case_sensitive,
           (
-            given_back 1 party_written (party_back 1) c.third_party,
+            given_back 3 party_written (party_back 3) c.third_party,
             (
-              domains_back 0 c.initiators,
+              domains_back 2 c.initiators,
               (
-                texts_back 0 (ascending_domains c.not_initiators),
+                texts_back 2 (ascending_domains c.not_initiators),
                 (
-                  domains_back 0 c.hosts,
+                  domains_back 2 c.hosts,
                   (
-                    texts_back 0 (ascending_domains c.not_hosts),
+                    texts_back 2 (ascending_domains c.not_hosts),
                     (
-                      kinds_back 0 c.kinds,
+                      kinds_back 2 c.kinds,
                       (
-                        excluded_back 0 c.kinds,
+                        excluded_back 2 c.kinds,
                         (
-                          given_back 1 methods_written (λ list. method_list_back (method_set list)) c.methods,
+                          given_back 3 methods_written (λ list. method_list_back (method_set list)) c.methods,
                           (
-                            some_back 0 method_written (method_set c.not_methods) (method_list_back (method_set c.not_methods)),
+                            some_back 2 method_written (method_set c.not_methods) (method_list_back (method_set c.not_methods)),
                             (
-                              tabs_back 0 c.tabs is.tabs.1,
-                              (some_back 0 tab_written (ascending_tabs c.not_tabs) (tab_list_back 0 c.not_tabs is.not_tabs), tt),
+                              tabs_back 2 c.tabs is.tabs.1,
+                              (
+                                some_back 2 tab_written (ascending_tabs c.not_tabs) (tab_list_back 2 c.not_tabs is.not_tabs),
+                                (
+                                  given_back 3 (written_list test_written) test_list_back c.header_tests,
+                                  (some_back 2 test_written c.not_header_tests (test_list_back c.not_header_tests), tt),
+                                ),
+                              ),
                             ),
                           ),
                         ),
@@ -251,7 +274,7 @@ rule_back rule is =
       (
         number_back 6 rule.priority (small rule.priority is.priority),
         (
-          deeper 2 6 (condition_written rule.condition) (omega arith) (condition_back rule.condition is.condition),
+          deeper 4 6 (condition_written rule.condition) (omega arith) (condition_back rule.condition is.condition),
           (action_back rule.action, tt),
         ),
       ),

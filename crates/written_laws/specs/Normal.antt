@@ -6,15 +6,11 @@ use Rattle.json_spec.specs.RuleFields.{kind_set, method_set}
 use Rattle.json_spec.specs.Written.{ascending_domains, ascending_tabs}
 
 abbrev pub normal_condition : Condition → Condition
-normal_condition c = record {
-  url_filter = c.url_filter;
-  regex_filter = c.regex_filter;
-  case_sensitive = c.case_sensitive;
+normal_condition c = record c {
   initiators = option_map ascending_domains c.initiators;
   not_initiators = ascending_domains c.not_initiators;
   hosts = option_map ascending_domains c.hosts;
   not_hosts = ascending_domains c.not_hosts;
-  third_party = c.third_party;
   kinds = kind_set c.kinds;
   methods = option_map method_set c.methods;
   not_methods = method_set c.not_methods;

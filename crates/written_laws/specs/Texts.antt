@@ -6,11 +6,20 @@ use Rattle.dnr_base.specs.declared.transform.Transform.{Transform}
 use Rattle.dnr_base.specs.declared.query_transform.QueryTransform.{QueryTransform}
 use Rattle.dnr_base.specs.declared.query_pair.QueryPair.{QueryPair}
 use Rattle.dnr_spec.specs.Headers.{HeaderOp}
+use Rattle.dnr_spec.specs.HeaderTests.{HeaderTest}
 use Rattle.rule_spec.specs.Rule.{Condition, Action, block, redirect, allow, upgrade_scheme, modify_headers, allow_all_requests, Rule}
 
+abbrev pub test_texts : HeaderTest → List (List ℕ)
+test_texts test = test.name ∷ (unwrap_or test.values [] ++ test.excluded)
+
+abbrev pub tests_texts : Condition → List (List ℕ)
+tests_texts c = flat_map test_texts (unwrap_or c.header_tests []) ++ flat_map test_texts c.not_header_tests
+
+abbrev pub domain_texts : Condition → List (List ℕ)
+domain_texts c = unwrap_or c.initiators [] ++ (c.not_initiators ++ (unwrap_or c.hosts [] ++ (c.not_hosts ++ tests_texts c)))
+
 abbrev pub condition_texts : Condition → List (List ℕ)
-condition_texts c =
-    option_to_list c.url_filter ++ (option_to_list c.regex_filter ++ (unwrap_or c.initiators [] ++ (c.not_initiators ++ (unwrap_or c.hosts [] ++ c.not_hosts))))
+condition_texts c = option_to_list c.url_filter ++ (option_to_list c.regex_filter ++ domain_texts c)
 
 abbrev pub pair_texts : QueryPair → List (List ℕ)
 pair_texts pair = pair.key ∷ pair.value ∷ []
