@@ -1,89 +1,15 @@
-//! Stand-in for the types.
+//! Tests of response headers: read once, then asked whether they hold on the headers of a response.
+//!
+//! Which texts are patterns of values, what they fit and when a test holds stands in `dnr_spec`,
+//! `specs/HeaderTests.antt`.
 #![tactic(auto)]
 
-ghost use Rattle.std.specs.Prelude.{◌≡◌, IfOk, []};
-ghost use Rattle.dnr_spec.specs.HeaderTests.{some_test_holds};
+mod header_test;
+#[cfg(test)]
+mod tests;
+mod value_pattern;
+mod words;
 
-use dnr_base::{Copied, Header, Items, NoMemory, Text};
-use std::alloc::Global;
-use std::marker::Model;
-
-/// A pattern.
-#[derive(Debug, Drop)]
-pub struct ValuePattern {
-    text: Text,
-}
-
-impl Model for ValuePattern {
-    ghost use Rattle.std.specs.Prelude.{◌≡◌, ℕ, List, true};
-    ghost use Rattle.dnr_spec.specs.HeaderTests.{is_value_pattern};
-
-    ghost Value = { List ℕ };
-
-    ghost view = { λ p. p.text };
-
-    ghost invariant = { λ p. is_value_pattern p.text ≡ true };
-}
-
-impl ValuePattern {
-    /// An equal pattern.
-    pub fn copy(&self, alloc: Global) -> Result<ValuePattern, NoMemory>
-        ensures { IfOk result (λ copy. copy ≡ self.now) }
-    {
-        let text = self.text.copy(alloc)?;
-        Ok(ValuePattern { text })
-    }
-}
-
-impl Copied for ValuePattern {
-    fn copied(&self, alloc: Global) -> Result<ValuePattern, NoMemory> {
-        self.copy(alloc)
-    }
-}
-
-/// A test.
-#[derive(Debug, Drop)]
-pub struct HeaderTest {
-    /// Its name.
-    pub name: Text,
-    /// Its values.
-    pub values: Option<Items<ValuePattern>>,
-    /// Excluded.
-    pub excluded: Items<ValuePattern>,
-}
-
-impl Model for HeaderTest {
-    ghost use Rattle.dnr_spec.specs.HeaderTests as spec;
-
-    ghost Value = { spec.HeaderTest };
-
-    ghost view = { λ t. record { name = t.name; values = t.values; excluded = t.excluded } };
-}
-
-impl HeaderTest {
-    /// An equal test.
-    pub fn copy(&self, alloc: Global) -> Result<HeaderTest, NoMemory>
-        ensures { IfOk result (λ copy. copy ≡ self.now) }
-    {
-        Ok(HeaderTest {
-            name: self.name.copy(alloc)?,
-            values: Copied::copied(&self.values, alloc)?,
-            excluded: self.excluded.copy(alloc)?,
-        })
-    }
-}
-
-impl Copied for HeaderTest {
-    fn copied(&self, alloc: Global) -> Result<HeaderTest, NoMemory> {
-        self.copy(alloc)
-    }
-}
-
-/// Whether one of them holds.
-pub fn some_holds(tests: &[HeaderTest], headers: &[Header]) -> bool
-    requires { tests.now ≡ [] }
-    ensures { result ≡ some_test_holds tests.now headers.now }
-{
-    let _ = headers;
-    false
-}
+pub use dnr_spec::{NoMemory, ValueRefusal};
+pub use header_test::{HeaderTest, some_holds};
+pub use value_pattern::ValuePattern;

@@ -1,46 +1,15 @@
-//! Stand-in for the types.
+//! Match patterns: read once, then asked whether they fit a URL, and whether they cover a host.
+//!
+//! What they fit stands in `dnr_spec`, `specs/MatchPatterns.antt`.
 #![tactic(auto)]
 
-ghost use Rattle.std.specs.Prelude.{◌≡◌, IfOk};
+mod hosts;
+mod parts;
+mod path;
+mod pattern;
+mod stars;
+#[cfg(test)]
+mod tests;
 
-use dnr_base::{Copied, NoMemory, Text};
-use std::alloc::Global;
-use std::marker::Model;
-
-/// A pattern.
-#[derive(Debug, Drop)]
-pub struct MatchPattern {
-    text: Text,
-}
-
-impl Model for MatchPattern {
-    ghost use Rattle.std.specs.Prelude.{ℕ, List};
-
-    ghost Value = { List ℕ };
-
-    ghost view = { λ p. p.text };
-}
-
-impl MatchPattern {
-    /// Any text.
-    pub fn read(alloc: Global, text: &str) -> Result<MatchPattern, NoMemory>
-        ensures { IfOk result (λ pattern. pattern ≡ text.now) }
-    {
-        let text = Text::build(String::from_str(alloc, text)?);
-        Ok(MatchPattern { text })
-    }
-
-    /// An equal pattern.
-    pub fn copy(&self, alloc: Global) -> Result<MatchPattern, NoMemory>
-        ensures { IfOk result (λ copy. copy ≡ self.now) }
-    {
-        let text = self.text.copy(alloc)?;
-        Ok(MatchPattern { text })
-    }
-}
-
-impl Copied for MatchPattern {
-    fn copied(&self, alloc: Global) -> Result<MatchPattern, NoMemory> {
-        self.copy(alloc)
-    }
-}
+pub use dnr_spec::NoMemory;
+pub use pattern::MatchPattern;

@@ -1,0 +1,85 @@
+// The parts of a pattern `scheme://host/path`.
+ghost use Rattle.std.specs.Prelude.{◌≡◌, drop};
+ghost use Rattle.dnr_spec.specs.MatchPatterns as spec;
+ghost use Rattle.match_patterns.specs.Parts.{parts_seen};
+
+use crate::hosts::{covers_host, is_host_part};
+use crate::path::fits_path;
+use crate::stars::place_of;
+use dnr_base::{Scheme, View};
+
+// The texts of the parts; the path begins with its `/`.
+#[derive(Clone, Copy)]
+pub(crate) struct Parts<'a> {
+    pub scheme: &'a [u8],
+    pub host: &'a [u8],
+    pub path: &'a [u8],
+}
+
+fn is_web(scheme: Scheme) -> bool
+    ensures { result ≡ spec.is_web scheme }
+{
+    matches!(scheme, Scheme::Http | Scheme::Https)
+}
+
+fn fits_scheme(text: &[u8], scheme: Scheme) -> bool
+    ensures { result ≡ spec.fits_scheme text.now scheme }
+{
+    if text == b"*".as_slice() {
+        is_web(scheme)
+    } else {
+        text == scheme.name().as_bytes()
+    }
+}
+
+fn is_scheme_part(text: &[u8]) -> bool
+    ensures { result ≡ spec.is_scheme_part text.now }
+{
+    Scheme::ALL.iter().any(|scheme| fits_scheme(text, *scheme))
+}
+
+// What should be the two slashes, and all behind them.
+fn behind_scheme(text: &[u8]) -> &[u8]
+    ensures { result.now ≡ spec.from 58 text.now }
+{
+    &text[place_of(b':', text)..]
+}
+
+// The parts of the text, if it has the form of a pattern.
+pub(crate) fn parts_of(text: &[u8]) -> Parts<'_>
+    ensures { parts_seen result ≡ spec.cut_parts text.now }
+{
+    let (scheme, behind) = text.split_at(place_of(b':', text));
+    let rest = &behind[behind.len().min(3)..];
+    let (host, path) = rest.split_at(place_of(b'/', rest));
+    Parts { scheme, host, path }
+}
+
+// Whether the text has the form of a pattern.
+pub(crate) fn has_parts(text: &[u8]) -> bool
+    ensures { result ≡ spec.has_parts text.now }
+{
+    let parts = parts_of(text);
+    behind_scheme(text).starts_with(b"://")
+        && is_scheme_part(parts.scheme)
+        && is_host_part(parts.host)
+        && !parts.path.is_empty()
+}
+
+// What stands in the URL behind its authority, without the fragment.
+fn behind_authority(view: &View) -> &[u8]
+    ensures { result.now ≡ spec.behind_authority view.now }
+{
+    let rest = &view.text().as_bytes()[view.host_span().end..];
+    let place = rest.iter().position(|b| *b == b'/' || *b == b'?');
+    &rest[place.unwrap_or(rest.len())..]
+}
+
+// Whether the parts fit the URL.
+pub(crate) fn parts_fit(parts: Parts<'_>, view: &View) -> bool
+    ensures { result ≡ spec.parts_fit view.now (parts_seen parts) }
+{
+    fits_scheme(parts.scheme, view.scheme())
+        && covers_host(parts.host, view.host())
+        && fits_path(parts.path, behind_authority(view))
+}

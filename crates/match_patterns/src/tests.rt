@@ -1,0 +1,2 @@
+//! Which URLs and hosts a pattern fits and covers.
+use crate::MatchPattern;
