@@ -13,3 +13,4 @@ mod tests;
 
 pub use head::{Head, Opened};
 pub use log::{Log, agree};
+pub use rule::{EntryOf, Itself};

@@ -2,7 +2,7 @@ ghost use Rattle.std.specs.Prelude.{◌≡◌, ◌≤◌, ◌++◌, ◌∷◌, [
 ghost use mathlib.Core.List.{IsPrefix};
 
 use crate::Head;
-use crate::rule::{Add, Growing, Nothing};
+use crate::rule::{Add, EntryOf, Growing, Nothing};
 use logbook::{Offer, Seen};
 use std::marker::Model;
 
@@ -60,24 +60,24 @@ impl<E> Log<E> {
         other.count <= self.count
     }
 
-    /// Adds an entry to the history, and gives the log that has it as its last one.
+    /// Adds the entry that a value stands for to the history, and gives the log that has it as its last one.
     ///
     /// `None`: the history has gone on without this log, or has 4,294,967,295 entries.
-    pub fn with(&self, head: &Head<E>, entry: &E) -> Option<Log<E>>
+    pub fn with<X, M: EntryOf<X, E>>(&self, head: &Head<E>, value: &X) -> Option<Log<E>>
         requires { head.now ≡ self.now.book }
         ensures { IfSome result (λ log. log
-            ≡ record { book = self.now.book; list = self.now.list ++ entry.now ∷ [] }) }
+            ≡ record { book = self.now.book; list = self.now.list ++ M.entry value.now ∷ [] }) }
     {
         if self.count == u32::MAX {
             return None;
         }
         let mut seen = self.seen.again();
-        let mut offer: Offer<E, u64, Growing, Nothing> = seen.plain::<Nothing, E, Add>(entry);
+        let mut offer: Offer<E, u64, Growing, Nothing> = seen.plain::<Nothing, X, Add<M>>(value);
         let mut pen = seen.no_pen();
         let count = u64::from(self.count);
         let found = head
             .word
-            .compare_exchange::<Add, Nothing>(count, count + 1, &mut seen, &mut offer, &mut pen);
+            .compare_exchange::<Add<M>, Nothing>(count, count + 1, &mut seen, &mut offer, &mut pen);
         if found != count {
             return None;
         }

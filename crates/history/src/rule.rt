@@ -1,4 +1,5 @@
 use logbook::{Gain, Plain, Play, Rule};
+use std::marker::PhantomData;
 
 // The rule of a history: its word is its length.
 pub struct Growing;
@@ -30,19 +31,33 @@ impl<E> Gain<E, u64> for Nothing {
     ghost after = { λ names about answer. ftrue };
 }
 
-// The one step of a history.
-pub struct Add;
+/// What entry a value stands for, where one is added for it.
+pub trait EntryOf<X, E> {
+    ghost entry: { X → E };
+}
 
-impl<E> Play<E, u64> for Add {
+/// Each value is an entry itself.
+pub struct Itself;
+
+impl<E> EntryOf<E, E> for Itself {
+    ghost entry = { λ entry. entry };
+}
+
+// The one step of a history: it adds the entry that M says.
+pub struct Add<M> {
+    by: PhantomData<M>,
+}
+
+impl<E, M> Play<E, u64> for Add<M> {
     ghost use Rattle.history.specs.History.{Adds};
 
     ghost then = { Adds };
 }
 
-impl<E> Plain<E, E, u64> for Add {
+impl<X, E, M: EntryOf<X, E>> Plain<X, E, u64> for Add<M> {
     ghost use Rattle.std.specs.Prelude.{None};
 
-    ghost ask = { λ entry. entry };
+    ghost ask = { M.entry };
 
-    ghost state = { λ entry. None };
+    ghost state = { λ value. None };
 }

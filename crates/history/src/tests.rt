@@ -1,15 +1,17 @@
-use crate::{Opened, agree};
+use crate::{Itself, Opened, agree};
 
 fn is_shared<T: Send + Sync>(_: &T) {}
 
 #[test]
 fn logs_grow_by_the_head_alone(rt: HostRuntime) {
     let (head, empty) = Opened::<u64>::new().parts();
-    let one = empty.with(&head, &7).unwrap_or(empty.again());
-    let two = one.with(&head, &8).unwrap_or(empty.again());
+    let one = empty
+        .with::<u64, Itself>(&head, &7)
+        .unwrap_or(empty.again());
+    let two = one.with::<u64, Itself>(&head, &8).unwrap_or(empty.again());
     assert_eq!(rt; (empty.len(), one.len(), two.len()), (0, 1, 2));
     // The history has gone on without this log.
-    assert!(rt; one.with(&head, &9).is_none());
+    assert!(rt; one.with::<u64, Itself>(&head, &9).is_none());
     agree(&one, &two);
     let rows = [
         (two.covers(&one), true),

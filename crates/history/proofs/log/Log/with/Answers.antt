@@ -15,5 +15,5 @@ compare_exchange-found-requires g c =
       same ∙ sym (ap (λ w. w.book) word),
       pen.0 ∙ (same ∙ sym (ap (λ w. w.book) word)),
       offer.0,
-      rw (ap (λ w. w.key) word, pen.1, offer.1, offer.3, c.from-count.ensures) (moves c.again-seen.result.log c.args.entry.now c.self.inside.count long),
+      rw (ap (λ w. w.key) word, pen.1, offer.1, offer.3, c.from-count.ensures) (moves c.again-seen.result.log _ c.self.inside.count long),
     )
