@@ -5,3 +5,4 @@ pub mod Filled
 pub mod Apart
 pub mod Whole
 pub mod Asked
+pub mod Keeping

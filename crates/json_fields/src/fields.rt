@@ -50,8 +50,8 @@ pub fn read_fields<'a>(
     }
 }
 
-// The same of a text.
-fn text_fields<'a>(
+/// The same of a text.
+pub fn text_fields<'a>(
     alloc: Global,
     text: &'a str,
     scratch: &'a mut Scratch,

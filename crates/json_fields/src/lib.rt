@@ -6,6 +6,7 @@
 //! last field, nothing is read here either, and of a repeated key the last value counts.
 #![tactic(auto)]
 
+mod chosen;
 mod field;
 mod fields;
 mod held;
@@ -15,8 +16,9 @@ mod passed;
 mod tests;
 mod tree;
 
+pub use chosen::next_chosen;
 pub use field::Field;
-pub use fields::{Form, read_fields};
+pub use fields::{Form, read_fields, text_fields};
 pub use held::Held;
 pub use number::read_number;
 pub use passed::pass_value;
