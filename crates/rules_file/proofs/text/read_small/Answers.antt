@@ -10,7 +10,7 @@ use Rattle.rule_spec.specs.Rule.{Rule}
 use Rattle.json_spec.specs.ReadRule.{read_rules}
 use Rattle.rule_read.specs.Reading.{MayStop}
 use Rattle.rules_file.specs.Reading.{Answers}
-use Rattle.rules_file.proofs.text.read_whole.Goals as goal
+use Rattle.rules_file.proofs.text.read_small.Goals as goal
 
 answer_is : (kind : RuleKind) (d : Data) (rose : Type 0) (result : Result (Vec Rule Global) PlacedRefusal) → IfOk result (λ rules. read_rules kind d ≡ Ok rules.items) → IfErr result (MayStop kind (as_array d) rose)
     → Answers kind (as_array d) rose result
