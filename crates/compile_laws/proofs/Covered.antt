@@ -16,7 +16,7 @@ use Rattle.compile_laws.proofs.Lists.{true_or_false}
 abbrev pub Covered : List ℕ → List ℕ → Type 0
 Covered entry host = (entry ≡ host) ⊎ ((front : List ℕ) × (is_ip_host host ≡ false) × (host ≡ front ++ 46 ∷ entry))
 
-take_and_drop : (n : ℕ) (xs : List ℕ) → xs ≡ take n xs ++ drop n xs
+pub take_and_drop : (n : ℕ) (xs : List ℕ) → xs ≡ take n xs ++ drop n xs
 take_and_drop zero xs = refl
 take_and_drop (suc n) [] = refl
 take_and_drop (suc n) (x ∷ xs) = ap (λ (rest : List ℕ). x ∷ rest) (take_and_drop n xs)
