@@ -1,17 +1,17 @@
 -- Filters that are alike.
-use Rattle.std.proofs.Common.{◌≡◌, ℕ, List, [], ◌∷◌, Bool, true, false, not, ◌&&◌, Option, Some, None, refl, sym, ap, ◌∙◌, subst}
+use Rattle.std.proofs.Common.{◌≡◌, ℕ, zero, suc, List, [], ◌∷◌, Bool, true, false, not, ◌&&◌, Option, Some, None, refl, sym, ap, ◌∙◌, subst}
 use Rattle.std.specs.Prelude.{slice_get, is_some}
+use Rattle.std.specs.List.{list_all}
 use Rattle.std.specs.Cmp.Lexicographic.{pointwise, pointwise_decides}
 use Rattle.std.specs.Option.{option_eq}
 use Rattle.std.specs.Str.{bytes_eq}
-use Rattle.std.proofs.lemmas.Bool.{and_parts, and_from, eqb-true}
-use Rattle.std.proofs.lemmas.Bool.Decides.{Decides-eqb}
+use Rattle.std.proofs.lemmas.Bool.{and_parts, and_from}
 use Rattle.std.proofs.lemmas.Slice.Eq.{bytes_eq-Decides}
 use Rattle.dnr_base.specs.declared.kind.Kind.{Kind}
 use Rattle.dnr_base.specs.declared.kind.Kind.TheVariants.{MainFrame, SubFrame, Stylesheet, Script, Image, Font, Object, XmlHttpRequest, Ping, CspReport, Media, WebSocket, WebTransport, WebBundle, Other}
-use Rattle.dnr_base.specs.Kind.{all_kinds, place_of, same_kind}
+use Rattle.dnr_base.specs.Kind.{all_kinds, place_of, has_kind}
 use Rattle.list_spec.specs.LineKind.{FilterLine}
-use Rattle.compile_spec.specs.Alike.{plain_domain, set_of_entries, same_answer, agree, alike}
+use Rattle.compile_spec.specs.Alike.{plain_domain, set_of_entries, same_answer, same_types, agree, alike}
 
 -- ---- tests of equality
 
@@ -55,18 +55,28 @@ kind_at_place Other = refl
 some_same : {X : Type 0} {x y : X} → Some x ≡ Some y → x ≡ y
 some_same h = cc
 
-kinds_decide : (one other : Kind) → (same_kind one other ≡ true → one ≡ other) × (one ≡ other → same_kind one other ≡ true)
-kinds_decide one other = (
-  λ h. some_same (sym (kind_at_place one) ∙ ap (slice_get all_kinds) (eqb-true (place_of one) (place_of other) h) ∙ kind_at_place other),
-  λ e. (Decides-eqb (place_of one) (place_of other)).1 (ap place_of e),
-)
+passes_at : {X : Type 0} (test : X → Bool) (xs : List X) (place : ℕ) (x : X) → list_all test xs ≡ true → slice_get xs place ≡ Some x → test x ≡ true
+passes_at test [] place x h at = cc
+passes_at test (y ∷ ys) zero x h at = ap test (some_same (sym at)) ∙ (and_parts (test y) (list_all test ys) h).0
+passes_at test (y ∷ ys) (suc place) x h at = passes_at test ys place x (and_parts (test y) (list_all test ys) h).1 at
+
+types_same : (one other : List Kind) → same_types one other ≡ true → (kind : Kind) → has_kind one kind ≡ has_kind other kind
+types_same one other h kind =
+    same_answers (has_kind one kind) (has_kind other kind) (passes_at (λ k. same_answer (has_kind one k) (has_kind other k)) all_kinds (place_of kind) kind h (kind_at_place kind))
+
+types_itself : (one : List Kind) → same_types one one ≡ true
+types_itself one = go all_kinds
+  where
+    go : (kinds : List Kind) → list_all (λ kind. same_answer (has_kind one kind) (has_kind one kind)) kinds ≡ true
+    go [] = refl
+    go (kind ∷ kinds) = and_from _ _ (answer_itself (has_kind one kind)) (go kinds)
 
 -- ---- what alike filters have in common
 
 pub record Agrees (one other : FilterLine) : Type 0 where
   pub exception : one.exception ≡ other.exception
   pub third_party : one.third_party ≡ other.third_party
-  pub kinds : one.kinds ≡ other.kinds
+  pub kinds : (kind : Kind) → has_kind one.kinds kind ≡ has_kind other.kinds kind
   pub document : one.document ≡ other.document
   pub domains : set_of_entries one.domains ≡ set_of_entries other.domains
 
@@ -74,7 +84,7 @@ pub reads_agree : (one other : FilterLine) → agree one other ≡ true → Agre
 reads_agree one other h =
     let e = same_answer one.exception other.exception in
     let p = option_eq same_answer one.third_party other.third_party in
-    let k = pointwise same_kind one.kinds other.kinds in
+    let k = same_types one.kinds other.kinds in
     let d = same_answer one.document other.document in
     let s = pointwise bytes_eq (set_of_entries one.domains) (set_of_entries other.domains) in
     let a = and_parts (e && p && k && d) s h in
@@ -84,7 +94,7 @@ reads_agree one other h =
     record {
       exception = same_answers one.exception other.exception f.0;
       third_party = same_parties one.third_party other.third_party f.1;
-      kinds = (pointwise_decides kinds_decide one.kinds other.kinds).0 c.1;
+      kinds = types_same one.kinds other.kinds c.1;
       document = same_answers one.document other.document b.1;
       domains = (pointwise_decides bytes_eq-Decides (set_of_entries one.domains) (set_of_entries other.domains)).0 a.1;
     }
@@ -93,19 +103,19 @@ pub agree_itself : (one : FilterLine) → agree one one ≡ true
 agree_itself one =
     let e = same_answer one.exception one.exception in
     let p = option_eq same_answer one.third_party one.third_party in
-    let k = pointwise same_kind one.kinds one.kinds in
+    let k = same_types one.kinds one.kinds in
     let d = same_answer one.document one.document in
     let s = pointwise bytes_eq (set_of_entries one.domains) (set_of_entries one.domains) in
     and_from (e && p && k && d) s
     (and_from (e && p && k) d
-    (and_from (e && p) k (and_from e p (answer_itself one.exception) (party_itself one.third_party)) ((pointwise_decides kinds_decide one.kinds one.kinds).1 refl))
+    (and_from (e && p) k (and_from e p (answer_itself one.exception) (party_itself one.third_party)) (types_itself one.kinds))
     (answer_itself one.document))
     ((pointwise_decides bytes_eq-Decides (set_of_entries one.domains) (set_of_entries one.domains)).1 refl)
 
 -- equal in what counts, they agree with the same filters
 agree_alike : (one other third : FilterLine) → Agrees one other → agree one third ≡ agree other third
 agree_alike one other third a = λ i.
-    same_answer (a.exception i) third.exception && option_eq same_answer (a.third_party i) third.third_party && pointwise same_kind (a.kinds i) third.kinds && same_answer (a.document i) third.document
+    same_answer (a.exception i) third.exception && option_eq same_answer (a.third_party i) third.third_party && list_all (λ kind. same_answer (a.kinds kind i) (has_kind third.kinds kind)) all_kinds && same_answer (a.document i) third.document
     && pointwise bytes_eq (a.domains i) (set_of_entries third.domains)
 
 agree_turned : (one other : FilterLine) → Agrees one other → agree other one ≡ true

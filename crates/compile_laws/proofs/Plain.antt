@@ -1,6 +1,6 @@
 -- Plain domains, and texts in ascending order.
 use Rattle.std.proofs.Common.{◌≡◌, ℕ, zero, suc, ◌+◌, ◌-◌, ◌≤◌, ◌<◌, List, [], ◌∷◌, ◌++◌, length, map, take, drop, Bool, true, false, cond, ◌&&◌, ◌||◌, Option, Some, None, ◌⊎◌, inl, inr, refl, sym, ap, ◌∙◌, subst, ⊎_elim, arith}
-use Rattle.std.specs.Prelude.{codes, nat_le, nat_lt, nat_eq}
+use Rattle.std.specs.Prelude.{codes, fold, nat_le, nat_lt, nat_eq, option_and_then}
 use Rattle.std.specs.BTreeSet.{insert_key}
 use Rattle.std.specs.Char.{to_ascii_lowercase}
 use Rattle.std.specs.Cmp.Lexicographic.{slice_cmp}
@@ -18,7 +18,7 @@ use Rattle.dnr_base.specs.View.{is_name_byte}
 use Rattle.dnr_spec.specs.Hosts.{labels_of}
 use Rattle.dnr_spec.specs.Domains.{is_domain, lower_case}
 use Rattle.list_spec.specs.LineKind.{FilterPattern, every_url, plain, regex}
-use Rattle.compile_spec.specs.Alike.{ends_in_letters, is_plain_domain, between_anchors, is_domain_pattern, plain_domain, ascending}
+use Rattle.compile_spec.specs.Alike.{ends_in_letters, is_plain_domain, behind_bars, before_caret, if_plain, plain_domain, ascending}
 use Rattle.compile_laws.proofs.Lists.{Has, In, has_in, in_each, each_in}
 use Rattle.compile_laws.proofs.Covered.{take_and_drop}
 
@@ -35,7 +35,7 @@ is_plain domain h =
     let b = and_parts (list_all is_name_byte domain) (is_domain domain) a.0 in
     record { bytes = b.0; domain = b.1; letters = a.1 }
 
-byte_lower : (b : ℕ) → is_name_byte b ≡ true → to_ascii_lowercase b ≡ b
+pub byte_lower : (b : ℕ) → is_name_byte b ≡ true → to_ascii_lowercase b ≡ b
 byte_lower b h = grind (arith, nat_tests, h)
 
 pub plain_lower : (domain : List ℕ) → list_all is_name_byte domain ≡ true → lower_case domain ≡ domain
@@ -51,39 +51,26 @@ kept_if : (b : Bool) (x domain : List ℕ) → cond b (Some x) None ≡ Some dom
 kept_if true x domain h = (refl, cc)
 kept_if false x domain h = cc
 
-drop_none : (n : ℕ) → drop {A = ℕ} n [] ≡ []
-drop_none zero = refl
-drop_none (suc n) = refl
-
-past_two : (n m : ℕ) (text : List ℕ) → m ≡ suc (suc n) → drop n (drop 2 text) ≡ drop m text
-past_two n m [] e = drop_none n ∙ sym (drop_none m)
-past_two n m (a ∷ []) e = drop_none n ∙ sym (ap (λ k. drop k (a ∷ [])) e ∙ drop_none (suc n))
-past_two n m (a ∷ b ∷ text) e = sym (ap (λ k. drop k (a ∷ b ∷ text)) e)
-
-some_between : (text : List ℕ) → is_domain (between_anchors text) ≡ true → 3 < length text
-some_between [] h = cc
-some_between (a ∷ []) h = cc
-some_between (a ∷ b ∷ []) h = cc
-some_between (a ∷ b ∷ c ∷ []) h = cc
-some_between (a ∷ b ∷ c ∷ d ∷ text) h = omega arith
-
-anchored : (text : List ℕ) → starts_with nat_eq text (codes "||") ≡ true → ends_with nat_eq text (codes "^") ≡ true → 3 < length text → text ≡ codes "||" ++ between_anchors text ++ codes "^"
-anchored text s e long =
-    let front : codes "||" ≡ take 2 text = (bytes_eq-Decides (codes "||") (take 2 text)).0 s in
-    let behind : codes "^" ≡ drop (length text - 1) text = (bytes_eq-Decides (codes "^") (drop (length text - 1) text)).0 e in
-    let place : length text - 1 ≡ suc (suc (length text - 3)) = omega arith in
-    take_and_drop 2 text ∙ (λ i. sym front i ++ drop 2 text)
-    ∙ ap (λ rest. codes "||" ++ rest) (take_and_drop (length text - 3) (drop 2 text) ∙ ap (λ rest. between_anchors text ++ rest) (past_two (length text - 3) (length text - 1) text place ∙ sym behind))
+then_some : (f : List ℕ → Option (List ℕ)) (o : Option (List ℕ)) (domain : List ℕ) → option_and_then f o ≡ Some domain → (x : List ℕ) × (o ≡ Some x) × (f x ≡ Some domain)
+then_some f None domain h = cc
+then_some f (Some x) domain h = (x, refl, h)
 
 pub has_domain : (pattern : FilterPattern) (domain : List ℕ) → plain_domain pattern ≡ Some domain → HasDomain pattern domain
 has_domain every_url domain h = cc
 has_domain (regex text) domain h = cc
 has_domain (plain text) domain h =
-    let k = kept_if (is_domain_pattern text) (between_anchors text) domain h in
-    let a = and_parts (starts_with nat_eq text (codes "||") && ends_with nat_eq text (codes "^")) (is_plain_domain (between_anchors text)) k.0 in
-    let b = and_parts (starts_with nat_eq text (codes "||")) (ends_with nat_eq text (codes "^")) a.0 in
-    let p = is_plain (between_anchors text) a.1 in
-    record { is = ap plain (anchored text b.0 b.1 (some_between text p.domain) ∙ ap (λ d. codes "||" ++ d ++ codes "^") k.1); plain = subst IsPlain k.1 p }
+    let a = then_some if_plain (option_and_then before_caret (behind_bars text)) domain h in
+    let b = then_some before_caret (behind_bars text) a.0 a.1 in
+    let named = kept_if (is_plain_domain a.0) a.0 domain a.2 in
+    let ended = kept_if (ends_with nat_eq b.0 (codes "^")) (take (length b.0 - 1) b.0) a.0 b.2 in
+    let begun = kept_if (starts_with nat_eq text (codes "||")) (drop 2 text) b.0 b.1 in
+    let front : codes "||" ≡ take 2 text = (bytes_eq-Decides (codes "||") (take 2 text)).0 begun.0 in
+    let end : codes "^" ≡ drop (length b.0 - 1) b.0 = (bytes_eq-Decides (codes "^") (drop (length b.0 - 1) b.0)).0 ended.0 in
+    let rest : b.0 ≡ domain ++ codes "^" = take_and_drop (length b.0 - 1) b.0 ∙ (λ i. (ended.1 ∙ named.1) i ++ sym end i) in
+    record {
+      is = ap plain (take_and_drop 2 text ∙ (λ i. sym front i ++ (begun.1 ∙ rest) i));
+      plain = subst IsPlain named.1 (is_plain a.0 named.0);
+    }
 
 -- ---- ascending order
 
@@ -115,14 +102,24 @@ module _ (P : List ℕ → Type 0) where
   was_inserted text [] h = h
   was_inserted text (x ∷ xs) h = placed_out text x xs (insert_key (slice_cmp nat_cmp) xs text) (slice_cmp nat_cmp text x) (was_inserted text xs) h
 
+  has_folded : (kept xs : List (List ℕ)) → Has P kept ⊎ Has P xs → Has P (fold (insert_key (slice_cmp nat_cmp)) kept xs)
+  has_folded kept [] (inl h) = h
+  has_folded kept [] (inr h) = absurd h
+  has_folded kept (x ∷ xs) (inl h) = has_folded (insert_key (slice_cmp nat_cmp) kept x) xs (inl (has_inserted x kept (inr h)))
+  has_folded kept (x ∷ xs) (inr (inl h)) = has_folded (insert_key (slice_cmp nat_cmp) kept x) xs (inl (has_inserted x kept (inl h)))
+  has_folded kept (x ∷ xs) (inr (inr h)) = has_folded (insert_key (slice_cmp nat_cmp) kept x) xs (inr h)
+
+  had_folded : (kept xs : List (List ℕ)) → Has P (fold (insert_key (slice_cmp nat_cmp)) kept xs) → Has P kept ⊎ Has P xs
+  had_folded kept [] h = inl h
+  had_folded kept (x ∷ xs) h =
+      ⊎_elim (λ p. ⊎_elim (λ q. inr (inl q)) (λ q. inl q) (was_inserted x kept p)) (λ q. inr (inr q)) (had_folded (insert_key (slice_cmp nat_cmp) kept x) xs h)
+
   -- the texts in ascending order are the same texts
   pub has_ascending : (xs : List (List ℕ)) → Has P xs → Has P (ascending xs)
-  has_ascending [] h = h
-  has_ascending (x ∷ xs) h = has_inserted x (ascending xs) (⊎_elim (λ p. inl p) (λ q. inr (has_ascending xs q)) h)
+  has_ascending xs h = has_folded [] xs (inr h)
 
   pub had_ascending : (xs : List (List ℕ)) → Has P (ascending xs) → Has P xs
-  had_ascending [] h = h
-  had_ascending (x ∷ xs) h = ⊎_elim (λ p. inl p) (λ q. inr (had_ascending xs q)) (was_inserted x (ascending xs) h)
+  had_ascending xs h = ⊎_elim (λ none. absurd none) (λ q. q) (had_folded [] xs h)
 
 pub each_ascending : (P : List ℕ → Type 0) (xs : List (List ℕ)) → AllByRecursion P xs → AllByRecursion P (ascending xs)
 each_ascending P xs h = in_each P (ascending xs) (λ x i. each_in P x xs (had_ascending (λ y. y ≡ x) xs i) h)

@@ -11,13 +11,14 @@ lines-preserved g c =
     let cut : lines_of c.lines.rest.now ≡ line ∷ more = c.cut_line.ensures.lines in
     let less : length c.in-Some.later.now < length c.lines.rest.now = rw c.in-Some.is at c.cut_line.ensures.shorter in
     record {
-      at = goes_on c.args.lines.now c.lines.rest.now line more c.lines.number c.lines.work c.take_line.new.work c.in-Some.later.now c.lines.invariant.at cut
-          (ap (pieces_left 10) c.in-Some.is) c.in-Ok.ensures.drafts c.in-Ok.ensures.reported;
+      at = goes_on c.args.lines.now c.lines.rest.now line more c.lines.number c.lines.taken.groups c.take_line.new.taken.groups c.lines.taken.reported.items c.take_line.new.taken.reported.items c.in-Some.later.now c.lines.invariant.at cut
+          (ap (pieces_left 10) c.in-Some.is) c.in-Ok.ensures.takes c.in-Ok.ensures.reported;
+      found = c.in-Ok.ensures.found;
       short = omega (arith, c.lines.invariant.short, less);
       calm = c.in-Ok.ensures.calm ∙ c.lines.invariant.calm;
     }
 
 pub returns-in-Err-clause-stops : goal.returns-in-Err-clause-stops
 returns-in-Err-clause-stops g c =
-    stops_there c.args.lines.now c.lines.rest.now c.cut_line.result.0.now (pieces_left 10 c.cut_line.result.1) c.lines.number c.lines.work c.take_line.new.work
+    stops_there c.args.lines.now c.lines.rest.now c.cut_line.result.0.now (pieces_left 10 c.cut_line.result.1) c.lines.number c.lines.taken.groups c.take_line.new.taken.groups c.lines.taken.reported.items c.take_line.new.taken.reported.items
     c.lines.invariant.at c.cut_line.ensures.lines c.in-Err.refusal c.in-Err.ensures.stops

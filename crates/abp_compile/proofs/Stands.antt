@@ -1,0 +1,53 @@
+-- What stands for groups, and its rules.
+use Rattle.std.proofs.Common.{◌≡◌, ℕ, List, [], ◌∷◌, ◌++◌, map, refl, sym, ap, ◌∙◌, subst}
+use Rattle.std.specs.Prelude.{All}
+use Rattle.std.specs.List.{flat_map}
+use Rattle.std.proofs.lemmas.List.{append-nil}
+use Rattle.compile_spec.specs.Compiled.{Placed, Group, groups_of, placed_from, standing_with, standing, Standing, drafts_of, Draft, drafts_in}
+use Rattle.compile_laws.specs.Laws.{GroupsGiveRules, GivesRules}
+use Rattle.abp_compile.specs.declared.groups.Group as code
+use Rattle.abp_compile.specs.declared.groups.Groups.{Groups}
+use Rattle.abp_compile.specs.Groups.{Told, told, told_with, told_of, stands, standing_of, HasFilters}
+use Rattle.abp_compile.specs.Work.{GivesAllRules}
+use Rattle.std.proofs.lemmas.List.Elements.{All-map}
+use Rattle.abp_compile.proofs.Named.{gives_all}
+
+stands_so : (first : Placed) (others : List Placed) → standing_of (told_with first others) ≡ standing_with first others
+stands_so first [] = refl
+stands_so first (other ∷ others) = refl
+
+mapped_twice : {X Y Z : Type 0} (f : Y → Z) (g : X → Y) (xs : List X) → map f (map g xs) ≡ map (λ x. f (g x)) xs
+mapped_twice f g [] = refl
+mapped_twice f g (x ∷ xs) = ap (λ ys. f (g x) ∷ ys) (mapped_twice f g xs)
+
+told_standings : (groups : List Group) → map standing_of (map told_of groups) ≡ map standing groups
+told_standings [] = refl
+told_standings (group ∷ groups) = λ i. stands_so group.first group.others i ∷ told_standings groups i
+
+-- what stands for the groups that were made of filters
+pub standings : (groups : Groups) (placed : List Placed) → HasFilters groups placed → map (λ (group : code.Group). standing_of (told group)) groups.list.items ≡ map standing (groups_of placed)
+standings groups placed has = sym (mapped_twice standing_of told groups.list.items) ∙ ap (map standing_of) has ∙ told_standings (groups_of placed)
+
+flat_mapped : {X Y Z : Type 0} (f : Y → List Z) (g : X → Y) (xs : List X) → flat_map f (map g xs) ≡ flat_map (λ x. f (g x)) xs
+flat_mapped f g [] = refl
+flat_mapped f g (x ∷ xs) = ap (λ ys. f (g x) ++ ys) (flat_mapped f g xs)
+
+pub same_drafts : (groups : Groups) (lines : List (List ℕ)) → HasFilters groups (placed_from 1 lines) → flat_map (λ (group : code.Group). drafts_of (standing_of (told group))) groups.list.items ≡ drafts_in lines
+same_drafts groups lines has =
+    sym (flat_mapped drafts_of (λ (group : code.Group). standing_of (told group)) groups.list.items) ∙ ap (flat_map drafts_of) (standings groups (placed_from 1 lines) has)
+    ∙ flat_mapped drafts_of standing (groups_of (placed_from 1 lines))
+
+pub give_rules : GroupsGiveRules → (groups : Groups) (lines : List (List ℕ)) → HasFilters groups (placed_from 1 lines)
+    → All GivesAllRules (map (λ (group : code.Group). standing_of (told group)) groups.list.items)
+give_rules law groups lines has =
+    subst (λ (l : List Standing). All GivesAllRules l) (sym (standings groups (placed_from 1 lines) has))
+    (All-map GivesAllRules standing (groups_of (placed_from 1 lines)) (λ k d less. gives_all _ (law lines k d less)))
+
+-- one group more
+pub flat_more : {X Y : Type 0} (f : X → List Y) (xs : List X) (x : X) → flat_map f (xs ++ x ∷ []) ≡ flat_map f xs ++ f x
+flat_more f [] x = append-nil (f x)
+flat_more f (y ∷ xs) x = ap (λ ys. f y ++ ys) (flat_more f xs x) ∙ sym (assoc (f y) (flat_map f xs) (f x))
+  where
+    assoc : {Y : Type 0} (as bs cs : List Y) → (as ++ bs) ++ cs ≡ as ++ (bs ++ cs)
+    assoc [] bs cs = refl
+    assoc (a ∷ as) bs cs = ap (λ l. a ∷ l) (assoc as bs cs)
