@@ -230,22 +230,22 @@ some_place (Some next) place no h = (next, refl, same (sym (ap (λ b. cond b (So
     same : Some (suc next) ≡ Some place → place ≡ suc next
     same e = cc
 
-pub one_joins : (one : Placed) (tolds : List Told) → Unlike tolds → (place : ℕ) (new : Told) → first_place (λ told. alike told.filter one.filter) tolds ≡ Some place
-    → new ≡ told_joined one (get_or tolds place new) → set tolds place new ≡ map (told_joined one) tolds
-one_joins one [] h place new at is = absurd (none_some at)
+pub one_joins : (one : Placed) (tolds : List Told) → Unlike tolds → (place : ℕ) (new d : Told) → first_place (λ told. alike told.filter one.filter) tolds ≡ Some place
+    → new ≡ told_joined one (get_or tolds place d) → set tolds place new ≡ map (told_joined one) tolds
+one_joins one [] h place new d at is = absurd (none_some at)
   where
     none_some : None ≡ Some place → ⊥
     none_some e = cc
-one_joins one (told ∷ tolds) h place new at is =
+one_joins one (told ∷ tolds) h place new d at is =
     ⊎_elim
     (λ yes.
     let zero_place : place ≡ 0 = first (sym (ap (λ b. cond b (Some 0) (option_map suc (first_place (λ (t : Told). alike t.filter one.filter) tolds))) yes) ∙ at) in
     ap (λ n. set (told ∷ tolds) n new) zero_place
-    ∙ (λ i. (is ∙ ap (λ n. told_joined one (get_or (told ∷ tolds) n new)) zero_place) i ∷ sym (none_joins one tolds (others_apart one told tolds yes h.0)) i))
+    ∙ (λ i. (is ∙ ap (λ n. told_joined one (get_or (told ∷ tolds) n d)) zero_place) i ∷ sym (none_joins one tolds (others_apart one told tolds yes h.0)) i))
     (λ no.
     let next = some_place (first_place (λ (t : Told). alike t.filter one.filter) tolds) place no at in
     ap (λ n. set (told ∷ tolds) n new) next.2
-    ∙ (λ i. sym (ap (λ b. told_joined_with b one told) no) i ∷ one_joins one tolds h.1 next.0 new next.1 (is ∙ ap (λ n. told_joined one (get_or (told ∷ tolds) n new)) next.2) i))
+    ∙ (λ i. sym (ap (λ b. told_joined_with b one told) no) i ∷ one_joins one tolds h.1 next.0 new d next.1 (is ∙ ap (λ n. told_joined one (get_or (told ∷ tolds) n d)) next.2) i))
     (true_or_false (alike told.filter one.filter))
   where
     first : Some 0 ≡ Some place → place ≡ 0
@@ -287,10 +287,10 @@ told_behind all one tolds is none =
     ∙ (λ i. kept i ++ told_begun one (fresh i)))
 
 -- and one that is alike to a group joins it
-pub told_within : (all : List Placed) (one : Placed) (tolds : List Told) (place : ℕ) (new : Told) → tolds ≡ map told_of (groups_of all)
-    → first_place (λ told. alike told.filter one.filter) tolds ≡ Some place → new ≡ told_joined one (get_or tolds place new) → set tolds place new ≡ map told_of (groups_of (all ++ one ∷ []))
-told_within all one tolds place new is at joins =
+pub told_within : (all : List Placed) (one : Placed) (tolds : List Told) (place : ℕ) (new d : Told) → tolds ≡ map told_of (groups_of all)
+    → first_place (λ told. alike told.filter one.filter) tolds ≡ Some place → new ≡ told_joined one (get_or tolds place d) → set tolds place new ≡ map told_of (groups_of (all ++ one ∷ []))
+told_within all one tolds place new d is at joins =
     let some = a_place (λ (told : Told). alike told.filter one.filter) tolds place at in
-    one_joins one tolds (subst Unlike (sym is) (unlike all)) place new at joins
+    one_joins one tolds (subst Unlike (sym is) (unlike all)) place new d at joins
     ∙ sym (append-nil (map (told_joined one) tolds))
     ∙ sym (told_snoc all one ∙ (λ i. map (told_joined one) (sym is i) ++ told_begun one (some_told one (sym is i))) ∙ ap (λ b. map (told_joined one) tolds ++ told_begun one b) some)

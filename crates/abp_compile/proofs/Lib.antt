@@ -7,3 +7,5 @@ pub mod Once
 pub mod Parts
 pub mod Stands
 pub mod Under
+pub mod Turned
+pub mod Taken

@@ -1,14 +1,15 @@
 -- What stands for groups, and its rules.
-use Rattle.std.proofs.Common.{◌≡◌, ℕ, List, [], ◌∷◌, ◌++◌, map, refl, sym, ap, ◌∙◌, subst}
+use Rattle.std.proofs.Common.{◌≡◌, ℕ, suc, List, [], ◌∷◌, ◌++◌, map, reverse, refl, sym, ap, ◌∙◌, subst, append_assoc, arith}
 use Rattle.std.specs.Prelude.{All}
 use Rattle.std.specs.List.{flat_map}
-use Rattle.std.proofs.lemmas.List.{append-nil}
 use Rattle.compile_spec.specs.Compiled.{Placed, Group, groups_of, placed_from, standing_with, standing, Standing, drafts_of, Draft, drafts_in}
 use Rattle.compile_laws.specs.Laws.{GroupsGiveRules, GivesRules}
 use Rattle.abp_compile.specs.declared.groups.Group as code
 use Rattle.abp_compile.specs.declared.groups.Groups.{Groups}
 use Rattle.abp_compile.specs.Groups.{Told, told, told_with, told_of, stands, standing_of, HasFilters}
-use Rattle.abp_compile.specs.Work.{GivesAllRules}
+use Rattle.abp_compile.specs.declared.work.Work.{Work}
+use Rattle.abp_compile.specs.Work.{GivesAllRules, HasDrafts, Gains}
+use Rattle.abp_compile.proofs.Turned.{popped}
 use Rattle.std.proofs.lemmas.List.Elements.{All-map}
 use Rattle.abp_compile.proofs.Named.{gives_all}
 
@@ -43,11 +44,31 @@ give_rules law groups lines has =
     subst (λ (l : List Standing). All GivesAllRules l) (sym (standings groups (placed_from 1 lines) has))
     (All-map GivesAllRules standing (groups_of (placed_from 1 lines)) (λ k d less. gives_all _ (law lines k d less)))
 
--- one group more
-pub flat_more : {X Y : Type 0} (f : X → List Y) (xs : List X) (x : X) → flat_map f (xs ++ x ∷ []) ≡ flat_map f xs ++ f x
-flat_more f [] x = append-nil (f x)
-flat_more f (y ∷ xs) x = ap (λ ys. f y ++ ys) (flat_more f xs x) ∙ sym (assoc (f y) (flat_map f xs) (f x))
-  where
-    assoc : {Y : Type 0} (as bs cs : List Y) → (as ++ bs) ++ cs ≡ as ++ (bs ++ cs)
-    assoc [] bs cs = refl
-    assoc (a ∷ as) bs cs = ap (λ l. a ∷ l) (assoc as bs cs)
+-- ---- group by group, the last of what is left first
+
+abbrev standing_told : code.Group → Standing
+standing_told group = standing_of (told group)
+
+first_of : (x : Standing) (xs : List Standing) → All GivesAllRules (x ∷ xs) → GivesAllRules x
+first_of x xs all = all 0 x (omega arith)
+
+others_of : (x : Standing) (xs : List Standing) → All GivesAllRules (x ∷ xs) → All GivesAllRules xs
+others_of x xs all = λ k d less. all (suc k) d (omega arith)
+
+pub first_gives : (all left : List code.Group) (group : code.Group) → all ≡ left ++ group ∷ [] → All GivesAllRules (map standing_told (reverse all)) → GivesAllRules (standing_told group)
+first_gives all left group e rules = first_of (standing_told group) (map standing_told (reverse left)) (subst (λ (l : List code.Group). All GivesAllRules (map standing_told l)) (popped all left group e) rules)
+
+pub later_give : (all left : List code.Group) (group : code.Group) → all ≡ left ++ group ∷ [] → All GivesAllRules (map standing_told (reverse all)) → All GivesAllRules (map standing_told (reverse left))
+later_give all left group e rules = others_of (standing_told group) (map standing_told (reverse left)) (subst (λ (l : List code.Group). All GivesAllRules (map standing_told l)) (popped all left group e) rules)
+
+pub next_drafts : (all left : List code.Group) (group : code.Group) (before now : Work) (standing : Standing) (whole : List Draft) → all ≡ left ++ group ∷ [] → standing ≡ standing_told group
+    → Gains (drafts_of standing) before now → ((held : List Draft) × HasDrafts before held × (held ++ flat_map (λ g. drafts_of (standing_told g)) (reverse all) ≡ whole))
+    → (held : List Draft) × HasDrafts now held × (held ++ flat_map (λ g. drafts_of (standing_told g)) (reverse left) ≡ whole)
+next_drafts all left group before now standing whole e is gains held =
+    let rest = flat_map (λ (g : code.Group). drafts_of (standing_told g)) (reverse left) in
+    (
+      held.0 ++ drafts_of standing,
+      gains held.0 held.1,
+      append_assoc held.0 (drafts_of standing) rest ∙ ap (λ s. held.0 ++ (drafts_of s ++ rest)) is
+      ∙ sym (ap (λ (l : List code.Group). held.0 ++ flat_map (λ (g : code.Group). drafts_of (standing_told g)) l) (popped all left group e)) ∙ held.2,
+    )

@@ -1,5 +1,5 @@
 -- The groups of alike filters that were made of some filters.
-use Rattle.std.specs.Prelude.{◌≡◌, ℕ, List, [], ◌∷◌, ◌++◌, map, suc, Bool, false, Option, Some, None, option_map, if◌then◌else◌, String, Vec, string_bytes, string_cmp}
+use Rattle.std.specs.Prelude.{◌≡◌, ℕ, List, [], ◌∷◌, ◌++◌, map, set, get_or, suc, Bool, false, Option, Some, None, option_map, if◌then◌else◌, String, Vec, string_bytes, string_cmp}
 use Rattle.std.specs.List.{filter_map}
 use Rattle.std.specs.BTreeMap.{BTreeMap, get}
 use Rattle.std.specs.Cmp.Lexicographic.{slice_cmp}
@@ -63,7 +63,7 @@ abbrev pub HasPlaces : BTreeMap Key ℕ → List lines.FilterLine → Type 0
 HasPlaces places filters = (key : Key) → get key_cmp places key ≡ first_place (has_key (map string_bytes key.items)) filters
 
 abbrev pub firsts : List Group → List lines.FilterLine
-firsts groups = map (λ group. filter_seen group.filter) groups
+firsts groups = map (λ told. told.filter) (map told groups)
 
 -- each group is found
 abbrev pub AreFound : Groups → Type 0
@@ -72,6 +72,15 @@ AreFound groups = HasPlaces groups.places (firsts groups.list.items)
 -- the groups are those of these filters
 abbrev pub HasFilters : Groups → List Placed → Type 0
 HasFilters groups placed = map told groups.list.items ≡ map told_of (groups_of placed)
+
+-- one line and domain more
+abbrev pub with_more : ℕ → List ℕ → Told → Told
+with_more line domain told = record { filter = told.filter; lines = told.lines ++ line ∷ []; domains = told.domains ++ domain ∷ [] }
+
+-- the group at this place has a line and a domain more
+abbrev pub HasJoined : ℕ → ℕ → List ℕ → Groups → Groups → Type 0
+HasJoined place line domain before now =
+    (none : Told) → map told now.list.items ≡ set (map told before.list.items) place (with_more line domain (get_or (map told before.list.items) place none))
 
 -- whatever filters there were before, these have come behind them
 abbrev pub Takes : List Placed → Groups → Groups → Type 0

@@ -41,7 +41,7 @@ fn behind_bars(text: &str) -> Option<&str>
 fn before_caret(text: &str) -> Option<&str>
     ensures { option_copied result ≡ spec.before_caret text.now }
 {
-    text.strip_suffix("^")
+    text.strip_suffix('^')
 }
 
 fn is_plain_domain(text: &str) -> bool
@@ -83,10 +83,19 @@ pub(crate) fn key_of(alloc: Global, filter: &FilterLine) -> Result<Vec<String>, 
 {
     let mut key = Vec::new(alloc);
     key.push(marks_of(alloc, filter)?)?;
-    for entry in entry_set(alloc, filter.domains.as_slice())? {
-        key.push(entry)?;
-    }
+    let entries = entry_set(alloc, filter.domains.as_slice())?;
+    push_all(entries, &mut key)?;
     Ok(key)
+}
+
+// Moves the texts of a set behind those of a list, in ascending order.
+pub(crate) fn push_all(mut set: BTreeSet<String>, list: &mut Vec<String>) -> Result<(), NoMemory>
+    ensures { OnOk result (map string_bytes list.new.items ≡ map string_bytes list.old.items ++ map string_bytes set.keys) }
+{
+    while let Some(text) = set.pop_first() {
+        list.push(text)?;
+    }
+    Ok(())
 }
 
 // What a filter says of exceptions, of the party, of pages, and of each type.

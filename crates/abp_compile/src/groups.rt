@@ -1,9 +1,10 @@
 // The filters of a list in groups, of which each stands as one.
-ghost use Rattle.std.specs.Prelude.{◌≡◌, ◌++◌, [], ◌∷◌, false, map, IfOk, OnOk, string_bytes};
+ghost use Rattle.std.specs.Prelude.{◌≡◌, ◌<◌, ◌++◌, [], ◌∷◌, true, false, None, Some, is_some, map, vec_len, IfOk, OnOk, string_bytes};
 ghost use Rattle.abp_parse.specs.Seen.{filter_seen};
 ghost use Rattle.list_spec.specs.LineKind.{every_url};
 ghost use Rattle.compile_spec.specs.Alike as spec;
-ghost use Rattle.abp_compile.specs.Groups.{told, standing_of, AreFound, HasFilters, Takes};
+ghost use Rattle.abp_compile.specs.Alike.{key_texts, has_key};
+ghost use Rattle.abp_compile.specs.Groups.{told, standing_of, firsts, first_place, AreFound, HasFilters, HasJoined, Takes};
 ghost use Rattle.abp_compile.specs.Seen.{standing_seen};
 
 use crate::alike::{key_of, plain_domain};
@@ -60,23 +61,75 @@ impl Groups {
         ensures found { OnOk result (AreFound self.new) }
         ensures takes { OnOk result (Takes (record { line = line; filter = filter_seen filter } ∷ []) self.old self.new) }
     {
-        let Some(domain) = plain_domain(&filter.pattern) else {
-            return self.begin(alloc, line, filter, Vec::new(alloc));
-        };
-        let domain = String::from_str(alloc, domain)?;
-        let key = key_of(alloc, &filter)?;
-        match self.places.get(&key) {
-            Some(place) => {
-                let place = *place;
-                self.list[place].join(line, domain)
-            }
-            None => {
-                let mut domains = Vec::with_capacity(alloc, 1)?;
-                domains.push(domain)?;
-                self.places.insert(key, self.list.len())?;
-                self.begin(alloc, line, filter, domains)
+        match plain_domain(&filter.pattern) {
+            None => self.begin(alloc, line, filter, Vec::new(alloc))?,
+            Some(domain) => {
+                let domain = String::from_str(alloc, domain)?;
+                self.add_plain(alloc, line, filter, domain)?;
             }
         }
+        Ok(())
+    }
+
+    // Takes in the filter of a line and of this plain domain.
+    fn add_plain(
+        &mut self,
+        alloc: Global,
+        line: u32,
+        filter: FilterLine,
+        domain: String,
+    ) -> Result<(), NoMemory>
+        requires found { AreFound self.old }
+        requires domain { spec.plain_domain (filter_seen filter).pattern ≡ Some (string_bytes domain) }
+        ensures found { OnOk result (AreFound self.new) }
+        ensures takes { OnOk result (Takes (record { line = line; filter = filter_seen filter } ∷ []) self.old self.new) }
+    {
+        let key = key_of(alloc, &filter)?;
+        match self.find(&key) {
+            Some(place) => self.join(place, line, domain)?,
+            None => self.begin_at(alloc, key, line, filter, domain)?,
+        }
+        Ok(())
+    }
+
+    // The place of the group whose filters have this key.
+    fn find(&self, key: &Vec<String>) -> Option<usize>
+        requires { AreFound self.now }
+        ensures { result ≡ first_place (has_key (map string_bytes key.now.items)) (firsts self.now.list.items) }
+    {
+        self.places.get(key).copied()
+    }
+
+    // Puts the line and the domain of a filter into the group at this place.
+    fn join(&mut self, place: usize, line: u32, domain: String) -> Result<(), NoMemory>
+        requires { place < vec_len self.old.list }
+        ensures list { OnOk result (HasJoined place line (string_bytes domain) self.old self.new) }
+        ensures places { self.new.places ≡ self.old.places }
+    {
+        self.list[place].join(line, domain)
+    }
+
+    // Puts a group of this filter alone behind the others, where its key finds it.
+    fn begin_at(
+        &mut self,
+        alloc: Global,
+        key: Vec<String>,
+        line: u32,
+        filter: FilterLine,
+        domain: String,
+    ) -> Result<(), NoMemory>
+        requires found { AreFound self.old }
+        requires plain { is_some (spec.plain_domain (filter_seen filter).pattern) ≡ true }
+        requires key { map string_bytes key.items ≡ key_texts (filter_seen filter) }
+        requires new { first_place (has_key (map string_bytes key.items)) (firsts self.old.list.items) ≡ None }
+        ensures list { OnOk result (map told self.new.list.items ≡ map told self.old.list.items ++ record { filter = filter_seen filter; lines = line ∷ []; domains = string_bytes domain ∷ [] } ∷ []) }
+        ensures found { OnOk result (AreFound self.new) }
+    {
+        let mut domains = Vec::with_capacity(alloc, 1)?;
+        domains.push(domain)?;
+        self.places.insert(key, self.list.len())?;
+        self.begin(alloc, line, filter, domains)?;
+        Ok(())
     }
 
     // Puts a group of this filter alone behind the others.
@@ -156,18 +209,20 @@ fn without_pattern(filter: FilterLine) -> FilterLine
 fn in_order(alloc: Global, domains: Vec<String>) -> Result<Vec<Text>, NoMemory>
     ensures { IfOk result (λ ordered. ordered.items ≡ spec.ascending (map string_bytes domains.items)) }
 {
-    let mut ordered = Vec::new(alloc);
-    for domain in set_of(alloc, domains)? {
+    let mut set = set_of(alloc, domains)?;
+    let mut ordered = Vec::with_capacity(alloc, set.len())?;
+    while let Some(domain) = set.pop_first() {
         ordered.push(Text::build(domain))?;
     }
     Ok(ordered)
 }
 
-fn set_of(alloc: Global, domains: Vec<String>) -> Result<BTreeSet<String>, NoMemory>
+fn set_of(alloc: Global, mut domains: Vec<String>) -> Result<BTreeSet<String>, NoMemory>
     ensures { IfOk result (λ set. map string_bytes set.keys ≡ spec.ascending (map string_bytes domains.items)) }
 {
+    domains.reverse();
     let mut set = BTreeSet::new(alloc);
-    for domain in domains {
+    while let Some(domain) = domains.pop() {
         set.insert(domain)?;
     }
     Ok(set)

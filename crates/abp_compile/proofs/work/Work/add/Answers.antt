@@ -24,8 +24,8 @@ add_effect-requires-in-Both-2 c =
     let effect = effect_seen c.in-Both.second in
     subst (λ (l : List Initiators). GiveRules s effect l) (sym (c.in_ok-domains.ensures ∙ ap initiators_of c.as_slice.ensures)) (c.requires effect)
 
-pub returns-in_ok-add_effect-in-Both : goal.returns-in_ok-add_effect-in-Both
-returns-in_ok-add_effect-in-Both c =
+pub returns : goal.returns
+returns c =
     let s = standing_seen c.args.standing.now in
     let one = effect_seen c.in-Both.first in
     let other = effect_seen c.in-Both.second in

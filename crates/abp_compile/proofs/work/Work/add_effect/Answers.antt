@@ -23,5 +23,5 @@ returns c =
     let count : c.keep_singles.new.self.count ≡ c.args.self.now.count + length list = omega (arith, c.in_ok-keep_singles.ensures.count, c.in_ok-keep_common.ensures.count, c.count.ensures, c.in-Some.ensures) in
     let kept = c.in_ok-keep_common.ensures.kept in
     gains_effect s effect list c.args.self.now c.keep_singles.new.self count
-    (λ few. keeps_both c.first (c.first + c.common_count.result) s effect (in_common_of d) (singles_of d) c.args.self.now c.keep_common.new.self c.keep_singles.new.self
-    (ap (λ n. c.first + n) c.common_count.ensures) (record { rules = kept.rules; origins = kept.origins }) c.in_ok-keep_singles.ensures.kept)
+    (λ few. keeps_both (c.args.self.now.count + 1) ((c.args.self.now.count + 1) + c.common_count.result) s effect (in_common_of d) (singles_of d) c.args.self.now c.keep_common.new.self c.keep_singles.new.self
+    (ap (λ n. (c.args.self.now.count + 1) + n) c.common_count.ensures) (record { rules = kept.rules; origins = kept.origins }) c.in_ok-keep_singles.ensures.kept)
