@@ -64,17 +64,17 @@ filter_joined first one (group ∷ groups) =
 -- a group that the first takes in is alike to nothing that the first is not alike to
 any_left : (first one : Placed) (groups : List Group) → alike_to first one ≡ false
     → some_alike one (filter (λ group. not (alike_to first group.first)) groups) ≡ some_alike one groups
-any_left first one [] no = refl
-any_left first one (group ∷ groups) no =
+any_left first one [] apart_so = refl
+any_left first one (group ∷ groups) apart_so =
     ⊎_elim
-    (λ yes.
-    let apart : alike_to group.first one ≡ false = false_from_ne_true (alike_to group.first one) (λ h. true≢false (sym (alike_through first.filter group.first.filter one.filter yes h) ∙ no)) in
-    let kept = any_left first one groups no in
-    ap (λ b. some_alike one (cond (not b) (group ∷ filter (λ g. not (alike_to first g.first)) groups) (filter (λ g. not (alike_to first g.first)) groups))) yes
+    (λ so.
+    let apart : alike_to group.first one ≡ false = false_from_ne_true (alike_to group.first one) (λ h. true≢false (sym (alike_through first.filter group.first.filter one.filter so h) ∙ apart_so)) in
+    let kept = any_left first one groups apart_so in
+    ap (λ b. some_alike one (cond (not b) (group ∷ filter (λ g. not (alike_to first g.first)) groups) (filter (λ g. not (alike_to first g.first)) groups))) so
     ∙ kept ∙ sym (ap (λ b. b || some_alike one groups) apart))
     (λ other.
     ap (λ b. some_alike one (cond (not b) (group ∷ filter (λ g. not (alike_to first g.first)) groups) (filter (λ g. not (alike_to first g.first)) groups))) other
-    ∙ ap (λ b. alike_to group.first one || b) (any_left first one groups no))
+    ∙ ap (λ b. alike_to group.first one || b) (any_left first one groups apart_so))
     (true_or_false (alike_to first group.first))
 
 others_begun : (first one : Placed) (groups : List Group)
@@ -82,16 +82,16 @@ others_begun : (first one : Placed) (groups : List Group)
     ≡ begun one (alike_to first one || some_alike one (filter (λ group. not (alike_to first group.first)) groups))
 others_begun first one groups =
     ⊎_elim
-    (λ yes. taken yes (some_alike one groups) ∙ sym (ap (λ b. begun one (b || some_alike one (filter (λ group. not (alike_to first group.first)) groups))) yes))
-    (λ no. kept no (some_alike one groups) ∙ ap (begun one) (sym (any_left first one groups no)) ∙ sym (ap (λ b. begun one (b || some_alike one (filter (λ group. not (alike_to first group.first)) groups))) no))
+    (λ so. taken so (some_alike one groups) ∙ sym (ap (λ b. begun one (b || some_alike one (filter (λ group. not (alike_to first group.first)) groups))) so))
+    (λ apart_so. kept apart_so (some_alike one groups) ∙ ap (begun one) (sym (any_left first one groups apart_so)) ∙ sym (ap (λ b. begun one (b || some_alike one (filter (λ group. not (alike_to first group.first)) groups))) apart_so))
     (true_or_false (alike_to first one))
   where
     taken : alike_to first one ≡ true → (b : Bool) → filter (λ group. not (alike_to first group.first)) (begun one b) ≡ []
-    taken yes true = refl
-    taken yes false = ap (λ b. cond (not b) (record { first = one; others = [] } ∷ []) []) yes
+    taken so true = refl
+    taken so false = ap (λ b. cond (not b) (record { first = one; others = [] } ∷ []) []) so
     kept : alike_to first one ≡ false → (b : Bool) → filter (λ group. not (alike_to first group.first)) (begun one b) ≡ begun one b
-    kept no true = refl
-    kept no false = ap (λ b. cond (not b) (record { first = one; others = [] } ∷ []) []) no
+    kept apart_so true = refl
+    kept apart_so false = ap (λ b. cond (not b) (record { first = one; others = [] } ∷ []) []) apart_so
 
 first_joined : (first one : Placed) (rest : List Placed)
     → record { first = first; others = filter (alike_to first) (rest ++ one ∷ []) } ≡ joined one (record { first = first; others = filter (alike_to first) rest })
@@ -166,7 +166,7 @@ told_snoc all one =
     ap (map told_of) (groups_snoc all one) ∙ map-append told_of (map (joined one) (groups_of all)) (begun one (some_alike one (groups_of all)))
     ∙ (λ i. told_groups one (groups_of all) i ++ (begun_told one (some_alike one (groups_of all)) ∙ ap (told_begun one) (sym (any_told one (groups_of all)))) i)
 
--- ---- no two groups are alike
+-- ---- apart_so two groups are alike
 
 abbrev pub Unlike : List Told → Type 0
 Unlike [] = Unit {0}
@@ -215,17 +215,17 @@ none_joins one (told ∷ tolds) h = λ i. ap (λ b. told_joined_with b one told)
 -- where it is alike to one it is to none of the others
 others_apart : (one : Placed) (told : Told) (tolds : List Told) → alike told.filter one.filter ≡ true → AllByRecursion (λ (other : Told). alike told.filter other.filter ≡ false) tolds
     → AllByRecursion (λ (other : Told). alike other.filter one.filter ≡ false) tolds
-others_apart one told tolds yes apart =
+others_apart one told tolds so apart =
     each_weaker (λ (other : Told). alike told.filter other.filter ≡ false) (λ (other : Told). alike other.filter one.filter ≡ false)
-    (λ other no. false_from_ne_true (alike other.filter one.filter) (λ h.
-    true≢false (sym (alike_through told.filter one.filter other.filter yes (alike_turned other.filter one.filter h)) ∙ no))) tolds apart
+    (λ other apart_so. false_from_ne_true (alike other.filter one.filter) (λ h.
+    true≢false (sym (alike_through told.filter one.filter other.filter so (alike_turned other.filter one.filter h)) ∙ apart_so))) tolds apart
 
 some_place : {b : Bool} (later : Option ℕ) (place : ℕ) → b ≡ false → cond b (Some 0) (option_map suc later) ≡ Some place → (next : ℕ) × (later ≡ Some next) × (place ≡ suc next)
-some_place None place no h = absurd (none_some (sym (ap (λ b. cond b (Some 0) None) no) ∙ h))
+some_place None place apart_so h = absurd (none_some (sym (ap (λ b. cond b (Some 0) None) apart_so) ∙ h))
   where
     none_some : None ≡ Some place → ⊥
     none_some e = cc
-some_place (Some next) place no h = (next, refl, same (sym (ap (λ b. cond b (Some 0) (Some (suc next))) no) ∙ h))
+some_place (Some next) place apart_so h = (next, refl, same (sym (ap (λ b. cond b (Some 0) (Some (suc next))) apart_so) ∙ h))
   where
     same : Some (suc next) ≡ Some place → place ≡ suc next
     same e = cc
@@ -238,14 +238,14 @@ one_joins one [] h place new d at is = absurd (none_some at)
     none_some e = cc
 one_joins one (told ∷ tolds) h place new d at is =
     ⊎_elim
-    (λ yes.
-    let zero_place : place ≡ 0 = first (sym (ap (λ b. cond b (Some 0) (option_map suc (first_place (λ (t : Told). alike t.filter one.filter) tolds))) yes) ∙ at) in
+    (λ so.
+    let zero_place : place ≡ 0 = first (sym (ap (λ b. cond b (Some 0) (option_map suc (first_place (λ (t : Told). alike t.filter one.filter) tolds))) so) ∙ at) in
     ap (λ n. set (told ∷ tolds) n new) zero_place
-    ∙ (λ i. (is ∙ ap (λ n. told_joined one (get_or (told ∷ tolds) n d)) zero_place) i ∷ sym (none_joins one tolds (others_apart one told tolds yes h.0)) i))
-    (λ no.
-    let next = some_place (first_place (λ (t : Told). alike t.filter one.filter) tolds) place no at in
+    ∙ (λ i. (is ∙ ap (λ n. told_joined one (get_or (told ∷ tolds) n d)) zero_place) i ∷ sym (none_joins one tolds (others_apart one told tolds so h.0)) i))
+    (λ apart_so.
+    let next = some_place (first_place (λ (t : Told). alike t.filter one.filter) tolds) place apart_so at in
     ap (λ n. set (told ∷ tolds) n new) next.2
-    ∙ (λ i. sym (ap (λ b. told_joined_with b one told) no) i ∷ one_joins one tolds h.1 next.0 new d next.1 (is ∙ ap (λ n. told_joined one (get_or (told ∷ tolds) n d)) next.2) i))
+    ∙ (λ i. sym (ap (λ b. told_joined_with b one told) apart_so) i ∷ one_joins one tolds h.1 next.0 new d next.1 (is ∙ ap (λ n. told_joined one (get_or (told ∷ tolds) n d)) next.2) i))
     (true_or_false (alike told.filter one.filter))
   where
     first : Some 0 ≡ Some place → place ≡ 0
@@ -253,25 +253,28 @@ one_joins one (told ∷ tolds) h place new d at is =
 
 -- ---- both ways
 
+rest_none : (o : Option ℕ) → option_map suc o ≡ None → o ≡ None
+rest_none None e = refl
+rest_none (Some n) e = cc
+
+each_none : {X : Type 0} (test : X → Bool) (x : X) (xs : List X) (b : Bool) → test x ≡ b → cond b (Some 0) (option_map suc (first_place test xs)) ≡ None
+    → (first_place test xs ≡ None → AllByRecursion (λ y. test y ≡ false) xs) → AllByRecursion (λ y. test y ≡ false) (x ∷ xs)
+each_none test x xs true e n later = cc
+each_none test x xs false e n later = (e, later (rest_none (first_place test xs) n))
+
 pub no_place : {X : Type 0} (test : X → Bool) (xs : List X) → first_place test xs ≡ None → AllByRecursion (λ x. test x ≡ false) xs
 no_place test [] h = tt
-no_place test (x ∷ xs) h = by (test x) refl h
-  where
-    rest : (o : Option ℕ) → option_map suc o ≡ None → o ≡ None
-    rest None e = refl
-    rest (Some n) e = cc
-    by : (b : Bool) → test x ≡ b → cond b (Some 0) (option_map suc (first_place test xs)) ≡ None → AllByRecursion (λ y. test y ≡ false) (x ∷ xs)
-    by true e n = cc
-    by false e n = (e, no_place test xs (rest (first_place test xs) n))
+no_place test (x ∷ xs) h = each_none test x xs (test x) refl h (no_place test xs)
+
+some_any : {X : Type 0} (test : X → Bool) (xs : List X) (place : ℕ) (b : Bool) (o : Option ℕ) → first_place test xs ≡ o → cond b (Some 0) (option_map suc o) ≡ Some place
+    → ((k : ℕ) → first_place test xs ≡ Some k → list_any test xs ≡ true) → (b || list_any test xs) ≡ true
+some_any test xs place true o e n later = refl
+some_any test xs place false None e n later = cc
+some_any test xs place false (Some k) e n later = later k e
 
 a_place : {X : Type 0} (test : X → Bool) (xs : List X) (place : ℕ) → first_place test xs ≡ Some place → list_any test xs ≡ true
 a_place test [] place h = cc
-a_place test (x ∷ xs) place h = by (test x) (first_place test xs) refl h
-  where
-    by : (b : Bool) (o : Option ℕ) → first_place test xs ≡ o → cond b (Some 0) (option_map suc o) ≡ Some place → (b || list_any test xs) ≡ true
-    by true o e n = refl
-    by false None e n = cc
-    by false (Some k) e n = a_place test xs k e
+a_place test (x ∷ xs) place h = some_any test xs place (test x) (first_place test xs) refl h (a_place test xs)
 
 none_any : {X : Type 0} (test : X → Bool) (xs : List X) → AllByRecursion (λ x. test x ≡ false) xs → list_any test xs ≡ false
 none_any test [] h = refl

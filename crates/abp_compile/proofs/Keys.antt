@@ -1,6 +1,6 @@
 -- Alike filters have one key, and the table of groups.
 use Rattle.std.proofs.Common.{◌≡◌, ℕ, ◌+◌, ◌<◌, zero, suc, List, [], ◌∷◌, ◌++◌, map, Bool, true, false, cond, ◌&&◌, Option, Some, None, option_map, String, Global, string_bytes, string_cmp, length, refl, sym, ap, ◌∙◌, subst, ⊎_elim, arith}
-use Rattle.std.specs.Prelude.{is_some, nat_cmp}
+use Rattle.std.specs.Prelude.{is_some}
 use Rattle.std.specs.BTreeMap.{BTreeMap, get, UpdatesBy, is_at}
 use Rattle.std.specs.Cmp.Lexicographic.{slice_cmp, pointwise, pointwise_decides}
 use Rattle.std.specs.List.{list_all, AllByRecursion}
@@ -114,28 +114,28 @@ pub place_mapped : {X Y : Type 0} (p : Y → Bool) (f : X → Y) (xs : List X) �
 place_mapped p f [] = refl
 place_mapped p f (x ∷ xs) = ap (λ o. cond (p (f x)) (Some 0) (option_map suc o)) (place_mapped p f xs)
 
+pub at_first : (place : ℕ) → Some 0 ≡ Some place → place ≡ 0
+at_first place e = cc
+
+pub at_later : (k place : ℕ) → Some (suc k) ≡ Some place → place ≡ suc k
+at_later k place e = cc
+
+below_by : {X : Type 0} (p : X → Bool) (x : X) (xs : List X) (place : ℕ) (b : Bool) (o : Option ℕ) → first_place p xs ≡ o → cond b (Some 0) (option_map suc o) ≡ Some place
+    → ((k : ℕ) → first_place p xs ≡ Some k → k < length xs) → place < length (x ∷ xs)
+below_by p x xs place true o e n later = omega (arith, at_first place n)
+below_by p x xs place false None e n later = cc
+below_by p x xs place false (Some k) e n later = omega (arith, at_later k place n, later k e)
+
 pub place_below : {X : Type 0} (p : X → Bool) (xs : List X) (place : ℕ) → first_place p xs ≡ Some place → place < length xs
 place_below p [] place h = cc
-place_below p (x ∷ xs) place h = by (p x) (first_place p xs) refl h
-  where
-    first : Some 0 ≡ Some place → place ≡ 0
-    first e = cc
-    later : (k : ℕ) → Some (suc k) ≡ Some place → place ≡ suc k
-    later k e = cc
-    by : (b : Bool) (o : Option ℕ) → first_place p xs ≡ o → cond b (Some 0) (option_map suc o) ≡ Some place → place < length (x ∷ xs)
-    by true o e n = omega (arith, first n)
-    by false None e n = cc
-    by false (Some k) e n = omega (arith, later k n, place_below p xs k e)
+place_below p (x ∷ xs) place h = below_by p x xs place (p x) (first_place p xs) refl h (place_below p xs)
 
 abbrev or_place : Option ℕ → Option ℕ → Option ℕ
 or_place None later = later
 or_place (Some place) later = Some place
 
 place_snoc : {X : Type 0} (p : X → Bool) (xs : List X) (x : X) → first_place p (xs ++ x ∷ []) ≡ or_place (first_place p xs) (cond (p x) (Some (length xs)) None)
-place_snoc p [] x = by (p x)
-  where
-    by : (b : Bool) → cond b (Some 0) None ≡ cond b (Some 0) None
-    by b = refl
+place_snoc p [] x = refl
 place_snoc p (y ∷ xs) x = by (p y) (first_place p xs) (p x) (place_snoc p xs x)
   where
     by : (b : Bool) (o : Option ℕ) (c : Bool) → first_place p (xs ++ x ∷ []) ≡ or_place o (cond c (Some (length xs)) None)
@@ -149,13 +149,13 @@ or_none : (o : Option ℕ) → or_place o None ≡ o
 or_none None = refl
 or_none (Some k) = refl
 
--- a group of a filter that no key finds
+-- a group of a filter that apart_so key finds
 pub places_skip : (places : BTreeMap Key ℕ) (filters : List FilterLine) (filter : FilterLine) → is_some (plain_domain filter.pattern) ≡ false
     → HasPlaces places filters → HasPlaces places (filters ++ filter ∷ [])
-places_skip places filters filter no has key =
+places_skip places filters filter apart_so has key =
     let q = map string_bytes key.items in
     has key ∙ sym (place_snoc (has_key q) filters filter
-    ∙ ap (λ b. or_place (first_place (has_key q) filters) (cond (b && pointwise bytes_eq (key_texts filter) q) (Some (length filters)) None)) no ∙ or_none (first_place (has_key q) filters))
+    ∙ ap (λ b. or_place (first_place (has_key q) filters) (cond (b && pointwise bytes_eq (key_texts filter) q) (Some (length filters)) None)) apart_so ∙ or_none (first_place (has_key q) filters))
 
 -- and of one with a new key
 pub places_more : (before now : BTreeMap Key ℕ) (filters : List FilterLine) (filter : FilterLine) (key : Key) (place : ℕ) → is_some (plain_domain filter.pattern) ≡ true
@@ -167,12 +167,12 @@ places_more before now filters filter key place plain is at has none updates oth
     let there = place_snoc (has_key q) filters filter ∙ ap (λ b. or_place (first_place (has_key q) filters) (cond (b && pointwise bytes_eq (key_texts filter) q) (Some (length filters)) None)) plain in
     updates.0 other ∙ ap (λ b. cond b (Some place) (get key_cmp before other)) found
     ∙ ⊎_elim
-    (λ (yes : pointwise bytes_eq (key_texts filter) q ≡ true).
-    let same : q ≡ map string_bytes key.items = sym ((pointwise_decides bytes_eq-Decides (key_texts filter) q).0 yes) ∙ sym is in
+    (λ (so : pointwise bytes_eq (key_texts filter) q ≡ true).
+    let same : q ≡ map string_bytes key.items = sym ((pointwise_decides bytes_eq-Decides (key_texts filter) q).0 so) ∙ sym is in
     let free : first_place (has_key q) filters ≡ None = ap (λ k. first_place (has_key k) filters) same ∙ sym (has key) ∙ none in
-    ap (λ b. cond b (Some place) (get key_cmp before other)) yes ∙ ap Some at
-    ∙ sym (there ∙ (λ i. or_place (free i) (cond (yes i) (Some (length filters)) None))))
-    (λ (no : pointwise bytes_eq (key_texts filter) q ≡ false).
-    ap (λ b. cond b (Some place) (get key_cmp before other)) no ∙ has other
-    ∙ sym (there ∙ ap (λ b. or_place (first_place (has_key q) filters) (cond b (Some (length filters)) None)) no ∙ or_none (first_place (has_key q) filters)))
+    ap (λ b. cond b (Some place) (get key_cmp before other)) so ∙ ap Some at
+    ∙ sym (there ∙ (λ i. or_place (free i) (cond (so i) (Some (length filters)) None))))
+    (λ (apart_so : pointwise bytes_eq (key_texts filter) q ≡ false).
+    ap (λ b. cond b (Some place) (get key_cmp before other)) apart_so ∙ has other
+    ∙ sym (there ∙ ap (λ b. or_place (first_place (has_key q) filters) (cond b (Some (length filters)) None)) apart_so ∙ or_none (first_place (has_key q) filters)))
     (true_or_false (pointwise bytes_eq (key_texts filter) q))

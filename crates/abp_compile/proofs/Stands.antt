@@ -1,5 +1,5 @@
 -- What stands for groups, and its rules.
-use Rattle.std.proofs.Common.{◌≡◌, ℕ, suc, List, [], ◌∷◌, ◌++◌, map, reverse, refl, sym, ap, ◌∙◌, subst, append_assoc, arith}
+use Rattle.std.proofs.Common.{◌≡◌, ℕ, suc, List, [], ◌∷◌, ◌++◌, map, reverse, get_or, refl, sym, ap, ◌∙◌, subst, append_assoc, arith}
 use Rattle.std.specs.Prelude.{All}
 use Rattle.std.specs.List.{flat_map}
 use Rattle.compile_spec.specs.Compiled.{Placed, Group, groups_of, placed_from, standing_with, standing, Standing, drafts_of, Draft, drafts_in}
@@ -33,16 +33,20 @@ flat_mapped : {X Y Z : Type 0} (f : Y → List Z) (g : X → Y) (xs : List X) �
 flat_mapped f g [] = refl
 flat_mapped f g (x ∷ xs) = ap (λ ys. f (g x) ++ ys) (flat_mapped f g xs)
 
-pub same_drafts : (groups : Groups) (lines : List (List ℕ)) → HasFilters groups (placed_from 1 lines) → flat_map (λ (group : code.Group). drafts_of (standing_of (told group))) groups.list.items ≡ drafts_in lines
+same_drafts : (groups : Groups) (lines : List (List ℕ)) → HasFilters groups (placed_from 1 lines) → flat_map (λ (group : code.Group). drafts_of (standing_of (told group))) groups.list.items ≡ drafts_in lines
 same_drafts groups lines has =
     sym (flat_mapped drafts_of (λ (group : code.Group). standing_of (told group)) groups.list.items) ∙ ap (flat_map drafts_of) (standings groups (placed_from 1 lines) has)
     ∙ flat_mapped drafts_of standing (groups_of (placed_from 1 lines))
+
+pub of_groups : (work : Work) (groups : Groups) (lines : List (List ℕ)) → HasFilters groups (placed_from 1 lines)
+    → HasDrafts work (flat_map (λ (group : code.Group). drafts_of (standing_of (told group))) groups.list.items) → HasDrafts work (drafts_in lines)
+of_groups work groups lines has drafts = subst (HasDrafts work) (same_drafts groups lines has) drafts
 
 pub give_rules : GroupsGiveRules → (groups : Groups) (lines : List (List ℕ)) → HasFilters groups (placed_from 1 lines)
     → All GivesAllRules (map (λ (group : code.Group). standing_of (told group)) groups.list.items)
 give_rules law groups lines has =
     subst (λ (l : List Standing). All GivesAllRules l) (sym (standings groups (placed_from 1 lines) has))
-    (All-map GivesAllRules standing (groups_of (placed_from 1 lines)) (λ k d less. gives_all _ (law lines k d less)))
+    (All-map GivesAllRules standing (groups_of (placed_from 1 lines)) (λ k d less. gives_all (standing (get_or (groups_of (placed_from 1 lines)) k d)) (law lines k d less)))
 
 -- ---- group by group, the last of what is left first
 

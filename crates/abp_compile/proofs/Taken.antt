@@ -1,32 +1,34 @@
 -- Groups that take in a filter.
-use Rattle.std.proofs.Common.{◌≡◌, ℕ, ◌<◌, suc, List, [], ◌∷◌, ◌++◌, map, set, get_or, length, Bool, true, false, cond, ◌&&◌, Option, Some, None, option_map, string_bytes, refl, sym, ap, ◌∙◌, subst}
-use Rattle.std.specs.Prelude.{is_some}
-use Rattle.std.specs.BTreeMap.{get}
+use Rattle.std.proofs.Common.{◌≡◌, ℕ, ◌<◌, zero, suc, List, [], ◌∷◌, ◌++◌, map, set, get_or, length, Bool, true, false, cond, ◌&&◌, Option, Some, None, option_map, String, Global, string_bytes, arith, refl, sym, ap, ◌∙◌, subst}
+use Rattle.std.specs.Prelude.{is_some, Result, Ok, Err, OnOk}
+use Rattle.std.specs.BTreeMap.{BTreeMap, get, UpdatesBy}
 use Rattle.std.specs.List.{AllByRecursion, cons_option}
 use Rattle.std.proofs.lemmas.List.{map-append, map-set, set-get_or, length-map}
 use Rattle.std.proofs.Math.ListN.{get_or-map}
 use Rattle.list_spec.specs.LineKind.{FilterLine, every_url}
 use Rattle.compile_spec.specs.Alike.{plain_domain, agree, alike}
 use Rattle.compile_spec.specs.Compiled.{Placed, groups_of}
+use Rattle.abp_parse.specs.Seen.{filter_seen}
+use Rattle.abp_compile.specs.declared.groups.Group.{Group}
 use Rattle.abp_compile.specs.declared.groups.Groups.{Groups}
 use Rattle.abp_compile.specs.Alike.{key_texts, has_key}
-use Rattle.abp_compile.specs.Groups.{Told, told, told_of, first_place, firsts, with_more, HasFilters, HasJoined, Takes, AreFound, key_cmp}
+use Rattle.abp_compile.specs.Groups.{Told, told, told_of, first_place, firsts, with_more, HasFilters, HasJoined, Takes, AreFound, Key, key_cmp}
 use Rattle.abp_compile.proofs.Joined.{told_joined, told_alone, no_place, told_behind, told_within}
-use Rattle.abp_compile.proofs.Keys.{finds_alike, place_same, place_mapped, place_below, places_skip}
+use Rattle.abp_compile.proofs.Keys.{finds_alike, place_same, place_mapped, place_below, at_first, at_later, places_skip, places_more}
 
 pub firsts_behind : (before now : Groups) (one : Told) → map told now.list.items ≡ map told before.list.items ++ one ∷ [] → firsts now.list.items ≡ firsts before.list.items ++ one.filter ∷ []
 firsts_behind before now one e = ap (map (λ (t : Told). t.filter)) e ∙ map-append (λ (t : Told). t.filter) (map told before.list.items) (one ∷ [])
 
--- ---- a filter of no plain domain
+-- ---- a filter of apart_so plain domain
 
 never_alike : (a c : Bool) → (a && false && c) ≡ false
 never_alike true c = refl
 never_alike false c = refl
 
 each_apart : (filter : FilterLine) → is_some (plain_domain filter.pattern) ≡ false → (tolds : List Told) → AllByRecursion (λ (t : Told). alike t.filter filter ≡ false) tolds
-each_apart filter no [] = tt
-each_apart filter no (t ∷ tolds) =
-    (ap (λ b. is_some (plain_domain t.filter.pattern) && b && agree t.filter filter) no ∙ never_alike (is_some (plain_domain t.filter.pattern)) (agree t.filter filter), each_apart filter no tolds)
+each_apart filter apart_so [] = tt
+each_apart filter apart_so (t ∷ tolds) =
+    (ap (λ b. is_some (plain_domain t.filter.pattern) && b && agree t.filter filter) apart_so ∙ never_alike (is_some (plain_domain t.filter.pattern)) (agree t.filter filter), each_apart filter apart_so tolds)
 
 abbrev alone_with : ℕ → FilterLine → List (List ℕ) → Told
 alone_with line filter domains = record { filter = filter; lines = line ∷ []; domains = domains }
@@ -68,18 +70,15 @@ takes_new line filter domain before now some none list =
 
 -- ---- one that joins
 
+passes_by : {X : Type 0} (p : X → Bool) (x : X) (xs : List X) (place : ℕ) (d : X) (b : Bool) (o : Option ℕ) → p x ≡ b → first_place p xs ≡ o → cond b (Some 0) (option_map suc o) ≡ Some place
+    → ((k : ℕ) → first_place p xs ≡ Some k → p (get_or xs k d) ≡ true) → p (get_or (x ∷ xs) place d) ≡ true
+passes_by p x xs place d true o e f n later = ap (λ k. p (get_or (x ∷ xs) k d)) (at_first place n) ∙ e
+passes_by p x xs place d false None e f n later = cc
+passes_by p x xs place d false (Some k) e f n later = ap (λ m. p (get_or (x ∷ xs) m d)) (at_later k place n) ∙ later k f
+
 place_passes : {X : Type 0} (p : X → Bool) (xs : List X) (place : ℕ) (d : X) → first_place p xs ≡ Some place → p (get_or xs place d) ≡ true
 place_passes p [] place d h = cc
-place_passes p (x ∷ xs) place d h = by (p x) (first_place p xs) refl refl h
-  where
-    first : Some 0 ≡ Some place → place ≡ 0
-    first e = cc
-    later : (k : ℕ) → Some (suc k) ≡ Some place → place ≡ suc k
-    later k e = cc
-    by : (b : Bool) (o : Option ℕ) → p x ≡ b → first_place p xs ≡ o → cond b (Some 0) (option_map suc o) ≡ Some place → p (get_or (x ∷ xs) place d) ≡ true
-    by true o e f n = ap (λ k. p (get_or (x ∷ xs) k d)) (first n) ∙ e
-    by false None e f n = cc
-    by false (Some k) e f n = ap (λ m. p (get_or (x ∷ xs) m d)) (later k n) ∙ place_passes p xs k d f
+place_passes p (x ∷ xs) place d h = passes_by p x xs place d (p x) (first_place p xs) refl refl h (λ k. place_passes p xs k d)
 
 alike_place : (filter : FilterLine) (tolds : List Told) (place : ℕ) → is_some (plain_domain filter.pattern) ≡ true
     → first_place (has_key (key_texts filter)) (map (λ (t : Told). t.filter) tolds) ≡ Some place → first_place (λ (t : Told). alike t.filter filter) tolds ≡ Some place
@@ -117,3 +116,33 @@ found_joined line domain place before now found same joined =
 pub place_in : (before : Groups) (test : FilterLine → Bool) (place : ℕ) → first_place test (firsts before.list.items) ≡ Some place → place < length before.list.items
 place_in before test place h =
     subst (λ n. place < n) (length-map (map told before.list.items) (λ (t : Told). t.filter) ∙ length-map before.list.items told) (place_below test (firsts before.list.items) place h)
+
+-- ---- one group more, and one that is longer
+
+same_default : {X : Type 0} (xs : List X) (i : ℕ) (d e : X) → i < length xs → get_or xs i d ≡ get_or xs i e
+same_default [] i d e less = absurd (omega arith)
+same_default (x ∷ xs) zero d e less = refl
+same_default (x ∷ xs) (suc i) d e less = same_default xs i d e (omega arith)
+
+pub joined_list : (groups : List Group) (place : ℕ) (old new : Group) (line : ℕ) (domain : String Global) → place < length groups → old ≡ get_or groups place old
+    → new.filter ≡ old.filter → new.lines.items ≡ old.lines.items ++ line ∷ [] → new.domains.items ≡ old.domains.items ++ domain ∷ [] → (none : Told)
+    → map told (set groups place new) ≡ set (map told groups) place (with_more line (string_bytes domain) (get_or (map told groups) place none))
+joined_list groups place old new line domain less at filter lines domains none =
+    let there : told old ≡ get_or (map told groups) place none =
+    ap told at ∙ sym (get_or-map told groups place old) ∙ same_default (map told groups) place (told old) none (subst (λ n. place < n) (sym (length-map groups told)) less) in
+    let more : told new ≡ with_more line (string_bytes domain) (told old) =
+    λ i. record { filter = filter_seen (filter i); lines = lines i; domains = (ap (map string_bytes) domains ∙ map-append string_bytes old.domains.items (domain ∷ [])) i } in
+    map-set told groups place new ∙ ap (set (map told groups) place) (more ∙ ap (with_more line (string_bytes domain)) there)
+
+pub found_new : (before now : Groups) (places : BTreeMap Key ℕ) (one : Told) (key : Key) (place : ℕ) → is_some (plain_domain one.filter.pattern) ≡ true
+    → map string_bytes key.items ≡ key_texts one.filter → place ≡ length before.list.items → AreFound before
+    → first_place (has_key (map string_bytes key.items)) (firsts before.list.items) ≡ None → UpdatesBy key_cmp (key_cmp key) before.places places (Some place)
+    → now.places ≡ places → map told now.list.items ≡ map told before.list.items ++ one ∷ [] → AreFound now
+found_new before now places one key place plain is at found new updates same list =
+    let long : place ≡ length (firsts before.list.items) = at ∙ sym (length-map (map told before.list.items) (λ (t : Told). t.filter) ∙ length-map before.list.items told) in
+    let more = places_more before.places places (firsts before.list.items) one.filter key place plain is long found (found key ∙ new) updates in
+    λ other. ap (λ p. get key_cmp p other) same ∙ more other ∙ ap (first_place (has_key (map string_bytes other.items))) (sym (firsts_behind before now one list))
+
+pub both_ok : {T E : Type 0} {P Q R : Type 0} (r : Result T E) → OnOk r P → OnOk r Q → (P → Q → R) → OnOk r R
+both_ok (Ok x) p q f = f p q
+both_ok (Err e) p q f = tt
