@@ -1,6 +1,11 @@
 pub mod Drafts
+pub mod Joined
+pub mod Keys
 pub mod Walk
 pub mod Named
 pub mod Once
 pub mod Parts
+pub mod Stands
 pub mod Under
+pub mod Turned
+pub mod Taken

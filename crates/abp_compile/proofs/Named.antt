@@ -7,14 +7,10 @@ use Rattle.std.proofs.lemmas.List.{length-map, get_or_append_left, get_or-append
 use Rattle.dnr_spec.specs.Domains.{is_domain, lower_case, domains_of, unless_bad}
 use Rattle.domain_set.proofs.Lowered.{domains_of-lower}
 use Rattle.rule_spec.specs.IsRule.{AreDomains, IsRule, is_number}
-use Rattle.compile_laws.specs.Laws.{FiltersGiveRules}
-use Rattle.list_spec.specs.LineKind.{FilterLine, filter_line, line_of}
-use Rattle.list_spec.specs.Says.{filter_in, is_usable}
 use Rattle.compile_spec.specs.Initiators.{Initiators, list_if_any, single, initiators_of}
-use Rattle.compile_spec.specs.Compiled.{Effect, Draft, rule_of}
+use Rattle.compile_spec.specs.Compiled.{Standing, Effect, Draft, drafts_with, rule_of}
 use Rattle.abp_compile.specs.Parted.{in_common, CanBeNamed}
-use Rattle.abp_compile.specs.Asked.{CanBeRead}
-use Rattle.abp_compile.specs.Work.{draft, IsGiven, GiveRules}
+use Rattle.abp_compile.specs.Work.{draft, IsGiven, GiveRules, GivesAllRules}
 
 again : (list domains : List (List ℕ)) (bad : Option ℕ) → position (λ entry. not (is_domain entry)) list ≡ bad → unless_bad list bad ≡ Ok domains → domains_of domains ≡ Ok domains
 again list domains None e h =
@@ -58,37 +54,35 @@ all_right P xs ys all = λ k d less. subst P (get_or-append-add xs ys k d) (all 
 pub all_unmapped : {X Y : Type 0} (P : Y → Type 0) (f : X → Y) (xs : List X) → All P (map f xs) → All (λ x. P (f x)) xs
 all_unmapped P f xs all = λ k d less. subst P (get_or-map f xs k d) (all k (f d) (omega (arith, length-map xs f)))
 
-pub give_left : (filter : FilterLine) (effect : Effect) (xs ys : List Initiators) → GiveRules filter effect (xs ++ ys) → GiveRules filter effect xs
-give_left filter effect xs ys give id number = all_left (IsGiven id filter effect) xs ys (give id number)
+pub give_left : (standing : Standing) (effect : Effect) (xs ys : List Initiators) → GiveRules standing effect (xs ++ ys) → GiveRules standing effect xs
+give_left standing effect xs ys give id number = all_left (IsGiven id standing effect) xs ys (give id number)
 
-pub give_right : (filter : FilterLine) (effect : Effect) (xs ys : List Initiators) → GiveRules filter effect (xs ++ ys) → GiveRules filter effect ys
-give_right filter effect xs ys give id number = all_right (IsGiven id filter effect) xs ys (give id number)
+pub give_right : (standing : Standing) (effect : Effect) (xs ys : List Initiators) → GiveRules standing effect (xs ++ ys) → GiveRules standing effect ys
+give_right standing effect xs ys give id number = all_right (IsGiven id standing effect) xs ys (give id number)
 
 -- what rules keep of their initiators
-pub named_given : (id : ℕ) (filter : FilterLine) (effect : Effect) (initiators : Initiators) → IsGiven id filter effect initiators → CanBeNamed initiators
-named_given id filter effect initiators rule = record { among = rule.condition.initiators.1; not_among = rule.condition.not_initiators }
+pub named_given : (id : ℕ) (standing : Standing) (effect : Effect) (initiators : Initiators) → IsGiven id standing effect initiators → CanBeNamed initiators
+named_given id standing effect initiators rule = record { among = rule.condition.initiators.1; not_among = rule.condition.not_initiators }
 
 pub number : (id : ℕ) → 0 < id → id ≤ 300000 → IsTrue (is_number id)
 number id some few = grind (arith, nat_tests)
 
-pub all_named : (filter : FilterLine) (effect : Effect) (list : List Initiators) → GiveRules filter effect list → All CanBeNamed list
-all_named filter effect list give = λ k d less. named_given 1 filter effect (get_or list k d) (give 1 (number 1 (omega arith) (omega arith)) k d less)
+pub all_named : (standing : Standing) (effect : Effect) (list : List Initiators) → GiveRules standing effect list → All CanBeNamed list
+all_named standing effect list give = λ k d less. named_given 1 standing effect (get_or list k d) (give 1 (number 1 (omega arith) (omega arith)) k d less)
 
 -- the one rule of a list
-pub only_given : (id : ℕ) (filter : FilterLine) (effect : Effect) (list : List Initiators) (initiators : Initiators) → GiveRules filter effect list → list ≡ initiators ∷ []
-    → 0 < id → id ≤ 300000 → IsGiven id filter effect initiators
-only_given id filter effect list initiators give is some few =
-    subst (λ (l : List Initiators). All (IsGiven id filter effect) l) is (give id (number id some few)) 0 initiators (omega arith)
+pub only_given : (id : ℕ) (standing : Standing) (effect : Effect) (list : List Initiators) (initiators : Initiators) → GiveRules standing effect list → list ≡ initiators ∷ []
+    → 0 < id → id ≤ 300000 → IsGiven id standing effect initiators
+only_given id standing effect list initiators give is some few =
+    subst (λ (l : List Initiators). All (IsGiven id standing effect) l) is (give id (number id some few)) 0 initiators (omega arith)
 
 -- the rule of a single domain
-pub single_given : (id : ℕ) (filter : FilterLine) (effect : Effect) (excluded nested : List (List ℕ)) (i : ℕ) (domain : List ℕ) → GiveRules filter effect (map (single excluded) nested)
-    → i < length nested → domain ≡ get_or nested i domain → 0 < id → id ≤ 300000 → IsGiven id filter effect (single excluded domain)
-single_given id filter effect excluded nested i domain give less is some few =
-    subst (λ (d : List ℕ). IsGiven id filter effect (single excluded d)) (sym is)
-    (all_unmapped (IsGiven id filter effect) (single excluded) nested (give id (number id some few)) i domain less)
+pub single_given : (id : ℕ) (standing : Standing) (effect : Effect) (excluded nested : List (List ℕ)) (i : ℕ) (domain : List ℕ) → GiveRules standing effect (map (single excluded) nested)
+    → i < length nested → domain ≡ get_or nested i domain → 0 < id → id ≤ 300000 → IsGiven id standing effect (single excluded domain)
+single_given id standing effect excluded nested i domain give less is some few =
+    subst (λ (d : List ℕ). IsGiven id standing effect (single excluded d)) (sym is)
+    (all_unmapped (IsGiven id standing effect) (single excluded) nested (give id (number id some few)) i domain less)
 
--- the rules of a filter that some text is read as
-pub gives_all : FiltersGiveRules → (f : FilterLine) → CanBeRead (filter_line f) → is_usable f.pattern ≡ true → (effect : Effect) → GiveRules f effect (initiators_of f.domains)
-gives_all law f read usable effect id numbered =
-    let is : filter_in (line_of read.0) ≡ Some f = ap filter_in read.1 ∙ ap (λ b. cond b (Some f) None) usable in
-    all_unmapped (λ (one : Draft). IsRule (rule_of id one)) (draft 0 f effect) (initiators_of f.domains) (law read.0 f is (0 ∷ []) effect id numbered)
+-- the rules of filters that stand as one
+pub gives_all : (standing : Standing) → ((effect : Effect) (id : ℕ) → IsTrue (is_number id) → All (λ one. IsRule (rule_of id one)) (drafts_with standing effect)) → GivesAllRules standing
+gives_all standing law effect id numbered = all_unmapped (λ (one : Draft). IsRule (rule_of id one)) (draft standing effect) (initiators_of standing.filter.domains) (law effect id numbered)

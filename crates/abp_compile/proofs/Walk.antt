@@ -5,7 +5,7 @@ use Rattle.dnr_base.specs.Faults.{HasCauseOf}
 use Rattle.std.proofs.lemmas.List.{append-nil}
 use Rattle.list_spec.specs.LineKind.{FilterLine, filter_line, lines_of, line_of}
 use Rattle.list_spec.specs.Says.{is_usable, filter_in, reason_of}
-use Rattle.compile_spec.specs.Compiled.{compiled, max_compiled, with_ids, rules_in, origins_in, Draft, drafts_of, drafts_in, drafts_from}
+use Rattle.compile_spec.specs.Compiled.{compiled, max_compiled, with_ids, rules_in, origins_in, Placed, and_filter, placed_from, Draft, drafts_in}
 use Rattle.list_spec.specs.declared.reason.Reason.TheVariants.{BadRegex}
 use Rattle.compile_spec.specs.declared.reported.Reported.{Reported}
 use Rattle.compile_spec.specs.Report.{report, report_of, report_from, line_at}
@@ -14,24 +14,30 @@ use Rattle.abp_compile.specs.declared.report.CompileRefusal.TheVariants.{TooMany
 use Rattle.abp_compile.specs.declared.work.Work.{Work}
 use Rattle.abp_compile.specs.Answers.{StopsAt}
 use Rattle.abp_compile.specs.Asked.{StopsOnlyAt}
-use Rattle.abp_compile.specs.Work.{HasDrafts, Gains}
+use Rattle.abp_compile.specs.Groups.{placed_in, HasFilters, Takes}
+use Rattle.abp_compile.specs.Work.{HasDrafts}
+use Rattle.abp_compile.specs.declared.groups.Groups.{Groups}
+
+split : (number : ℕ) (filter : Option FilterLine) (later : List Placed) → and_filter number filter later ≡ placed_in number filter ++ later
+split number None later = refl
+split number (Some filter) later = refl
 
 -- what was made of the lines before the rest, which begins with the line of this number
-pub record IsAt (lines rest : List ℕ) (number : ℕ) (work : Work) : Type 0 where
-  pub held : List Draft
-  pub has : HasDrafts work held
-  pub left : drafts_from 1 (lines_of lines) ≡ held ++ drafts_from number (lines_of rest)
-  pub reported : report_from 1 (lines_of lines) ≡ work.reported.items ++ report_from number (lines_of rest)
+pub record IsAt (lines rest : List ℕ) (number : ℕ) (groups : Groups) (reported : List Reported) : Type 0 where
+  pub held : List Placed
+  pub has : HasFilters groups held
+  pub left : placed_from 1 (lines_of lines) ≡ held ++ placed_from number (lines_of rest)
+  pub reports : report_from 1 (lines_of lines) ≡ reported ++ report_from number (lines_of rest)
   pub before : ℕ
   pub follows : number ≡ suc before
   pub place : drop before (lines_of lines) ≡ lines_of rest
 
-pub begins : (lines : List ℕ) (work : Work) → HasDrafts work [] → work.reported.items ≡ [] → IsAt lines lines 1 work
-begins lines work has none = record {
+pub begins : (lines : List ℕ) (groups : Groups) (reported : List Reported) → HasFilters groups [] → reported ≡ [] → IsAt lines lines 1 groups reported
+begins lines groups reported has none = record {
   held = [];
   has = has;
   left = refl;
-  reported = ap (λ r. r ++ report_from 1 (lines_of lines)) (sym none);
+  reports = ap (λ r. r ++ report_from 1 (lines_of lines)) (sym none);
   before = 0;
   follows = refl;
   place = refl;
@@ -49,45 +55,43 @@ get_here zero (y ∷ xs) x rest e = cc
 get_here (suc n) [] x rest e = cc
 get_here (suc n) (y ∷ xs) x rest e = get_here n xs x rest e
 
-module _ (lines rest line : List ℕ) (more : List (List ℕ)) (number : ℕ) (old new : Work) where
-  gained : (at : IsAt lines rest number old) → lines_of rest ≡ line ∷ more → Gains (drafts_in number (filter_in (line_of line))) old new
-      → HasDrafts new (at.held ++ drafts_in number (filter_in (line_of line)))
-  gained at cut gains = gains at.held at.has
+module _ (lines rest line : List ℕ) (more : List (List ℕ)) (number : ℕ) (old new : Groups) (told now : List Reported) where
+  left : (at : IsAt lines rest number old told) → lines_of rest ≡ line ∷ more
+      → placed_from 1 (lines_of lines) ≡ (at.held ++ placed_in number (filter_in (line_of line))) ++ placed_from (number + 1) more
+  left at cut =
+      at.left ∙ ap (λ l. at.held ++ placed_from number l) cut ∙ ap (λ l. at.held ++ l) (split number (filter_in (line_of line)) (placed_from (number + 1) more))
+      ∙ sym (append_assoc at.held (placed_in number (filter_in (line_of line))) (placed_from (number + 1) more))
 
-  left : (at : IsAt lines rest number old) → lines_of rest ≡ line ∷ more
-      → drafts_from 1 (lines_of lines) ≡ (at.held ++ drafts_in number (filter_in (line_of line))) ++ drafts_from (number + 1) more
-  left at cut = at.left ∙ ap (λ l. at.held ++ drafts_from number l) cut ∙ sym (append_assoc at.held (drafts_in number (filter_in (line_of line))) (drafts_from (number + 1) more))
+  reports : (at : IsAt lines rest number old told) → lines_of rest ≡ line ∷ more → now ≡ told ++ report_of number (reason_of (line_of line))
+      → report_from 1 (lines_of lines) ≡ now ++ report_from (number + 1) more
+  reports at cut is =
+      at.reports ∙ ap (λ l. told ++ report_from number l) cut
+      ∙ sym (append_assoc told (report_of number (reason_of (line_of line))) (report_from (number + 1) more))
+      ∙ ap (λ r. r ++ report_from (number + 1) more) (sym is)
 
-  told : (at : IsAt lines rest number old) → lines_of rest ≡ line ∷ more → new.reported.items ≡ old.reported.items ++ report_of number (reason_of (line_of line))
-      → report_from 1 (lines_of lines) ≡ new.reported.items ++ report_from (number + 1) more
-  told at cut reports =
-      at.reported ∙ ap (λ l. old.reported.items ++ report_from number l) cut
-      ∙ sym (append_assoc old.reported.items (report_of number (reason_of (line_of line))) (report_from (number + 1) more))
-      ∙ ap (λ r. r ++ report_from (number + 1) more) (sym reports)
-
-  pub goes_on : (later : List ℕ) → IsAt lines rest number old → lines_of rest ≡ line ∷ more → more ≡ lines_of later
-      → Gains (drafts_in number (filter_in (line_of line))) old new → new.reported.items ≡ old.reported.items ++ report_of number (reason_of (line_of line))
-      → IsAt lines later (number + 1) new
-  goes_on later at cut behind gains reports = record {
-    held = at.held ++ drafts_in number (filter_in (line_of line));
-    has = gained at cut gains;
-    left = left at cut ∙ ap (λ l. (at.held ++ drafts_in number (filter_in (line_of line))) ++ drafts_from (number + 1) l) behind;
-    reported = told at cut reports ∙ ap (λ l. new.reported.items ++ report_from (number + 1) l) behind;
+  pub goes_on : (later : List ℕ) → IsAt lines rest number old told → lines_of rest ≡ line ∷ more → more ≡ lines_of later
+      → Takes (placed_in number (filter_in (line_of line))) old new → now ≡ told ++ report_of number (reason_of (line_of line))
+      → IsAt lines later (number + 1) new now
+  goes_on later at cut behind takes is = record {
+    held = at.held ++ placed_in number (filter_in (line_of line));
+    has = takes at.held at.has;
+    left = left at cut ∙ ap (λ l. (at.held ++ placed_in number (filter_in (line_of line))) ++ placed_from (number + 1) l) behind;
+    reports = reports at cut is ∙ ap (λ l. now ++ report_from (number + 1) l) behind;
     before = suc at.before;
     follows = omega (arith, at.follows);
     place = drop_next at.before (lines_of lines) line more (at.place ∙ cut) ∙ behind;
   }
 
-  pub ends_drafts : IsAt lines rest number old → lines_of rest ≡ line ∷ more → more ≡ [] → Gains (drafts_in number (filter_in (line_of line))) old new
-      → HasDrafts new (drafts_from 1 (lines_of lines))
-  ends_drafts at cut behind gains =
-      subst (HasDrafts new) (sym (left at cut ∙ ap (λ l. (at.held ++ drafts_in number (filter_in (line_of line))) ++ drafts_from (number + 1) l) behind ∙ append-nil _)) (gained at cut gains)
+  pub ends_filters : IsAt lines rest number old told → lines_of rest ≡ line ∷ more → more ≡ [] → Takes (placed_in number (filter_in (line_of line))) old new
+      → HasFilters new (placed_from 1 (lines_of lines))
+  ends_filters at cut behind takes =
+      subst (HasFilters new) (sym (left at cut ∙ ap (λ l. (at.held ++ placed_in number (filter_in (line_of line))) ++ placed_from (number + 1) l) behind ∙ append-nil _)) (takes at.held at.has)
 
-  pub ends_reported : IsAt lines rest number old → lines_of rest ≡ line ∷ more → more ≡ [] → new.reported.items ≡ old.reported.items ++ report_of number (reason_of (line_of line))
-      → new.reported.items ≡ report_from 1 (lines_of lines)
-  ends_reported at cut behind reports = sym (told at cut reports ∙ ap (λ l. new.reported.items ++ report_from (number + 1) l) behind ∙ append-nil _)
+  pub ends_reported : IsAt lines rest number old told → lines_of rest ≡ line ∷ more → more ≡ [] → now ≡ told ++ report_of number (reason_of (line_of line))
+      → now ≡ report_from 1 (lines_of lines)
+  ends_reported at cut behind is = sym (reports at cut is ∙ ap (λ l. now ++ report_from (number + 1) l) behind ∙ append-nil _)
 
-  pub stops_there : IsAt lines rest number old → lines_of rest ≡ line ∷ more → (refusal : CompileRefusal) → StopsOnlyAt number (line_of line) refusal → StopsAt (lines_of lines) refusal
+  pub stops_there : IsAt lines rest number old told → lines_of rest ≡ line ∷ more → (refusal : CompileRefusal) → StopsOnlyAt number (line_of line) refusal → StopsAt (lines_of lines) refusal
   stops_there at cut (TooManyRules count) stops = tt
   stops_there at cut NoMemory stops = tt
   stops_there at cut (HostFault place) stops =
@@ -96,11 +100,14 @@ module _ (lines rest line : List ℕ) (more : List (List ℕ)) (number : ℕ) (o
 
 -- ---- a filter
 
-pub usable_drafts : (n : ℕ) (f : FilterLine) (old new : Work) → is_usable f.pattern ≡ true → Gains (drafts_of (n ∷ []) f) old new → Gains (drafts_in n (filter_in (filter_line f))) old new
-usable_drafts n f old new e gains = subst (λ (o : Option FilterLine). Gains (drafts_in n o) old new) (sym (ap (λ b. cond b (Some f) None) e)) gains
+pub takes_none : (before now : Groups) → now ≡ before → Takes [] before now
+takes_none before now same placed has = subst (λ (g : Groups). HasFilters g (placed ++ [])) (sym same) (subst (HasFilters before) (sym (append-nil placed)) has)
 
-pub bad_drafts : (n : ℕ) (f : FilterLine) (old new : Work) → is_usable f.pattern ≡ false → Gains [] old new → Gains (drafts_in n (filter_in (filter_line f))) old new
-bad_drafts n f old new e gains = subst (λ (o : Option FilterLine). Gains (drafts_in n o) old new) (sym (ap (λ b. cond b (Some f) None) e)) gains
+pub usable_takes : (n : ℕ) (f : FilterLine) (old new : Groups) → is_usable f.pattern ≡ true → Takes (record { line = n; filter = f } ∷ []) old new → Takes (placed_in n (filter_in (filter_line f))) old new
+usable_takes n f old new e takes = subst (λ (o : Option FilterLine). Takes (placed_in n o) old new) (sym (ap (λ b. cond b (Some f) None) e)) takes
+
+pub bad_takes : (n : ℕ) (f : FilterLine) (old new : Groups) → is_usable f.pattern ≡ false → Takes [] old new → Takes (placed_in n (filter_in (filter_line f))) old new
+bad_takes n f old new e takes = subst (λ (o : Option FilterLine). Takes (placed_in n o) old new) (sym (ap (λ b. cond b (Some f) None) e)) takes
 
 pub usable_reported : (n : ℕ) (f : FilterLine) (old new : List Reported) → is_usable f.pattern ≡ true → new ≡ old → new ≡ old ++ report_of n (reason_of (filter_line f))
 usable_reported n f old new e same = same ∙ sym (append-nil old) ∙ ap (λ b. old ++ report_of n (cond b None (Some BadRegex))) (sym e)
@@ -115,15 +122,15 @@ length-with_ids : (id : ℕ) (xs : List Draft) → length (with_ids id xs) ≡ l
 length-with_ids id [] = refl
 length-with_ids id (x ∷ xs) = ap suc (length-with_ids (id + 1) xs)
 
-pub length-compiled : (lines : List (List ℕ)) → length (compiled lines) ≡ length (drafts_from 1 lines)
+pub length-compiled : (lines : List (List ℕ)) → length (compiled lines) ≡ length (drafts_in lines)
 unfolding compiled
-length-compiled lines = length-with_ids 1 (drafts_from 1 lines)
+length-compiled lines = length-with_ids 1 (drafts_in lines)
 
-pub rules_compiled : (lines : List (List ℕ)) (work : Work) → HasDrafts work (drafts_from 1 lines) → work.count ≤ max_compiled → work.rules.items ≡ rules_in (compiled lines)
+pub rules_compiled : (lines : List (List ℕ)) (work : Work) → HasDrafts work (drafts_in lines) → work.count ≤ max_compiled → work.rules.items ≡ rules_in (compiled lines)
 unfolding compiled
 rules_compiled lines work has few = has.rules few
 
-pub origins_compiled : (lines : List (List ℕ)) (work : Work) → HasDrafts work (drafts_from 1 lines) → work.count ≤ max_compiled → work.origins.items ≡ origins_in (compiled lines)
+pub origins_compiled : (lines : List (List ℕ)) (work : Work) → HasDrafts work (drafts_in lines) → work.count ≤ max_compiled → work.origins.items ≡ origins_in (compiled lines)
 unfolding compiled
 origins_compiled lines work has few = has.origins few
 

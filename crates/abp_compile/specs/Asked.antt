@@ -1,6 +1,6 @@
 -- Lines at which a host of patterns is asked.
 use Rattle.std.specs.Prelude.{◌≡◌, ◌≤◌, ℕ, List, length}
-use Rattle.list_spec.specs.LineKind.{FilterLine, filter_line, regex, line_of}
+use Rattle.list_spec.specs.LineKind.{FilterLine, filter_line, regex}
 use Rattle.list_spec.specs.LineKind as lines
 use Rattle.list_spec.specs.Says.{max_regex}
 use Rattle.abp_compile.specs.declared.report.CompileRefusal.{CompileRefusal}
@@ -9,10 +9,6 @@ use Rattle.abp_compile.specs.declared.report.CompileRefusal.TheVariants.{TooMany
 -- the pattern is a regular expression, and not too long to be asked about
 abbrev pub IsAsked : lines.FilterPattern → Type 0
 IsAsked filter_pattern = (pattern : List ℕ) × (filter_pattern ≡ regex pattern) × (length pattern ≤ max_regex)
-
--- some text is read as such a line
-abbrev pub CanBeRead : lines.Line → Type 0
-CanBeRead line = (text : List ℕ) × (line_of text ≡ line)
 
 abbrev pub IsNotTooMany : CompileRefusal → Type 0
 IsNotTooMany (TooManyRules count) = ⊥

@@ -1,7 +1,6 @@
 -- The program's types, as those of the definitions.
-use Rattle.std.specs.Prelude.{ℕ, List, [], ◌∷◌, map}
+use Rattle.std.specs.Prelude.{ℕ, List, [], ◌∷◌, map, option_map}
 use Rattle.abp_parse.specs.Seen.{filter_seen}
-use Rattle.abp_parse.specs.declared.line.FilterLine.{FilterLine}
 use Rattle.rule_spec.specs.Rule.{Rule}
 use Rattle.compile_spec.specs.Initiators as spec_initiators
 use Rattle.compile_spec.specs.Compiled as spec
@@ -10,6 +9,7 @@ use Rattle.abp_compile.specs.declared.effects.Effect.{Effect}
 use Rattle.abp_compile.specs.declared.effects.Effect.TheVariants.{Blocks, Allows, Exempts}
 use Rattle.abp_compile.specs.declared.effects.Effects.{Effects}
 use Rattle.abp_compile.specs.declared.effects.Effects.TheVariants.{Nothing, One, Both}
+use Rattle.abp_compile.specs.declared.groups.Standing.{Standing}
 use Rattle.abp_compile.specs.declared.initiators.Initiators.{Initiators}
 use Rattle.abp_compile.specs.declared.initiators.Parted.{Parted}
 
@@ -38,7 +38,11 @@ parted_seen domains = parted domains.excluded.items domains.others.items domains
 abbrev pub singles_of : Parted → List spec_initiators.Initiators
 singles_of domains = map (spec_initiators.single domains.excluded.items) domains.nested.items
 
--- the rule of a filter for these initiators
-abbrev pub rule_seen : ℕ → FilterLine → Effect → Initiators → Rule
-rule_seen id filter effect initiators =
-    spec.rule_of id (record { lines = []; filter = filter_seen filter; effect = effect_seen effect; initiators = initiators_seen initiators })
+abbrev pub standing_seen : Standing → spec.Standing
+standing_seen standing =
+    record { lines = standing.lines; filter = filter_seen standing.filter; hosts = option_map (λ hosts. hosts.items) standing.hosts }
+
+-- the rule of what stands for filters, for these initiators
+abbrev pub rule_seen : ℕ → Standing → Effect → Initiators → Rule
+rule_seen id standing effect initiators =
+    spec.rule_of id (record { standing = standing_seen standing; effect = effect_seen effect; initiators = initiators_seen initiators })

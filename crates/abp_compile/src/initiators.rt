@@ -132,7 +132,7 @@ fn set_if_any(alloc: Global, domains: &[Text]) -> Result<Option<DomainSet>, NoMe
     Ok(Some(set_of(alloc, domains)?))
 }
 
-fn set_of(alloc: Global, domains: &[Text]) -> Result<DomainSet, NoMemory>
+pub(crate) fn set_of(alloc: Global, domains: &[Text]) -> Result<DomainSet, NoMemory>
     requires { AreDomains domains.now }
     ensures { IfOk result (λ set. set ≡ domains.now) }
 {

@@ -4,8 +4,10 @@
 //! Which rules a list gives, and which of its lines are reported, stands in `compile_spec`.
 #![tactic(auto)]
 
+mod alike;
 mod domains;
 mod effects;
+mod groups;
 mod initiators;
 mod lines;
 mod report;

@@ -1,23 +1,27 @@
 // The lines of a list, one after another.
-ghost use Rattle.std.specs.Prelude.{◌≡◌, ◌==◌, ◌≤◌, ◌<◌, ◌++◌, ◌∷◌, ℕ, length, position, IfOk};
+ghost use Rattle.std.specs.Prelude.{◌≡◌, ◌==◌, ◌≤◌, ◌<◌, ◌++◌, [], ◌∷◌, ℕ, length, map, position, All, IfOk};
 ghost use Rattle.std.specs.Prelude.{IfErr, IfSome, IsErrOf, OnOk};
+ghost use Rattle.std.specs.List.{flat_map};
 ghost use Rattle.dnr_base.specs.Faults.{HasCauseOf};
 ghost use Rattle.abp_parse.specs.Cut.{pieces_left};
 ghost use Rattle.abp_parse.specs.Seen.{filter_seen, line_seen, pattern_seen};
 ghost use Rattle.list_spec.specs.LineKind.{lines_of, line_of, filter_line};
 ghost use Rattle.list_spec.specs.Says.{filter_in, reason_of, is_usable};
 ghost use Rattle.regex_host.specs.Answers as asked;
-ghost use Rattle.compile_spec.specs.Compiled.{compiled, rules_in, origins_in, max_compiled, drafts_in, drafts_from};
+ghost use Rattle.compile_spec.specs.Compiled.{compiled, rules_in, origins_in, max_compiled, placed_from, drafts_of};
 ghost use Rattle.compile_spec.specs.Report.{report, report_of, report_from};
 ghost use Rattle.abp_compile.specs.Answers.{CountsTooMany, StopsAt, IsCalm};
-ghost use Rattle.abp_compile.specs.Asked.{CanBeRead, IsAsked, IsNotTooMany, StopsOnlyAt};
-ghost use Rattle.abp_compile.specs.Work.{HasDrafts, Gains};
+ghost use Rattle.abp_compile.specs.Asked.{IsAsked, IsNotTooMany, StopsOnlyAt};
+ghost use Rattle.abp_compile.specs.Groups.{told, standing_of, placed_in, AreFound, HasFilters, Takes};
+ghost use Rattle.abp_compile.specs.Work.{HasDrafts, GivesAllRules};
 
+use crate::groups::Groups;
 use crate::report::{CompileRefusal, Report};
 use crate::work::{MAX_RULES, Work};
 use abp_parse::{FilterLine, FilterPattern, Line, parse_line};
-use compile_laws::filters_give_rules;
-use dnr_base::Items;
+use compile_laws::groups_give_rules;
+use compile_spec::Reported;
+use dnr_base::{Items, NoMemory};
 use dnr_rules::Rule;
 use list_spec::Reason;
 use regex_host::{HostRefusal, RegexHost};
@@ -27,7 +31,7 @@ use std::alloc::Global;
 const MAX_REGEX: usize = 4096;
 
 /// Compiles a filter list: the rules of its filters, with ids from 1 in the order of the lines, and a report. Lines end
-/// at LF.
+/// at LF. Filters of plain domains that are alike give the rules of the first of them, with a list of all domains.
 ///
 /// # Errors
 ///
@@ -49,45 +53,83 @@ pub fn compile<H: RegexHost>(
     ensures cause { (line : ℕ) → HasCauseOf (CompileRefusal.HostFault line) (H.faults host.old) (H.faults host.new) result }
     ensures calm { IsCalm (H.faults host.old) (H.faults host.new) result }
 {
-    let work = match take_lines(alloc, lines, host) {
-        Ok(work) => work,
+    let taken = match take_lines(alloc, lines, host) {
+        Ok(taken) => taken,
         Err(refusal) => return Err(refusal),
     };
+    groups_give_rules();
+    let work = rules_of(alloc, taken.groups)?;
     if work.count > MAX_RULES {
         return Err(CompileRefusal::TooManyRules(work.count));
     }
     let report = Report {
-        lines: Items::build(work.reported),
+        lines: Items::build(taken.reported),
         origins: work.origins,
     };
     Ok((work.rules, report))
+}
+
+// The rules of the groups, in their order.
+fn rules_of(alloc: Global, groups: Groups) -> Result<Work, NoMemory>
+    requires { All GivesAllRules (map (λ group. standing_of (told group)) groups.list.items) }
+    ensures { IfOk result (λ work. HasDrafts work (flat_map (λ group. drafts_of (standing_of (told group))) groups.list.items)) }
+{
+    let mut list = groups.list;
+    // Each group is let go as its rules are made.
+    list.reverse();
+    let mut work = Work::new(alloc);
+    while let Some(group) = list.pop() {
+        let standing = group.stand(alloc)?;
+        work.add(alloc, &standing)?;
+    }
+    Ok(work)
+}
+
+// What the lines of a list give: filters, and reports.
+#[derive(Drop)]
+struct Taken {
+    groups: Groups,
+    reported: Vec<Reported>,
+}
+
+impl Taken {
+    fn report(&mut self, line: u32, reason: Reason) -> Result<(), NoMemory>
+        ensures reported { OnOk result (self.new.reported.items ≡ self.old.reported.items ++ record { line = line; reason = reason } ∷ []) }
+        ensures groups { self.new.groups ≡ self.old.groups }
+    {
+        self.reported.push(Reported { line, reason })?;
+        Ok(())
+    }
 }
 
 fn take_lines<H: RegexHost>(
     alloc: Global,
     lines: &[u8],
     host: &mut H,
-) -> Result<Work, CompileRefusal>
+) -> Result<Taken, CompileRefusal>
     requires { length lines.now < 4294967295 }
-    ensures drafts { IfOk result (λ work. HasDrafts work (drafts_from 1 (lines_of lines.now))) }
-    ensures reported { IfOk result (λ work. work.reported.items ≡ report_from 1 (lines_of lines.now)) }
+    ensures filters { IfOk result (λ taken. HasFilters taken.groups (placed_from 1 (lines_of lines.now))) }
+    ensures reported { IfOk result (λ taken. taken.reported.items ≡ report_from 1 (lines_of lines.now)) }
     ensures stops { IfErr result (StopsAt (lines_of lines.now)) }
     ensures few { IfErr result IsNotTooMany }
     ensures cause { (line : ℕ) → HasCauseOf (CompileRefusal.HostFault line) (H.faults host.old) (H.faults host.new) result }
     ensures calm { IsCalm (H.faults host.old) (H.faults host.new) result }
 {
-    let mut work = Work::new(alloc);
+    let mut taken = Taken {
+        groups: Groups::new(alloc),
+        reported: Vec::new(alloc),
+    };
     let mut rest = lines;
     let mut number = 1;
     'lines: loop {
         let (line, later) = cut_line(rest);
-        match take_line(alloc, number, line, &mut work, host) {
+        match take_line(alloc, number, line, &mut taken, host) {
             Ok(()) => {}
             Err(refusal) => return Err(refusal),
         }
         match later {
             Some(later) => rest = later,
-            None => return Ok(work),
+            None => return Ok(taken),
         }
         number += 1;
     }
@@ -115,29 +157,32 @@ fn take_line<H: RegexHost>(
     alloc: Global,
     number: u32,
     line: &[u8],
-    work: &mut Work,
+    taken: &mut Taken,
     host: &mut H,
 ) -> Result<(), CompileRefusal>
-    ensures drafts { OnOk result (Gains (drafts_in number (filter_in (line_of line.now))) work.old work.new) }
-    ensures reported { OnOk result (work.new.reported.items ≡ work.old.reported.items ++ report_of number (reason_of (line_of line.now))) }
+    requires found { AreFound taken.old.groups }
+    ensures found { OnOk result (AreFound taken.new.groups) }
+    ensures takes { OnOk result (Takes (placed_in number (filter_in (line_of line.now))) taken.old.groups taken.new.groups) }
+    ensures reported { OnOk result (taken.new.reported.items ≡ taken.old.reported.items ++ report_of number (reason_of (line_of line.now))) }
     ensures stops { IfErr result (StopsOnlyAt number (line_of line.now)) }
     ensures cause { HasCauseOf (CompileRefusal.HostFault number) (H.faults host.old) (H.faults host.new) result }
     ensures calm { IsCalm (H.faults host.old) (H.faults host.new) result }
 {
     let parsed = parse_line(alloc, line)?;
-    take_parsed(alloc, number, parsed, work, host)
+    take_parsed(alloc, number, parsed, taken, host)
 }
 
 fn take_parsed<H: RegexHost>(
     alloc: Global,
     number: u32,
     line: Line,
-    work: &mut Work,
+    taken: &mut Taken,
     host: &mut H,
 ) -> Result<(), CompileRefusal>
-    requires { CanBeRead (line_seen line) }
-    ensures drafts { OnOk result (Gains (drafts_in number (filter_in (line_seen line))) work.old work.new) }
-    ensures reported { OnOk result (work.new.reported.items ≡ work.old.reported.items ++ report_of number (reason_of (line_seen line))) }
+    requires found { AreFound taken.old.groups }
+    ensures found { OnOk result (AreFound taken.new.groups) }
+    ensures takes { OnOk result (Takes (placed_in number (filter_in (line_seen line))) taken.old.groups taken.new.groups) }
+    ensures reported { OnOk result (taken.new.reported.items ≡ taken.old.reported.items ++ report_of number (reason_of (line_seen line))) }
     ensures stops { IfErr result (StopsOnlyAt number (line_seen line)) }
     ensures cause { HasCauseOf (CompileRefusal.HostFault number) (H.faults host.old) (H.faults host.new) result }
     ensures calm { IsCalm (H.faults host.old) (H.faults host.new) result }
@@ -147,36 +192,36 @@ fn take_parsed<H: RegexHost>(
         Line::Comment => Ok(()),
         Line::Header => Ok(()),
         Line::Unsupported(reason) => {
-            work.report(number, reason)?;
+            taken.report(number, reason)?;
             Ok(())
         }
-        Line::Filter(filter) => take_filter(alloc, number, filter, work, host),
+        Line::Filter(filter) => take_filter(alloc, number, filter, taken, host),
     }
 }
 
-// Adds the rules of a filter, or reports its line where the pattern can't be used.
+// Takes in a filter, or reports its line where the pattern can't be used.
 fn take_filter<H: RegexHost>(
     alloc: Global,
     number: u32,
     filter: FilterLine,
-    work: &mut Work,
+    taken: &mut Taken,
     host: &mut H,
 ) -> Result<(), CompileRefusal>
-    requires { CanBeRead (filter_line (filter_seen filter)) }
-    ensures drafts { OnOk result (Gains (drafts_in number (filter_in (filter_line (filter_seen filter)))) work.old work.new) }
-    ensures reported { OnOk result (work.new.reported.items ≡ work.old.reported.items ++ report_of number (reason_of (filter_line (filter_seen filter)))) }
+    requires found { AreFound taken.old.groups }
+    ensures found { OnOk result (AreFound taken.new.groups) }
+    ensures takes { OnOk result (Takes (placed_in number (filter_in (filter_line (filter_seen filter)))) taken.old.groups taken.new.groups) }
+    ensures reported { OnOk result (taken.new.reported.items ≡ taken.old.reported.items ++ report_of number (reason_of (filter_line (filter_seen filter)))) }
     ensures stops { IfErr result (StopsOnlyAt number (filter_line (filter_seen filter))) }
     ensures cause { HasCauseOf (CompileRefusal.HostFault number) (H.faults host.old) (H.faults host.new) result }
     ensures calm { IsCalm (H.faults host.old) (H.faults host.new) result }
 {
     match is_usable(&filter, host) {
         Ok(true) => {
-            filters_give_rules();
-            work.add_filter(alloc, number, filter)?;
+            taken.groups.add(alloc, number, filter)?;
             Ok(())
         }
         Ok(false) => {
-            work.report(number, Reason::BadRegex)?;
+            taken.report(number, Reason::BadRegex)?;
             Ok(())
         }
         Err(HostRefusal::HostFault) => Err(CompileRefusal::HostFault(number)),

@@ -16,12 +16,12 @@ use Rattle.compile_laws.proofs.Lists.{true_or_false}
 abbrev pub Covered : List ℕ → List ℕ → Type 0
 Covered entry host = (entry ≡ host) ⊎ ((front : List ℕ) × (is_ip_host host ≡ false) × (host ≡ front ++ 46 ∷ entry))
 
-take_and_drop : (n : ℕ) (xs : List ℕ) → xs ≡ take n xs ++ drop n xs
+pub take_and_drop : (n : ℕ) (xs : List ℕ) → xs ≡ take n xs ++ drop n xs
 take_and_drop zero xs = refl
 take_and_drop (suc n) [] = refl
 take_and_drop (suc n) (x ∷ xs) = ap (λ (rest : List ℕ). x ∷ rest) (take_and_drop n xs)
 
-drop_front : (front rest : List ℕ) → drop (length front) (front ++ rest) ≡ rest
+pub drop_front : (front rest : List ℕ) → drop (length front) (front ++ rest) ≡ rest
 drop_front [] rest = refl
 drop_front (x ∷ front) rest = drop_front front rest
 
@@ -81,7 +81,7 @@ is_longer a b (inr under) apart = omega (arith, ap length under.2, length-append
 
 -- ---- labels
 
-labels_some : (text : List ℕ) → (label : List ℕ) × (labels : List (List ℕ)) × (labels_of text ≡ label ∷ labels)
+pub labels_some : (text : List ℕ) → (label : List ℕ) × (labels : List (List ℕ)) × (labels_of text ≡ label ∷ labels)
 labels_some [] = ([], [], refl)
 labels_some (b ∷ text) =
     let rest = labels_some text in
@@ -111,7 +111,7 @@ last_counts label [] next rest = refl
 last_counts label (other ∷ labels) next rest = last_counts other labels next rest
 
 -- so the last label is that of the rest
-same_last : (front rest : List ℕ) → ends_in_number (labels_of (front ++ 46 ∷ rest)) ≡ ends_in_number (labels_of rest)
+pub same_last : (front rest : List ℕ) → ends_in_number (labels_of (front ++ 46 ∷ rest)) ≡ ends_in_number (labels_of rest)
 same_last front rest =
     let before = labels_before front rest in
     let some = labels_some rest in
@@ -167,7 +167,7 @@ second_taken test (suc zero) front b c rest less h = absurd (omega arith)
 second_taken test (suc (suc n)) [] b c rest less h = (and_parts (test c) _ (and_parts (test b) _ h).1).0
 second_taken test (suc (suc n)) (x ∷ front) b c rest less h = second_taken test (suc n) front b c rest (omega arith) (and_parts (test x) _ h).1
 
-last_of_rest : (front : List ℕ) (c : ℕ) (rest : List ℕ) → get_or (front ++ c ∷ rest) (length (front ++ c ∷ rest) - 1) 0 ≡ get_or (c ∷ rest) (length (c ∷ rest) - 1) 0
+pub last_of_rest : (front : List ℕ) (c : ℕ) (rest : List ℕ) → get_or (front ++ c ∷ rest) (length (front ++ c ∷ rest) - 1) 0 ≡ get_or (c ∷ rest) (length (c ∷ rest) - 1) 0
 last_of_rest [] c rest = refl
 last_of_rest (x ∷ front) c rest =
     let n : length (x ∷ (front ++ c ∷ rest)) - 1 ≡ suc (length (front ++ c ∷ rest) - 1) = omega (arith, length-append front (c ∷ rest)) in

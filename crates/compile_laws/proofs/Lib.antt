@@ -2,12 +2,9 @@ pub mod Bools
 pub mod Lists
 pub mod Supported
 pub mod Covered
-pub mod Among
-pub mod Meant
-pub mod Matching
-pub mod Origins
-pub mod Reached
-pub mod Said
-pub mod Scanned
+pub mod Plain
+pub mod Likeness
+pub mod Groups
+pub mod Numbered
 pub mod Reports
 pub mod Rules

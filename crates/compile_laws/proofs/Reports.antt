@@ -7,12 +7,12 @@ use Rattle.list_spec.specs.declared.reason.Reason.{Reason}
 use Rattle.list_spec.specs.LineKind.{line_of}
 use Rattle.list_spec.specs.Says.{reason_of}
 use Rattle.compile_spec.specs.declared.reported.Reported.{Reported}
-use Rattle.compile_spec.specs.Compiled.{Draft, drafts_from, CompiledRule, with_ids, compiled}
+use Rattle.compile_spec.specs.Compiled.{Draft, drafts_in, CompiledRule, with_ids, compiled}
 use Rattle.compile_spec.specs.Report.{report_of, report_from, report}
 use Rattle.compile_laws.specs.Origins.{reason_at}
 use Rattle.compile_laws.specs.Laws.{RulesAreCounted, ReportIsWhole}
 use Rattle.compile_laws.proofs.Lists.{In, each_in, each_joined, each_weaker, has_left, has_right}
-use Rattle.compile_laws.proofs.Origins.{one_of, contains}
+use Rattle.compile_laws.proofs.Numbered.{one_of, contains}
 
 -- ---- ids
 
@@ -23,7 +23,7 @@ counted id (draft ∷ drafts) (suc place) one h = let rest = counted (id + 1) dr
 
 pub rules_are_counted : RulesAreCounted
 unfolding compiled
-rules_are_counted lines place one h = let same = counted 1 (drafts_from 1 lines) place one h in omega arith
+rules_are_counted lines place one h = let same = counted 1 (drafts_in lines) place one h in omega arith
 
 -- ---- reports
 

@@ -1,7 +1,7 @@
 -- The rules of a filter list are rules.
-use Rattle.std.proofs.Common.{◌≡◌, ℕ, ◌+◌, ◌≤◌, List, [], ◌∷◌, suc, length, map, true, false, not, Option, Some, None, Ok, refl, ap, ◌∙◌, arith}
-use Rattle.std.specs.Prelude.{IsTrue, is_none, ◌||◌, IfSome, filter, nat_lt, nat_le}
-use Rattle.std.specs.List.{position_or_len, AllByRecursion}
+use Rattle.std.proofs.Common.{◌≡◌, ℕ, ◌+◌, ◌≤◌, ◌<◌, List, [], ◌∷◌, zero, suc, inl, inr, length, map, true, false, not, Option, Some, None, Ok, refl, sym, ap, ◌∙◌, arith}
+use Rattle.std.specs.Prelude.{IsTrue, is_none, is_some, ◌||◌, IfSome, filter, nat_lt, nat_le}
+use Rattle.std.specs.List.{position_or_len, filter_map, cons_option, AllByRecursion}
 use Rattle.std.proofs.lemmas.Bool.{and_from, cond-true, cond-false, le-leb}
 use Rattle.std.proofs.lemmas.Bool.Decides.{nat_tests}
 use Rattle.std.proofs.lemmas.List.Elements.{All-from_recursion}
@@ -11,11 +11,15 @@ use Rattle.rule_spec.specs.IsRule.{IsRule, IsCondition, AreDomains, IsGivenWhole
 use Rattle.list_spec.specs.declared.domain_entry.DomainEntry.{DomainEntry}
 use Rattle.list_spec.specs.LineKind.{FilterPattern, every_url, plain, regex, FilterLine, line_of}
 use Rattle.list_spec.specs.Says.{filter_in}
+use Rattle.compile_spec.specs.Alike.{plain_domain, ascending}
 use Rattle.compile_spec.specs.Initiators.{Initiators, each_once, listed_in, excluded_in, lies_under, those_under, nested, not_nested, in_one, shared, single, in_several, initiators_of}
-use Rattle.compile_spec.specs.Compiled.{effects_of, Effect, blocks, allows, exempts, url_filter_of, regex_filter_of, condition_of, Draft, drafts_with, drafts_in, drafts_from, rule_of, with_ids, compiled}
-use Rattle.compile_laws.specs.Laws.{FiltersGiveRules, ListsGiveRules}
-use Rattle.compile_laws.proofs.Lists.{each_weaker, each_filtered, each_mapped, each_joined, each_flat}
+use Rattle.compile_spec.specs.Compiled.{Placed, placed_from, alike_to, Group, groups_of, Standing, standing_with, standing, effects_of, Effect, blocks, allows, exempts, url_filter_of, regex_filter_of, condition_of, Draft, drafts_with, drafts_of, drafts_in, rule_of, with_ids, compiled}
+use Rattle.compile_laws.specs.Laws.{GivesRules, GroupsGiveRules, ListsGiveRules}
+use Rattle.compile_laws.proofs.Lists.{Has, In, each_in, in_each, each_weaker, each_filtered, each_mapped, each_joined, each_flat}
 use Rattle.compile_laws.proofs.Supported.{IsEntry, IsPattern, IsSupported, supported}
+use Rattle.compile_laws.proofs.Plain.{plain_lower, has_domain, has_ascending, each_ascending}
+use Rattle.compile_laws.proofs.Likeness.{reads_alike}
+use Rattle.compile_laws.proofs.Groups.{filter_in_place, IsPlaced, each_placed, IsGroup, are_groups}
 
 -- ---- domains
 
@@ -106,56 +110,109 @@ one_text every_url = refl
 one_text (plain text) = refl
 one_text (regex text) = refl
 
-one_pattern : (filter : FilterLine) (kinds : List Kind) (initiators : Initiators) → IsPattern filter.pattern → AreInitiators initiators → IsCondition (condition_of filter kinds initiators)
-one_pattern filter kinds initiators pattern are = record {
-  one_filter = one_text filter.pattern;
+-- a list of hosts, which is not empty where it is given
+pub record AreHosts (standing : Standing) : Type 0 where
+  pub whole : IsGivenWhole standing.hosts
+  pub domains : IfSome standing.hosts AreDomains
+
+one_pattern : (standing : Standing) (kinds : List Kind) (initiators : Initiators) → IsPattern standing.filter.pattern → AreHosts standing → AreInitiators initiators
+    → IsCondition (condition_of standing.filter standing.hosts kinds initiators)
+one_pattern standing kinds initiators pattern hosts are = record {
+  one_filter = one_text standing.filter.pattern;
   url_filter = pattern.url;
   regex_filter = pattern.regex;
   initiators = (are.whole, are.among);
   not_initiators = are.not_among;
-  hosts = (tt, tt);
+  hosts = (hosts.whole, hosts.domains);
   not_hosts = ([], refl);
   methods = tt;
   tabs = (tt, tt);
   not_tabs = refl;
 }
 
-pub is_rule : (filter : FilterLine) (lines : List ℕ) (effect : Effect) (initiators : Initiators) (id : ℕ) → IsTrue (is_number id) → IsPattern filter.pattern → AreInitiators initiators
-    → IsRule (rule_of id (record { lines = lines; filter = filter; effect = effect; initiators = initiators }))
-is_rule filter lines blocks initiators id number pattern are = record { id = number; priority = refl; condition = one_pattern filter filter.kinds initiators pattern are; action = tt }
-is_rule filter lines allows initiators id number pattern are = record { id = number; priority = refl; condition = one_pattern filter filter.kinds initiators pattern are; action = tt }
-is_rule filter lines exempts initiators id number pattern are = record { id = number; priority = refl; condition = one_pattern filter _ initiators pattern are; action = refl }
+pub is_rule : (standing : Standing) (effect : Effect) (initiators : Initiators) (id : ℕ) → IsTrue (is_number id) → IsPattern standing.filter.pattern → AreHosts standing → AreInitiators initiators
+    → IsRule (rule_of id (record { standing = standing; effect = effect; initiators = initiators }))
+is_rule standing blocks initiators id number pattern hosts are =
+    record { id = number; priority = refl; condition = one_pattern standing standing.filter.kinds initiators pattern hosts are; action = tt }
+is_rule standing allows initiators id number pattern hosts are =
+    record { id = number; priority = refl; condition = one_pattern standing standing.filter.kinds initiators pattern hosts are; action = tt }
+is_rule standing exempts initiators id number pattern hosts are = record { id = number; priority = refl; condition = one_pattern standing _ initiators pattern hosts are; action = refl }
 
 -- it is a rule with whatever id
 abbrev IsRuleDraft : Draft → Type 0
 IsRuleDraft draft = (id : ℕ) → IsTrue (is_number id) → IsRule (rule_of id draft)
 
-drafts_are_rules : (filter : FilterLine) (lines : List ℕ) (effect : Effect) → IsSupported filter → AllByRecursion IsRuleDraft (drafts_with lines filter effect)
-drafts_are_rules filter lines effect is =
-    each_mapped IsRuleDraft (λ initiators. record { lines = lines; filter = filter; effect = effect; initiators = initiators }) (initiators_of filter.domains)
-    (each_weaker AreInitiators (λ initiators. IsRuleDraft (record { lines = lines; filter = filter; effect = effect; initiators = initiators }))
-    (λ initiators are id number. is_rule filter lines effect initiators id number is.pattern are) (initiators_of filter.domains) (are_initiators filter.domains is.entries.each))
+drafts_are_rules : (standing : Standing) (effect : Effect) → IsSupported standing.filter → AreHosts standing → AllByRecursion IsRuleDraft (drafts_with standing effect)
+drafts_are_rules standing effect is hosts =
+    each_mapped IsRuleDraft (λ initiators. record { standing = standing; effect = effect; initiators = initiators }) (initiators_of standing.filter.domains)
+    (each_weaker AreInitiators (λ initiators. IsRuleDraft (record { standing = standing; effect = effect; initiators = initiators }))
+    (λ initiators are id number. is_rule standing effect initiators id number is.pattern hosts are) (initiators_of standing.filter.domains) (are_initiators standing.filter.domains is.entries.each))
 
-pub filters_give_rules : FiltersGiveRules
-filters_give_rules line filter is lines effect id number =
-    All-from_recursion (λ draft. IsRule (rule_of id draft)) (drafts_with lines filter effect)
-    (each_weaker IsRuleDraft (λ draft. IsRule (rule_of id draft)) (λ draft h. h id number) (drafts_with lines filter effect) (drafts_are_rules filter lines effect (supported line filter is)))
+-- ---- filters that stand as one
+
+pub supported_place : (lines : List (List ℕ)) (place : ℕ) (filter : FilterLine) → filter_in_place lines place ≡ Some filter → IsSupported filter
+supported_place [] place filter is = cc
+supported_place (line ∷ lines) zero filter is = supported line filter is
+supported_place (line ∷ lines) (suc place) filter is = supported_place lines place filter is
+
+pub each_supported : (number : ℕ) (lines : List (List ℕ)) → AllByRecursion (λ placed. IsSupported placed.filter) (placed_from number lines)
+each_supported number lines =
+    each_weaker (IsPlaced number lines) (λ placed. IsSupported placed.filter) (λ placed is. supported_place lines is.place placed.filter is.there) (placed_from number lines) (each_placed number lines)
+
+host_lower : (pattern : FilterPattern) (domain : Option (List ℕ)) (hosts : List (List ℕ)) → plain_domain pattern ≡ domain → AllByRecursion IsLowerDomain hosts → AllByRecursion IsLowerDomain (cons_option domain hosts)
+host_lower pattern None hosts is h = h
+host_lower pattern (Some domain) hosts is h =
+    let has = has_domain pattern domain is in (record { reads = has.plain.domain; lower = plain_lower domain has.plain.bytes }, h)
+
+hosts_lower : (placed : List Placed) → AllByRecursion IsLowerDomain (filter_map (λ one. plain_domain one.filter.pattern) placed)
+hosts_lower [] = tt
+hosts_lower (one ∷ others) = host_lower one.filter.pattern (plain_domain one.filter.pattern) _ refl (hosts_lower others)
+
+stands_supported : (first : Placed) (others : List Placed) → IsSupported first.filter → IsSupported (standing_with first others).filter
+stands_supported first [] is = is
+stands_supported first (other ∷ others) is = record { entries = is.entries; pattern = record { url = tt; regex = tt } }
+
+some_in : (P : List ℕ → Type 0) (xs : List (List ℕ)) → Has P xs → 0 < length xs
+some_in P [] h = absurd h
+some_in P (x ∷ xs) h = omega arith
+
+first_host : (domain : Option (List ℕ)) (hosts : List (List ℕ)) → is_some domain ≡ true → Has (λ host. Unit {0}) (cons_option domain hosts)
+first_host None hosts h = cc
+first_host (Some domain) hosts h = inl tt
+
+are_hosts : (all : List Placed) (first : Placed) (others : List Placed) → AllByRecursion (λ other. In other all × (alike_to first other ≡ true)) others → AreHosts (standing_with first others)
+are_hosts all first [] h = record { whole = tt; domains = tt }
+are_hosts all first (other ∷ others) h =
+    let domains = filter_map (λ (one : Placed). plain_domain one.filter.pattern) (first ∷ other ∷ others) in
+    let alike = reads_alike first.filter other.filter h.0.1 in
+    record {
+      whole = some_in (λ host. Unit {0}) (ascending domains) (has_ascending (λ host. Unit {0}) domains (first_host (plain_domain first.filter.pattern) _ alike.one_plain));
+      domains = are_domains (ascending domains) (each_ascending IsLowerDomain domains (hosts_lower (first ∷ other ∷ others)));
+    }
+
+group_rules : (number : ℕ) (lines : List (List ℕ)) (group : Group) → IsGroup (placed_from number lines) group → (effect : Effect) → AllByRecursion IsRuleDraft (drafts_with (standing group) effect)
+group_rules number lines group is effect =
+    drafts_are_rules (standing group) effect
+    (stands_supported group.first group.others (each_in (λ placed. IsSupported placed.filter) group.first (placed_from number lines) is.first (each_supported number lines)))
+    (are_hosts (placed_from number lines) group.first group.others is.others)
+
+pub groups_give_rules : GroupsGiveRules
+groups_give_rules lines =
+    let all = placed_from 1 lines in
+    All-from_recursion GivesRules (groups_of all)
+    (each_weaker (IsGroup all) GivesRules (λ group is effect id number.
+    All-from_recursion (λ draft. IsRule (rule_of id draft)) (drafts_with (standing group) effect)
+    (each_weaker IsRuleDraft (λ draft. IsRule (rule_of id draft)) (λ draft h. h id number) (drafts_with (standing group) effect) (group_rules 1 lines group is effect))) (groups_of all) (are_groups all))
 
 -- ---- lists
 
-in_line : (number : ℕ) (line : List ℕ) (filter : Option FilterLine) → filter_in (line_of line) ≡ filter → AllByRecursion IsRuleDraft (drafts_in number filter)
-in_line number line None is = tt
-in_line number line (Some filter) is =
-    each_flat IsRuleDraft (drafts_with (number ∷ []) filter) _ (each_effect (effects_of filter))
-  where
-    each_effect : (effects : List Effect) → AllByRecursion (λ effect. AllByRecursion IsRuleDraft (drafts_with (number ∷ []) filter effect)) effects
-    each_effect [] = tt
-    each_effect (effect ∷ effects) = (drafts_are_rules filter (number ∷ []) effect (supported line filter is), each_effect effects)
-
-in_lines : (number : ℕ) (lines : List (List ℕ)) → AllByRecursion IsRuleDraft (drafts_from number lines)
-in_lines number [] = tt
-in_lines number (line ∷ lines) =
-    each_joined IsRuleDraft (drafts_in number (filter_in (line_of line))) (drafts_from (number + 1) lines) (in_line number line _ refl) (in_lines (number + 1) lines)
+in_list : (lines : List (List ℕ)) → AllByRecursion IsRuleDraft (drafts_in lines)
+in_list lines =
+    let all = placed_from 1 lines in
+    each_flat IsRuleDraft (λ group. drafts_of (standing group)) (groups_of all)
+    (each_weaker (IsGroup all) (λ group. AllByRecursion IsRuleDraft (drafts_of (standing group))) (λ group is.
+    each_flat IsRuleDraft (drafts_with (standing group)) (effects_of (standing group).filter)
+    (in_each (λ effect. AllByRecursion IsRuleDraft (drafts_with (standing group) effect)) (effects_of (standing group).filter) (λ effect i. group_rules 1 lines group is effect))) (groups_of all) (are_groups all))
 
 ids_in_range : (id : ℕ) → 1 ≤ id → id ≤ 300000 → IsTrue (is_number id)
 ids_in_range id some few =
@@ -174,6 +231,6 @@ length_numbered id (draft ∷ drafts) = ap suc (length_numbered (id + 1) drafts)
 pub lists_give_rules : ListsGiveRules
 unfolding compiled
 lists_give_rules lines few =
-    let drafts = drafts_from 1 lines in
+    let drafts = drafts_in lines in
     All-from_recursion (λ one. IsRule one.rule) (with_ids 1 drafts)
-    (numbered 1 drafts (omega arith) (omega (arith, length_numbered 1 drafts)) (in_lines 1 lines))
+    (numbered 1 drafts (omega arith) (omega (arith, length_numbered 1 drafts)) (in_list lines))

@@ -5,6 +5,7 @@ use Rattle.std.specs.Prelude.{◌≡◌, ℕ, ◌+◌, ◌<◌, ◌≤◌, List,
 use Rattle.std.specs.List.{Contains, AllPairs}
 use Rattle.dnr_base.specs.declared.request.Request.{Request}
 use Rattle.dnr_base.specs.Request.{Part, own_part}
+use Rattle.dnr_base.specs.View.{IsView}
 use Rattle.dnr_spec.specs.Suffixes.{SuffixRule}
 use Rattle.rule_spec.specs.declared.outcome.Outcome.TheVariants as outcome
 use Rattle.rule_spec.specs.Holds.{holds}
@@ -12,20 +13,21 @@ use Rattle.rule_spec.specs.IsRule.{IsRule, is_number}
 use Rattle.rule_spec.specs.Scan.{scan}
 use Rattle.rule_spec.specs.State.{State}
 use Rattle.list_spec.specs.declared.reason.Reason.{Reason}
-use Rattle.list_spec.specs.LineKind.{FilterLine, line_of}
-use Rattle.list_spec.specs.Says.{filter_in, matches, fits_request, says}
-use Rattle.compile_spec.specs.Compiled.{max_compiled, Effect, drafts_with, rule_of, CompiledRule, compiled}
+use Rattle.list_spec.specs.LineKind.{FilterLine}
+use Rattle.list_spec.specs.Says.{matches, fits_request, says}
+use Rattle.compile_spec.specs.Compiled.{max_compiled, placed_from, Group, groups_of, standing, Effect, drafts_with, rule_of, CompiledRule, compiled}
 use Rattle.compile_spec.specs.Report.{report}
 use Rattle.compile_spec.specs.Installed.{list_extension}
-use Rattle.compile_laws.specs.Origins.{filter_at, reason_at, HasOrigin, HasRule, IsDoneFor}
+use Rattle.compile_laws.specs.Origins.{filter_at, reason_at, HasViews, HasOrigin, HasRule, IsDoneFor, NamesItsLines}
 
 -- ---- each rule is a rule
 
--- whatever a supported filter does, its rules keep what every rule keeps
-abbrev pub FiltersGiveRules : Type 0
-FiltersGiveRules =
-    (line : List ℕ) (filter : FilterLine) → filter_in (line_of line) ≡ Some filter
-    → (lines : List ℕ) (effect : Effect) (id : ℕ) → IsTrue (is_number id) → All (λ draft. IsRule (rule_of id draft)) (drafts_with lines filter effect)
+-- whatever the filters of a list do that stand as one, their rules keep what every rule keeps
+abbrev pub GivesRules : Group → Type 0
+GivesRules group = (effect : Effect) (id : ℕ) → IsTrue (is_number id) → All (λ draft. IsRule (rule_of id draft)) (drafts_with (standing group) effect)
+
+abbrev pub GroupsGiveRules : Type 0
+GroupsGiveRules = (lines : List (List ℕ)) → All GivesRules (groups_of (placed_from 1 lines))
 
 -- and so does each rule of a list within the limit
 abbrev pub ListsGiveRules : Type 0
@@ -45,21 +47,27 @@ pub record ReportIsWhole : Type 0 where
 
 -- ---- rules and their lines
 
+-- The parts of a request have URLs of which views were made: see `dnr_base`, `specs/View.antt`.
+
 -- where a rule of the list holds on a part, a line that it comes from matches there
 abbrev pub RulesHoldByTheirLines : Type 0
 RulesHoldByTheirLines =
-    (lines : List (List ℕ)) (suffixes : List SuffixRule) (part : Part)
+    (lines : List (List ℕ)) (suffixes : List SuffixRule) (part : Part) → IsView part.view
     → All (λ one. holds suffixes one.rule part ≡ true → HasOrigin lines one (λ filter. matches suffixes filter part ≡ true)) (compiled lines)
 
 -- where a supported filter fits a request, a rule that comes from its line holds on the request
 abbrev pub LinesHoldByTheirRules : Type 0
 LinesHoldByTheirRules =
-    (lines : List (List ℕ)) (suffixes : List SuffixRule) (request : Request) (number : ℕ) (filter : FilterLine) → filter_at lines number ≡ Some filter
+    (lines : List (List ℕ)) (suffixes : List SuffixRule) (request : Request) (number : ℕ) (filter : FilterLine) → IsView request.view → filter_at lines number ≡ Some filter
     → fits_request suffixes request filter ≡ true → HasRule lines number (λ one. holds suffixes one.rule (own_part request) ≡ true)
 
 -- each line that a rule comes from says what the rule does
 abbrev pub RulesDoAsTheirLines : Type 0
 RulesDoAsTheirLines = (lines : List (List ℕ)) → All (λ one. All (IsDoneFor lines one.rule.action) one.lines) (compiled lines)
+
+-- a rule that several lines give is for requests to hosts, each of which is the plain domain of one of these lines
+abbrev pub RulesNameTheirLines : Type 0
+RulesNameTheirLines = (lines : List (List ℕ)) → All (λ one. 1 < length one.lines → NamesItsLines lines one) (compiled lines)
 
 -- ---- what a list blocks
 
@@ -67,5 +75,5 @@ RulesDoAsTheirLines = (lines : List (List ℕ)) → All (λ one. All (IsDoneFor 
 -- The ids of the rules decide nothing here, so it holds of lists beyond the limit too.
 abbrev pub ListsBlockWhatTheySay : Type 0
 ListsBlockWhatTheySay =
-    (name : List ℕ) (lines : List (List ℕ)) (suffixes : List SuffixRule) (state : State) (request : Request)
+    (name : List ℕ) (lines : List (List ℕ)) (suffixes : List SuffixRule) (state : State) (request : Request) → HasViews request
     → state.extensions ≡ list_extension name (compiled lines) ∷ [] → Decides (says lines suffixes request) ((scan suffixes state request).outcome ≡ outcome.Block)

@@ -4,7 +4,7 @@ use Rattle.regex.proofs.OnLiterals.{regex_on_literals}
 use Rattle.dnr_spec.specs.Patterns.{groups_of, pattern_in}
 use Rattle.compile_spec.specs.Compiled.{compiled}
 use Rattle.compile_spec.specs.Report.{report}
-use Rattle.compile_spec.specs.Examples.{RulesOfAList, ReportOfAList, NoTypeGivesNoRule, PageAloneGivesNoAllow, OneRuleWhereNothingIsNested, NestedDomainsStandAlone}
+use Rattle.compile_spec.specs.Examples.{RulesOfAList, ReportOfAList, NoTypeGivesNoRule, PageAloneGivesNoAllow, OneRuleWhereNothingIsNested, NestedDomainsStandAlone, AlikeFiltersStandAsOne, HostsAscendAndStandOnce, InitiatorsAreASet, ExceptionsStandWithExceptions, OtherPatternsStandAlone}
 
 pub rules_of_a_list : RulesOfAList
 unfolding compiled groups_of pattern_in regex_on_literals
@@ -29,3 +29,23 @@ one_rule_where_nothing_is_nested = (refl, refl)
 pub nested_domains_stand_alone : NestedDomainsStandAlone
 unfolding compiled
 nested_domains_stand_alone = (refl, refl)
+
+pub alike_filters_stand_as_one : AlikeFiltersStandAsOne
+unfolding compiled
+alike_filters_stand_as_one = refl
+
+pub hosts_ascend_and_stand_once : HostsAscendAndStandOnce
+unfolding compiled
+hosts_ascend_and_stand_once = refl
+
+pub initiators_are_a_set : InitiatorsAreASet
+unfolding compiled
+initiators_are_a_set = refl
+
+pub exceptions_stand_with_exceptions : ExceptionsStandWithExceptions
+unfolding compiled
+exceptions_stand_with_exceptions = refl
+
+pub other_patterns_stand_alone : OtherPatternsStandAlone
+unfolding compiled
+other_patterns_stand_alone = (refl, refl, refl)

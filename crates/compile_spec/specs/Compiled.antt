@@ -1,18 +1,69 @@
 -- The rules into which a filter list is compiled: filters of Adblock Plus, "How to write filters", as rules of Chrome's
 -- reference of declarativeNetRequest. What they must mean is said by `list_spec`, `specs/Says.antt`, which knows no
 -- rules.
-use Rattle.std.specs.Prelude.{ℕ, ◌+◌, List, [], ◌∷◌, ◌++◌, map, Bool, Option, Some, None, if◌then◌else◌}
-use Rattle.std.specs.List.{flat_map}
+use Rattle.std.specs.Prelude.{ℕ, ◌+◌, List, [], ◌∷◌, ◌++◌, map, filter, Bool, false, not, Option, Some, None, if◌then◌else◌}
+use Rattle.std.specs.List.{flat_map, filter_map}
 use Rattle.dnr_base.specs.declared.kind.Kind.{Kind}
 use Rattle.dnr_base.specs.declared.kind.Kind.TheVariants.{MainFrame, SubFrame}
 use Rattle.rule_spec.specs.Rule.{Condition, plain_condition, Action, block, allow, allow_all_requests, Rule}
 use Rattle.list_spec.specs.LineKind.{FilterPattern, every_url, plain, regex, FilterLine, line_of}
 use Rattle.list_spec.specs.Says.{filter_in}
+use Rattle.compile_spec.specs.Alike.{plain_domain, ascending, alike}
 use Rattle.compile_spec.specs.Initiators.{Initiators, initiators_of}
 
 -- the most rules of a list
 abbrev pub max_compiled : ℕ
 max_compiled = 300000
+
+-- ---- the filters of a list
+
+-- a filter and the number of its line
+pub record Placed : Type 0 where
+  pub line : ℕ
+  pub filter : FilterLine
+
+abbrev pub and_filter : ℕ → Option FilterLine → List Placed → List Placed
+and_filter number None later = later
+and_filter number (Some filter) later = record { line = number; filter = filter } ∷ later
+
+-- the filters of these lines, of which the first has this number
+abbrev pub placed_from : ℕ → List (List ℕ) → List Placed
+placed_from number [] = []
+placed_from number (line ∷ lines) = and_filter number (filter_in (line_of line)) (placed_from (number + 1) lines)
+
+-- a filter with those behind it that are alike
+pub record Group : Type 0 where
+  pub first : Placed
+  pub others : List Placed
+
+abbrev pub alike_to : Placed → Placed → Bool
+alike_to one other = alike one.filter other.filter
+
+-- each filter with those that are alike, which have no group of their own
+abbrev pub groups_of : List Placed → List Group
+groups_of [] = []
+groups_of (one ∷ rest) =
+    record { first = one; others = filter (alike_to one) rest } ∷ filter (λ group. not (alike_to one group.first)) (groups_of rest)
+
+-- Filters that stand as one: the lines that they come from, and what rules have of them. `hosts` are those of the
+-- requests that they are for, if a list of hosts says so.
+pub record Standing : Type 0 where
+  pub lines : List ℕ
+  pub filter : FilterLine
+  pub hosts : Option (List (List ℕ))
+
+-- what stands for a group: a filter alone as it is, and several as the first of them, but with all their domains in
+-- place of its pattern, in which no case counts
+abbrev pub standing_with : Placed → List Placed → Standing
+standing_with first [] = record { lines = first.line ∷ []; filter = first.filter; hosts = None }
+standing_with first (other ∷ others) = record {
+  lines = map (λ one. one.line) (first ∷ other ∷ others);
+  filter = record first.filter { pattern = every_url; match_case = false };
+  hosts = Some (ascending (filter_map (λ one. plain_domain one.filter.pattern) (first ∷ other ∷ others)));
+}
+
+abbrev pub standing : Group → Standing
+standing group = standing_with group.first group.others
 
 -- ---- what a filter does
 
@@ -63,44 +114,39 @@ regex_filter_of every_url = None
 regex_filter_of (plain pattern) = None
 regex_filter_of (regex pattern) = Some pattern
 
--- the filter's pattern and party, these types, and these initiators
-abbrev pub condition_of : FilterLine → List Kind → Initiators → Condition
-condition_of filter kinds initiators = record (plain_condition kinds) {
+-- the filter's pattern and party, these hosts, these types, and these initiators
+abbrev pub condition_of : FilterLine → Option (List (List ℕ)) → List Kind → Initiators → Condition
+condition_of filter hosts kinds initiators = record (plain_condition kinds) {
   url_filter = url_filter_of filter.pattern;
   regex_filter = regex_filter_of filter.pattern;
   case_sensitive = filter.match_case;
   initiators = initiators.among;
   not_initiators = initiators.not_among;
+  hosts = hosts;
   third_party = filter.third_party;
 }
 
 -- ---- the rules of a filter
 
--- A rule that has no id yet, with the lines of the list that it comes from.
+-- A rule that has no id yet, and what it stands for.
 pub record Draft : Type 0 where
-  pub lines : List ℕ
-  pub filter : FilterLine
+  pub standing : Standing
   pub effect : Effect
   pub initiators : Initiators
 
-abbrev pub drafts_with : List ℕ → FilterLine → Effect → List Draft
-drafts_with lines filter effect =
-    map (λ initiators. record { lines = lines; filter = filter; effect = effect; initiators = initiators }) (initiators_of filter.domains)
+abbrev pub drafts_with : Standing → Effect → List Draft
+drafts_with standing effect =
+    map (λ initiators. record { standing = standing; effect = effect; initiators = initiators }) (initiators_of standing.filter.domains)
 
--- the rules of a filter that stands in these lines: all of its first effect before those of its second
-abbrev pub drafts_of : List ℕ → FilterLine → List Draft
-drafts_of lines filter = flat_map (drafts_with lines filter) (effects_of filter)
+-- the rules of filters that stand as one: all of their first effect before those of their second
+abbrev pub drafts_of : Standing → List Draft
+drafts_of standing = flat_map (drafts_with standing) (effects_of standing.filter)
 
 -- ---- the rules of a list
 
-abbrev pub drafts_in : ℕ → Option FilterLine → List Draft
-drafts_in number None = []
-drafts_in number (Some filter) = drafts_of (number ∷ []) filter
-
--- the rules of the filters of these lines, of which the first has this number
-abbrev pub drafts_from : ℕ → List (List ℕ) → List Draft
-drafts_from number [] = []
-drafts_from number (line ∷ lines) = drafts_in number (filter_in (line_of line)) ++ drafts_from (number + 1) lines
+-- the rules of the filters of a list, in the order of the first lines
+abbrev pub drafts_in : List (List ℕ) → List Draft
+drafts_in lines = flat_map (λ group. drafts_of (standing group)) (groups_of (placed_from 1 lines))
 
 -- A rule with the lines of the list that it comes from, in ascending order.
 pub record CompiledRule : Type 0 where
@@ -111,18 +157,18 @@ abbrev pub rule_of : ℕ → Draft → Rule
 rule_of id draft = record {
   id = id;
   priority = priority_of draft.effect;
-  condition = condition_of draft.filter (kinds_for draft.filter draft.effect) draft.initiators;
+  condition = condition_of draft.standing.filter draft.standing.hosts (kinds_for draft.standing.filter draft.effect) draft.initiators;
   action = action_of draft.effect;
 }
 
 -- the rules with their ids, of which the first is this one
 abbrev pub with_ids : ℕ → List Draft → List CompiledRule
 with_ids id [] = []
-with_ids id (draft ∷ drafts) = record { rule = rule_of id draft; lines = draft.lines } ∷ with_ids (id + 1) drafts
+with_ids id (draft ∷ drafts) = record { rule = rule_of id draft; lines = draft.standing.lines } ∷ with_ids (id + 1) drafts
 
--- the rules of a list: those of its filters in the order of the lines, with ids from 1
+-- the rules of a list, with ids from 1
 unfoldable pub compiled : List (List ℕ) → List CompiledRule
-compiled lines = with_ids 1 (drafts_from 1 lines)
+compiled lines = with_ids 1 (drafts_in lines)
 
 abbrev pub rules_in : List CompiledRule → List Rule
 rules_in rules = map (λ one. one.rule) rules

@@ -1,6 +1,6 @@
 -- Examples, each computed from the definitions alone.
 use Rattle.std.specs.Prelude.{◌≡◌, ℕ, List, [], ◌∷◌, ◌++◌, codes, true, Option, Some, None}
-use Rattle.dnr_base.specs.declared.kind.Kind.TheVariants.{MainFrame, SubFrame, Script}
+use Rattle.dnr_base.specs.declared.kind.Kind.TheVariants.{MainFrame, SubFrame, Script, Image}
 use Rattle.dnr_base.specs.Kind.{default_kinds}
 use Rattle.rule_spec.specs.Examples.{rule_on}
 use Rattle.rule_spec.specs.Rule.{block, allow, allow_all_requests, Rule}
@@ -13,6 +13,10 @@ use Rattle.compile_spec.specs.Report.{report}
 
 abbrev from_line : ℕ → Rule → CompiledRule
 from_line number rule = record { rule = rule; lines = number ∷ [] }
+
+-- a rule that several lines give, for requests to these hosts
+abbrev for_hosts : List ℕ → List (List ℕ) → Rule → CompiledRule
+for_hosts lines hosts rule = record { rule = record rule { condition = record rule.condition { hosts = Some hosts } }; lines = lines }
 
 -- the rule, for these initiators but not for those
 abbrev for_initiators : Option (List (List ℕ)) → List (List ℕ) → Rule → Rule
@@ -27,6 +31,10 @@ on_match pattern rule = record rule { condition = record rule.condition { regex_
 -- the rules of a list with this one line
 abbrev rules_of_line : List ℕ → List CompiledRule
 rules_of_line line = compiled (lines_of line)
+
+-- the rules of a list with these lines
+abbrev rules_of_lines : List (List ℕ) → List CompiledRule
+rules_of_lines lines = compiled lines
 
 -- ---- a list
 
@@ -84,3 +92,51 @@ NestedDomainsStandAlone =
     ∷ from_line 1 (for_initiators (Some (codes "a.b.com" ∷ [])) [] (rule_on 2 2 (Some (codes "x")) (Script ∷ []) allow))
     ∷ from_line 1 (for_initiators (Some (codes "z.com" ∷ [])) (codes "b.com" ∷ []) (rule_on 3 3 (Some (codes "x")) (MainFrame ∷ SubFrame ∷ []) allow_all_requests))
     ∷ from_line 1 (for_initiators (Some (codes "a.b.com" ∷ [])) [] (rule_on 4 3 (Some (codes "x")) (MainFrame ∷ SubFrame ∷ []) allow_all_requests)) ∷ [])
+
+-- ---- filters that stand as one
+
+abbrev blocking : ℕ → Option (List ℕ) → Rule
+blocking id pattern = rule_on id 1 pattern default_kinds block
+
+-- Filters of plain domains that agree give one rule, whatever they say of case; a filter of other types and one of an
+-- address have rules of their own.
+abbrev pub AlikeFiltersStandAsOne : Type 0
+AlikeFiltersStandAsOne =
+    rules_of_lines (codes "||a.com^" ∷ codes "||b.org^$match-case" ∷ codes "||a.com^$image" ∷ codes "||1.2^" ∷ [])
+    ≡ for_hosts (1 ∷ 2 ∷ []) (codes "a.com" ∷ codes "b.org" ∷ []) (blocking 1 None)
+    ∷ from_line 3 (rule_on 2 1 (Some (codes "||a.com^")) (Image ∷ []) block)
+    ∷ from_line 4 (blocking 3 (Some (codes "||1.2^"))) ∷ []
+
+-- Hosts ascend and are listed once. Ids count in the order of first lines, between which other lines may stand.
+abbrev pub HostsAscendAndStandOnce : Type 0
+HostsAscendAndStandOnce =
+    rules_of_lines (codes "||b.a^" ∷ codes "x" ∷ codes "||c.a^$third-party" ∷ codes "||a.a^" ∷ codes "! y" ∷ codes "||b.a^" ∷ codes "||a^$third-party" ∷ [])
+    ≡ for_hosts (1 ∷ 4 ∷ 6 ∷ []) (codes "a.a" ∷ codes "b.a" ∷ []) (blocking 1 None)
+    ∷ from_line 2 (blocking 2 (Some (codes "x")))
+    ∷ for_hosts (3 ∷ 7 ∷ []) (codes "a" ∷ codes "c.a" ∷ []) (for_third_parties (blocking 3 None)) ∷ []
+
+-- The domains of initiators are compared as a set, and the rules name them as the first line does.
+abbrev pub InitiatorsAreASet : Type 0
+InitiatorsAreASet =
+    rules_of_lines (codes "||a.b^$domain=y.z|~x.y.z|w.x.y.z" ∷ codes "||c.d^$domain=w.x.y.z|y.z|~x.y.z|y.z" ∷ codes "||c.d^$domain=y.z|x.y.z|w.x.y.z" ∷ [])
+    ≡ for_hosts (1 ∷ 2 ∷ []) (codes "a.b" ∷ codes "c.d" ∷ []) (for_initiators (Some (codes "y.z" ∷ [])) (codes "x.y.z" ∷ []) (blocking 1 None))
+    ∷ for_hosts (1 ∷ 2 ∷ []) (codes "a.b" ∷ codes "c.d" ∷ []) (for_initiators (Some (codes "w.x.y.z" ∷ [])) [] (blocking 2 None))
+    ∷ from_line 3 (for_initiators (Some (codes "y.z" ∷ codes "x.y.z" ∷ codes "w.x.y.z" ∷ [])) [] (blocking 3 (Some (codes "||c.d^")))) ∷ []
+
+-- An exception is not alike to a filter that blocks, and two exceptions for one page are.
+abbrev pub ExceptionsStandWithExceptions : Type 0
+ExceptionsStandWithExceptions =
+    rules_of_lines (codes "@@||a.com^$document" ∷ codes "||a.com^$~document" ∷ codes "@@||a.com^$document" ∷ [])
+    ≡ for_hosts (1 ∷ 3 ∷ []) (codes "a.com" ∷ []) (rule_on 1 3 None (MainFrame ∷ SubFrame ∷ []) allow_all_requests)
+    ∷ from_line 2 (blocking 2 (Some (codes "||a.com^"))) ∷ []
+
+-- Capital letters, empty labels, an end without `^` and a last label without a letter keep a pattern apart.
+abbrev pub OtherPatternsStandAlone : Type 0
+OtherPatternsStandAlone =
+    (rules_of_lines (codes "||a.com^" ∷ codes "||A.com^" ∷ codes "||a.com.^" ∷ codes "||.a.com^" ∷ codes "||a..com^" ∷ [])
+    ≡ from_line 1 (blocking 1 (Some (codes "||a.com^"))) ∷ from_line 2 (blocking 2 (Some (codes "||A.com^"))) ∷ from_line 3 (blocking 3 (Some (codes "||a.com.^")))
+    ∷ from_line 4 (blocking 4 (Some (codes "||.a.com^"))) ∷ from_line 5 (blocking 5 (Some (codes "||a..com^"))) ∷ [])
+    × (rules_of_lines (codes "||a.1^" ∷ codes "||a.-^" ∷ codes "||^" ∷ codes "||a.com" ∷ codes "|a.com^" ∷ [])
+    ≡ from_line 1 (blocking 1 (Some (codes "||a.1^"))) ∷ from_line 2 (blocking 2 (Some (codes "||a.-^"))) ∷ from_line 3 (blocking 3 (Some (codes "||^")))
+    ∷ from_line 4 (blocking 4 (Some (codes "||a.com"))) ∷ from_line 5 (blocking 5 (Some (codes "|a.com^"))) ∷ [])
+    × (rules_of_lines (codes "||a_b.c-d^" ∷ codes "||a.0x1^" ∷ []) ≡ for_hosts (1 ∷ 2 ∷ []) (codes "a.0x1" ∷ codes "a_b.c-d" ∷ []) (blocking 1 None) ∷ [])

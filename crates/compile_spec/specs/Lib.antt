@@ -1,3 +1,4 @@
+pub mod Alike
 pub mod Initiators
 pub mod Compiled
 pub mod Report

@@ -1,3 +1,4 @@
+//! Each form of a source, a shelf and a sink once, and calls that the system interrupts.
 ghost use Rattle.std.specs.Prelude.{◌≡◌, IfOk};
 
 use crate::dir_shelf::read_some;
@@ -8,88 +9,16 @@ use std::fs;
 use std::io::{Error, ErrorKind, Read, Write};
 use std::test::Fail;
 
-const MOST: [usize; 4] = [1, 2, 3, 4096];
-
-/// Each line with a bar after it.
-fn barred(alloc: Global, lines: &[Vec<u8>]) -> Result<Vec<u8>, AllocError> {
-    let mut text = Vec::new(alloc);
-    for line in lines {
-        text.extend_from_slice(line)?;
-        text.push(b'|')?;
-    }
-    Ok(text)
-}
-
-#[test]
-fn a_line_ends_at_lf_and_loses_a_cr_before_it(rt: HostRuntime) -> Result<(), Fail> {
-    let alloc = rt.alloc();
-    let table = [
-        ("", ""),
-        ("\n", "|"),
-        ("\n\n", "||"),
-        ("a\nb\n", "a|b|"),
-        ("a\nb", "a|b|"),
-        ("a\r\nb\r\n", "a|b|"),
-        ("a\rb\n", "a\rb|"),
-        ("a\r\r\n", "a\r|"),
-        ("\r\n\r", "|\r|"),
-        ("a\n\nb\r", "a||b\r|"),
-    ];
-    for (script, want) in table {
-        for most in MOST {
-            let bytes = Vec::from_slice(alloc, script.as_bytes())?;
-            let lines = read_lines(alloc, &mut FaultlessSource::new(bytes, most))?;
-            let text = barred(alloc, &lines)?;
-            assert_eq!(rt;
-                text.as_slice(),
-                want.as_bytes(),
-                "at {script:?}, {most} at a time"
-            );
-        }
-    }
-    Ok(())
-}
-
 #[test]
 fn lines_live_until_the_end(rt: HostRuntime) -> Result<(), Fail> {
     let alloc = rt.alloc();
-    let bytes = Vec::from_slice(alloc, b"one\n")?;
-    let mut source = FaultlessSource::new(bytes, 2);
+    let mut source = FaultlessSource::new(Vec::from_slice(alloc, b"one\r\n")?, 2);
     let mut line = Vec::new(alloc);
     let mut lines = Lines::new(alloc)?;
-    assert!(rt; lines.live());
-    assert_eq!(rt; lines.next(&mut source, &mut line), Ok(true));
-    assert_eq!(rt; line.as_slice(), b"one".as_slice());
-    assert!(rt; lines.live());
-    assert_eq!(rt; lines.next(&mut source, &mut line), Ok(false));
+    assert!(rt; lines.next(&mut source, &mut line) == Ok(true));
+    assert!(rt; line.as_slice() == b"one".as_slice() && lines.live());
+    assert!(rt; lines.next(&mut source, &mut line) == Ok(false));
     assert!(rt; !lines.live());
-    Ok(())
-}
-
-#[test]
-fn a_line_of_the_limit_passes_and_one_byte_more_does_not(rt: HostRuntime) -> Result<(), Fail> {
-    let alloc = rt.alloc();
-    let table = [
-        (MAX_LINE, "", Ok(true)),
-        (MAX_LINE, "\n", Ok(true)),
-        (MAX_LINE - 1, "\r\n", Ok(true)),
-        (MAX_LINE + 1, "", Err(LineRefusal::LineTooLong)),
-        (MAX_LINE + 1, "\n", Err(LineRefusal::LineTooLong)),
-        (MAX_LINE, "\r\n", Err(LineRefusal::LineTooLong)),
-    ];
-    for (length, end, want) in table {
-        let mut bytes = vec![in alloc; b'a'; length]?;
-        bytes.extend_from_slice(end.as_bytes())?;
-        let mut source = FaultlessSource::new(bytes, 1 << 20);
-        let mut line = Vec::new(alloc);
-        let mut lines = Lines::new(alloc)?;
-        assert_eq!(rt;
-            lines.next(&mut source, &mut line),
-            want,
-            "at {length} and {end:?}"
-        );
-        assert_eq!(rt; lines.live(), want.is_ok());
-    }
     Ok(())
 }
 
@@ -99,27 +28,10 @@ fn a_failed_read_ends_the_lines(rt: HostRuntime) -> Result<(), Fail> {
     for failing in 1..5 {
         let bytes = Vec::from_slice(alloc, b"one\ntwo\n")?;
         let mut source = MemorySource::new(bytes, 4, vec![in alloc; failing]?);
-        let result = read_lines(alloc, &mut source);
-        let fails = failing < 4;
-        assert_eq!(rt; result.is_err(), fails, "at read {failing}");
-        assert_eq!(rt; source.faults(), u64::from(fails), "at read {failing}");
+        let fails = read_lines(alloc, &mut source).is_err();
+        assert!(rt; fails == (failing < 4), "at read {failing}");
+        assert!(rt; source.faults() == u64::from(fails), "at read {failing}");
     }
-    Ok(())
-}
-
-#[test]
-fn all_is_written_in_short_pieces(rt: HostRuntime) -> Result<(), Fail> {
-    let alloc = rt.alloc();
-    for most in MOST {
-        let mut sink = MemorySink::new(alloc, most, Vec::new(alloc));
-        assert_eq!(rt; write_all(&mut sink, b"some bytes"), Ok(()));
-        assert_eq!(rt; sink.bytes(), b"some bytes".as_slice());
-        assert_eq!(rt; sink.faults(), 0);
-    }
-    assert_eq!(rt;
-        write_all(&mut FaultlessSink::new(1), b"some bytes"),
-        Ok(())
-    );
     Ok(())
 }
 
@@ -127,13 +39,14 @@ fn all_is_written_in_short_pieces(rt: HostRuntime) -> Result<(), Fail> {
 fn a_failed_write_leaves_what_was_taken_before(rt: HostRuntime) -> Result<(), Fail> {
     let alloc = rt.alloc();
     let mut sink = MemorySink::new(alloc, 4, vec![in alloc; 3]?);
-    assert_eq!(rt; write_all(&mut sink, b"some bytes"), Err(Failed));
-    assert_eq!(rt; sink.bytes(), b"some byt".as_slice());
-    assert_eq!(rt; sink.faults(), 1);
+    assert!(rt; write_all(&mut sink, b"some bytes") == Err(Failed));
+    assert!(rt; sink.bytes() == b"some byt".as_slice() && sink.faults() == 1);
+    assert!(rt; write_all(&mut sink, b"es") == Ok(()));
+    assert!(rt; write_all(&mut FaultlessSink::new(1), b"some bytes") == Ok(()));
     Ok(())
 }
 
-/// One file, `rules/easy.json`.
+// One file, `rules/easy.json`.
 fn files(alloc: Global) -> Result<Vec<MemoryFile>, AllocError> {
     let name = String::from_str(alloc, "rules/easy.json")?;
     let bytes = Vec::from_slice(alloc, b"[1, 2]")?;
@@ -142,114 +55,67 @@ fn files(alloc: Global) -> Result<Vec<MemoryFile>, AllocError> {
     Ok(files)
 }
 
-/// What a shelf answers, in words.
+// How many lines a name of the shelf has.
+fn count<F: Shelf>(alloc: Global, shelf: &mut F, name: &str) -> Option<usize> {
+    shelf.start(name).ok()?;
+    Some(read_lines(alloc, shelf).ok()?.len())
+}
+
+// How many bytes a shelf hands over.
 fn fetched<F: Shelf>(
     alloc: Global,
     shelf: &mut F,
     name: &str,
     limit: u64,
-) -> Result<Vec<u8>, AllocError> {
-    let mut bytes = Vec::from_slice(alloc, b"what was there")?;
-    let refusal: &[u8] = match shelf.fetch(name, limit, &mut bytes) {
-        Ok(()) => b"",
-        Err(ShelfRefusal::Failed) => b"failed",
-        Err(ShelfRefusal::TooLong) => b"too long",
-        Err(ShelfRefusal::NoMemory) => b"no memory",
-    };
-    bytes.extend_from_slice(refusal)?;
-    Ok(bytes)
+) -> Result<usize, ShelfRefusal> {
+    let mut bytes = Vec::new(alloc);
+    shelf.fetch(name, limit, &mut bytes)?;
+    Ok(bytes.len())
 }
 
-const FETCHES: [(&str, u64, &str); 4] = [
-    ("rules/easy.json", 7, "[1, 2]"),
-    ("rules/easy.json", 6, "[1, 2]"),
-    ("rules/easy.json", 5, "too long"),
-    ("rules/hard.json", 7, "failed"),
-];
+// What every shelf says of its one file and of a name without a file.
+fn is_shelf<F: Shelf>(alloc: Global, shelf: &mut F) -> bool {
+    fetched(alloc, shelf, "rules/easy.json", 6) == Ok(6)
+        && fetched(alloc, shelf, "rules/easy.json", 5) == Err(ShelfRefusal::TooLong)
+        && fetched(alloc, shelf, "rules/hard.json", 7) == Err(ShelfRefusal::Failed)
+        && count(alloc, shelf, "rules/easy.json") == Some(1)
+        && count(alloc, shelf, "rules/hard.json").is_none()
+        && shelf.faults() == 2
+}
 
 #[test]
 fn a_shelf_in_memory_gives_its_files(rt: HostRuntime) -> Result<(), Fail> {
     let alloc = rt.alloc();
-    let mut shelf = MemoryShelf::new(files(alloc)?, 4, vec![in alloc; 5]?);
-    for (name, limit, want) in FETCHES {
-        let bytes = fetched(alloc, &mut shelf, name, limit)?;
-        assert_eq!(rt; bytes.as_slice(), want.as_bytes(), "at {name}, {limit}");
-    }
-    let bytes = fetched(alloc, &mut shelf, "rules/easy.json", 6)?;
-    assert_eq!(rt; bytes.as_slice(), b"failed".as_slice());
-    assert_eq!(rt; shelf.faults(), 2);
-    Ok(())
-}
-
-#[test]
-fn a_shelf_in_memory_reads_what_was_started(rt: HostRuntime) -> Result<(), Fail> {
-    let alloc = rt.alloc();
-    let mut shelf = MemoryShelf::new(files(alloc)?, 4, vec![in alloc; 2, 5]?);
-    for want in [Err(Failed), Err(Failed), Ok(())] {
-        let name = if shelf.faults() == 0 {
-            "rules/hard.json"
-        } else {
-            "rules/easy.json"
-        };
-        assert_eq!(rt; shelf.start(name), want);
-    }
-    let mut buf = [0; 8];
-    for want in [Ok(4), Err(Failed), Ok(2), Ok(0)] {
-        assert_eq!(rt; shelf.read(&mut buf), want);
-    }
-    assert!(rt; buf.starts_with(b"2], "));
-    assert_eq!(rt; shelf.faults(), 3);
-    Ok(())
-}
-
-#[test]
-fn a_name_that_a_faultless_shelf_was_not_given_holds_no_bytes(rt: HostRuntime) -> Result<(), Fail> {
-    let alloc = rt.alloc();
+    let mut shelf = MemoryShelf::new(files(alloc)?, 4, vec![in alloc; 0]?);
+    assert!(rt; is_shelf(alloc, &mut shelf));
     let mut shelf = FaultlessShelf::new(files(alloc)?, 4);
-    let bytes = fetched(alloc, &mut shelf, "rules/hard.json", 0)?;
-    assert_eq!(rt; bytes.as_slice(), b"".as_slice());
-    let bytes = fetched(alloc, &mut shelf, "rules/easy.json", 6)?;
-    assert_eq!(rt; bytes.as_slice(), b"[1, 2]".as_slice());
-    assert_eq!(rt; shelf.start("rules/easy.json"), Ok(()));
-    assert_eq!(rt; read_lines(alloc, &mut shelf)?.len(), 1);
-    assert_eq!(rt; shelf.start("rules/hard.json"), Ok(()));
-    assert_eq!(rt; read_lines(alloc, &mut shelf)?.len(), 0);
+    assert!(rt; count(alloc, &mut shelf, "rules/easy.json") == Some(1));
+    assert!(rt; fetched(alloc, &mut shelf, "rules/hard.json", 0) == Ok(0));
     Ok(())
 }
 
 #[test]
 fn files_are_read_under_the_current_folder(rt: HostRuntime) -> Result<(), Fail> {
-    let alloc = rt.alloc();
     fs::create_dir(&rt, "rules")?;
     fs::write(&rt, "rules/easy.json", "[1, 2]")?;
     let mut shelf = DirShelf::new(&rt);
-    for (name, limit, want) in FETCHES {
-        let bytes = fetched(alloc, &mut shelf, name, limit)?;
-        assert_eq!(rt; bytes.as_slice(), want.as_bytes(), "at {name}, {limit}");
-    }
-    assert_eq!(rt; shelf.start("rules/hard.json"), Err(Failed));
-    assert_eq!(rt; shelf.start("rules/easy.json"), Ok(()));
-    assert_eq!(rt; read_lines(alloc, &mut shelf)?.len(), 1);
-    assert_eq!(rt; shelf.start("rules"), Ok(()));
-    assert_eq!(rt; read_lines(alloc, &mut shelf).is_err(), true);
-    assert_eq!(rt; shelf.faults(), 3);
+    assert!(rt; is_shelf(rt.alloc(), &mut shelf));
+    assert!(rt; count(rt.alloc(), &mut shelf, "rules").is_none());
     fs::remove_dir_all(&rt, "rules")?;
     Ok(())
 }
 
 #[test]
-fn a_writer_that_takes_nothing_is_a_fault(rt: HostRuntime) -> Result<(), Fail> {
+fn a_writer_that_takes_nothing_is_a_fault(rt: HostRuntime) {
     let mut output = Output::new(rt.stdout());
-    assert_eq!(rt; write_all(&mut output, b"some bytes\n"), Ok(()));
-    assert_eq!(rt; output.faults(), 0);
+    assert!(rt; write_all(&mut output, b"some bytes\n") == Ok(()));
     let mut room = [0; 4];
     let mut output = Output::new(room.as_mut_slice());
-    assert_eq!(rt; write_all(&mut output, b"some bytes\n"), Err(Failed));
-    assert_eq!(rt; output.faults(), 1);
-    Ok(())
+    assert!(rt; write_all(&mut output, b"some bytes\n") == Err(Failed));
+    assert!(rt; output.faults() == 1);
 }
 
-/// A reader and writer that moves nothing, of which the first calls are interrupted.
+// A reader and writer that moves nothing, of which the first calls are interrupted.
 #[derive(Drop)]
 struct Interrupted {
     left: u8,
@@ -287,8 +153,8 @@ impl Write for Interrupted {
 fn an_interrupted_call_is_tried_again(rt: HostRuntime) {
     for left in [0, 1, 5] {
         let mut interrupted = Interrupted { left };
-        assert_eq!(rt; read_some(&mut interrupted, &mut [0; 4]), Ok(0));
+        assert!(rt; read_some(&mut interrupted, &mut [0; 4]) == Ok(0));
         let mut interrupted = Interrupted { left };
-        assert_eq!(rt; write_some(&mut interrupted, b"some"), Ok(0));
+        assert!(rt; write_some(&mut interrupted, b"some") == Ok(0));
     }
 }

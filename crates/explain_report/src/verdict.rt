@@ -3,7 +3,7 @@ ghost use Rattle.std.specs.Prelude.{◌≡◌, ◌++◌, OnOk, string_bytes};
 ghost use Rattle.session_spec.specs.Output as spec;
 
 use crate::lists::{write_headers, write_ops};
-use crate::names::{outcome_name, quoted_text, write_rule};
+use crate::names::{outcome_name, push_decimal, push_quoted, write_rule};
 use dnr_base::{NoMemory, RuleName, Text};
 use dnr_verdict::Verdict;
 use rule_spec::Outcome;
@@ -54,15 +54,19 @@ pub fn write_fault(
 fn write_start(line: u32, number: u32, into: &mut String) -> Result<(), NoMemory>
     ensures { OnOk result (string_bytes into.new ≡ string_bytes into.old ++ spec.answer_start line number) }
 {
-    write!(into, "{{\"line\":{line},\"generation\":{number}")?;
+    into.push_str("{\"line\":")?;
+    push_decimal(line, into)?;
+    into.push_str(",\"generation\":")?;
+    push_decimal(number, into)?;
     Ok(())
 }
 
 fn write_outcome(outcome: Outcome, into: &mut String) -> Result<(), NoMemory>
     ensures { OnOk result (string_bytes into.new ≡ string_bytes into.old ++ spec.outcome_field outcome) }
 {
-    let outcome = outcome_name(outcome);
-    write!(into, ",\"verdict\":\"{outcome}\"")?;
+    into.push_str(",\"verdict\":\"")?;
+    into.push_str(outcome_name(outcome))?;
+    into.push_str("\"")?;
     Ok(())
 }
 
@@ -88,7 +92,6 @@ fn write_url(alloc: Global, target: &Option<Text>, into: &mut String) -> Result<
     let Some(target) = target else {
         return Ok(());
     };
-    let url = quoted_text(alloc, target.as_str())?;
-    write!(into, ",\"url\":{url}")?;
-    Ok(())
+    into.push_str(",\"url\":")?;
+    push_quoted(alloc, target.as_str(), into)
 }

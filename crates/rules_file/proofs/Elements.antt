@@ -1,36 +1,16 @@
--- The values of a text one after another: how each is read again, and how a list goes on behind it.
+-- The values of a text one after another: how a list goes on behind each.
 use Rattle.std.proofs.Common.{◌≡◌, ℕ, zero, suc, ◌-◌, ◌<◌, ◌≤◌, List, [], ◌∷◌, ◌++◌, length, Option, Some, None, option_map, option_and_then, refl, sym, ap, ◌∙◌, append-nil, arith}
 use Rattle.json.specs.Token.{Token}
 use Rattle.json.specs.Json as json
 use Rattle.json.specs.Json.{parse_map, after_end_array, items_step, items, value, if_last}
-use Rattle.json.specs.Print.{print}
-use Rattle.json.specs.Tree.{json_tokens, depth, HasNumbers}
 use Rattle.json.proofs.Grammar.{items_end, items_more, value-begin_array}
-use Rattle.json.proofs.Printed.Tokens.{tokens-print}
-use Rattle.json.proofs.Printed.Trees.{value-json_tokens, ArePrintable-json_tokens}
 use Rattle.serde_json.specs.Data.{Data, array, Items, item, no_items}
 use Rattle.serde_json.specs.Read.{of_json, of_items, converted, read}
-use Rattle.rules_file.specs.Reading.{value_in, items_in, HasValue, HasItems, HasNoItems, IsText}
-
--- ---- a value that is written is read as itself
+use Rattle.rules_file.specs.Reading.{value_in, items_in, HasValue, HasItems, HasNoItems}
 
 -- the tree of the tokens of a whole text
 abbrev pub tree_in : Option (json.Json × List Token) → Option Data
 tree_in o = option_and_then of_json (option_and_then (λ p. if_last p.0 p.1) o)
-
-written : (j : json.Json) → HasNumbers j → depth j ≤ 127 → read (print (json_tokens j)) ≡ of_json j
-written j numbers shallow =
-    ap (λ ts. tree_in (value 127 ts)) (tokens-print (json_tokens j) (ArePrintable-json_tokens j numbers) ∙ sym (append-nil (json_tokens j)))
-    ∙ ap tree_in (value-json_tokens j 127 [] shallow)
-
--- what the text is read as, the next value is
-pub read_again : (ts : List Token) (text : List ℕ) (rest : List Token) (d : Option Data) → IsText ts text rest → read text ≡ d → value_in ts ≡ option_map (λ b. (b, rest)) d
-read_again ts text rest d t e =
-    let near : depth t.tree ≤ 127 = omega (arith, t.shallow) in
-    ap (converted of_json) t.is ∙ ap (λ b. option_map (λ a. (a, rest)) b) (sym (written t.tree t.numbers near) ∙ ap read (sym t.written) ∙ e)
-
-pub none_again : (ts : List Token) → value 126 ts ≡ None → value_in ts ≡ None
-none_again ts e = ap (converted of_json) e
 
 -- ---- what was converted
 

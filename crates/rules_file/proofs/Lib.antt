@@ -1,3 +1,4 @@
 mod Elements
 mod Steps
 mod Whole
+mod FourMembers

@@ -13,8 +13,8 @@ use Rattle.rule_spec.specs.Rule.{Rule}
 use Rattle.json_spec.specs.ReadRule.{read_from, read_items, read_next, rule_in, has_id, placed, IsRuleAtPattern, StopsAtPattern}
 use Rattle.json_spec.specs.MayRefuse.{MayRefuse}
 use Rattle.rule_read.specs.Reading.{MayStop, MayStopBy, StopsAt, StopsAtHost, ReadsNext}
-use Rattle.rules_file.specs.declared.value.Fault.{Fault}
-use Rattle.rules_file.specs.declared.value.Fault.TheVariants.{BadJson}
+use Rattle.json_fields.specs.declared.tree.Fault.{Fault}
+use Rattle.json_fields.specs.declared.tree.Fault.TheVariants.{BadJson}
 use Rattle.rules_file.specs.Reading.{value_in, items_in, HasValue, HasItems, HasNoItems, StopsBefore}
 use Rattle.rules_file.proofs.Elements.{item_read, item_missing, list_over}
 

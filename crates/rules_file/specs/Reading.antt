@@ -1,18 +1,21 @@
 -- What is read of the tokens of a file, item by item.
-use Rattle.std.specs.Prelude.{◌≡◌, ℕ, ◌≤◌, List, [], ◌++◌, ◌∷◌, length, Vec, Option, Some, None, option_and_then, Result, Ok, Err}
+use Rattle.std.specs.Prelude.{◌≡◌, ℕ, ◌≤◌, List, [], ◌++◌, ◌∷◌, length, codes, Bool, true, Vec, Option, Some, None, option_and_then, Result, Ok, Err}
 use Rattle.std.specs.declared.alloc.Global.{Global}
+use Rattle.std.specs.Borrow.{Bor}
+use Rattle.std.specs.List.{list_any}
+use Rattle.std.specs.Str.{bytes_eq}
 use Rattle.json.specs.Token.{Token}
 use Rattle.json.specs.Json as json
 use Rattle.json.specs.Json.{parse_map}
-use Rattle.json.specs.Print.{print}
-use Rattle.json.specs.Tree.{json_tokens, depth, HasNumbers}
 use Rattle.serde_json.specs.Data.{Data, Items}
 use Rattle.serde_json.specs.Find.{as_array}
 use Rattle.serde_json.specs.Read.{of_json, of_items, converted}
+use Rattle.json_fields.specs.declared.fields.Form.{Form}
+use Rattle.json_fields.specs.declared.fields.Form.TheVariants.{Object, Other}
 use Rattle.rule_spec.specs.declared.rule_kind.RuleKind.{RuleKind}
 use Rattle.rule_spec.specs.declared.placed_refusal.PlacedRefusal.{PlacedRefusal}
 use Rattle.rule_spec.specs.Rule.{Rule}
-use Rattle.json_spec.specs.ReadRule.{read_items, rule_in, has_id}
+use Rattle.json_spec.specs.ReadRule.{read_items, rule_in, has_id, id_of, IsRuleAtPattern}
 use Rattle.rule_read.specs.Reading.{MayStop, StopsAt, ReadsNext}
 
 -- the next value, and the tokens behind it. A list holds it, so it nests one less than a text may
@@ -51,10 +54,20 @@ pub record StopsBefore (kind : RuleKind) (whole rest : List Token) (rose : Type 
   pub left : (n : ℕ) → length whole ≤ n → (m : ℕ) × (length rest ≤ m) × (items_in n whole ≡ parse_map front (items_in m rest))
   pub stops : (items : Items) → MayStop kind (Some (front items)) rose refusal
 
--- the next value is this text, written again
-pub record IsText (ts : List Token) (text : List ℕ) (rest : List Token) : Type 0 where
-  pub tree : json.Json
-  pub is : json.value 126 ts ≡ Some (tree, rest)
-  pub numbers : HasNumbers tree
-  pub shallow : depth tree ≤ 126
-  pub written : text ≡ print (json_tokens tree)
+-- where the form says that the value is an object, it is no list
+abbrev pub IsForm : Form → Data → Type 0
+IsForm Object d = as_array d ≡ None
+IsForm Other d = Unit {0}
+
+-- among the names are the keys of which a rule is read
+pub record HasRuleKeys (names : List (Bor (List ℕ))) : Type 0 where
+  pub id : list_any (λ name. bytes_eq name.now (codes "id")) names ≡ true
+  pub priority : list_any (λ name. bytes_eq name.now (codes "priority")) names ≡ true
+  pub condition : list_any (λ name. bytes_eq name.now (codes "condition")) names ≡ true
+  pub action : list_any (λ name. bytes_eq name.now (codes "action")) names ≡ true
+
+-- one value reads as a rule as the other does
+pub record ReadsAs (kept d : Data) : Type 0 where
+  pub rule : (kind : RuleKind) (is_taken : ℕ → Bool) → rule_in kind is_taken kept ≡ rule_in kind is_taken d
+  pub id : id_of kept ≡ id_of d
+  pub pattern : (is_taken : ℕ → Bool) → IsRuleAtPattern is_taken kept → IsRuleAtPattern is_taken d

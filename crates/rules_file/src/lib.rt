@@ -1,8 +1,8 @@
 //! The bytes of a rules file, read one element of its list at a time, so that the tree of the file is never held whole.
 //!
 //! What a file is read as stands in `json_spec`, `specs/RulesFile.antt`: the rules of the tree that `serde_json` reads
-//! in the bytes, or the first refusal. The tokens come from the reader of `json`, and each element is written again and
-//! read as a value of `serde_json`, which is let go before the next one is read.
+//! in the bytes, or the first refusal. The tokens come from the reader of `json`, and each element is read as a value
+//! of `serde_json`, which is let go before the next one is read. Elements behind a refused one are passed over.
 #![tactic(auto)]
 
 mod list;
@@ -17,12 +17,12 @@ ghost use Rattle.dnr_base.specs.Faults.{Rose};
 ghost use Rattle.json_spec.specs.RulesFile.{rules_of};
 ghost use Rattle.rules_file.specs.Answers.{MayRefuse};
 
+use json_fields::Fault;
 pub use load::{LoadRefusal, MAX_FILE, load_rules};
 use regex_host::RegexHost;
 use rule_read::{PlacedRefusal, Rule, RuleKind, RuleRefusal};
 use std::alloc::Global;
 use std::str;
-use value::Fault;
 
 /// Why a rules file gives no rules.
 #[derive(Debug, Drop)]

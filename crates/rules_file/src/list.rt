@@ -6,8 +6,9 @@ ghost use Rattle.json_spec.specs.ReadRule.{read_items};
 ghost use Rattle.rule_read.specs.Reading.{Taken};
 ghost use Rattle.rules_file.specs.Reading.{value_in, HasValue, HasItems, HasNoItems, Next, Answers, StopsBefore};
 
-use crate::value::{Fault, next_value};
+use crate::value::{next_element, pass_element};
 use json::Reader;
+use json_fields::Fault;
 use regex_host::RegexHost;
 use rule_read::{PlacedRefusal, Rule, RuleKind, RuleRefusal, read_next};
 use std::alloc::Global;
@@ -29,7 +30,7 @@ pub(crate) fn read_list<H: RegexHost>(
     let mut rules = Vec::new(alloc);
     match read_good(alloc, reader, kind, host, &mut taken, &mut rules) {
         Ok(None) => Ok(Ok(rules)),
-        Ok(Some(refusal)) => match pass_rest(alloc, reader) {
+        Ok(Some(refusal)) => match pass_rest(reader) {
             Ok(()) => Ok(Err(refusal)),
             Err(fault) => Err(fault),
         },
@@ -82,7 +83,7 @@ fn next_rule<H: RegexHost>(
     ensures later { H.faults host.old ≤ H.faults host.new }
     ensures bad { result ≡ Err Fault.BadJson → value_in reader.old ≡ None }
 {
-    let value = match next_value(alloc, reader) {
+    let value = match next_element(alloc, reader) {
         Ok(value) => value,
         Err(fault) => return Err(fault),
     };
@@ -94,26 +95,15 @@ fn next_rule<H: RegexHost>(
 }
 
 // Reads the other elements of a list, and keeps none.
-fn pass_rest(alloc: Global, reader: &mut Reader<'_>) -> Result<(), Fault>
+fn pass_rest(reader: &mut Reader<'_>) -> Result<(), Fault>
     ensures passed { OnOk result ((items : Items) × HasItems reader.old items reader.new) }
     ensures bad { result ≡ Err Fault.BadJson → HasNoItems reader.old }
 {
     'items: while !reader.take_end_array() {
-        match pass_value(alloc, reader) {
+        match pass_element(reader) {
             Ok(()) => {}
             Err(fault) => return Err(fault),
         }
     }
     Ok(())
-}
-
-fn pass_value(alloc: Global, reader: &mut Reader<'_>) -> Result<(), Fault>
-    ensures passed { OnOk result ((d : Data) × HasValue reader.old d reader.new) }
-    ensures shorter { OnOk result (length reader.new < length reader.old) }
-    ensures bad { result ≡ Err Fault.BadJson → value_in reader.old ≡ None }
-{
-    match next_value(alloc, reader) {
-        Ok(_) => Ok(()),
-        Err(fault) => Err(fault),
-    }
 }

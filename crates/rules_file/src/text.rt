@@ -6,13 +6,15 @@ ghost use Rattle.serde_json.specs.Data.{Data};
 ghost use Rattle.serde_json.specs.Read.{read};
 ghost use Rattle.serde_json.specs.Find.{as_array};
 ghost use Rattle.dnr_base.specs.Faults.{Rose};
-ghost use Rattle.rules_file.specs.Reading.{Answers};
+ghost use Rattle.json_spec.specs.ReadRule as spec;
+ghost use Rattle.rules_file.specs.Reading.{Answers, IsForm};
 
 use crate::list::read_list;
-use crate::value::{Fault, read_value};
+use crate::value::read_value;
 use json::{Reader, Scratch, Token};
+use json_fields::{Fault, Field, Form, text_fields};
 use regex_host::RegexHost;
-use rule_read::{PlacedRefusal, Rule, RuleKind, read_rules};
+use rule_read::{PlacedRefusal, Rule, RuleKind, RuleRefusal, read_rules};
 use std::alloc::Global;
 
 // Reads the rules of a text, or the first refusal.
@@ -41,8 +43,52 @@ pub(crate) fn read_text<H: RegexHost>(
     }
 }
 
-// The same of a text that is no list, which is read whole.
+// The same of a text that is no list.
 fn read_whole<H: RegexHost>(
+    alloc: Global,
+    text: &str,
+    kind: RuleKind,
+    host: &mut H,
+) -> Result<Result<Vec<Rule>, PlacedRefusal>, Fault>
+    ensures read { IfOk result (λ answer. (d : Data) × (read text.now ≡ Some d)
+        × Answers kind (as_array d) (Rose (H.faults host.old) (H.faults host.new)) answer) }
+    ensures later { H.faults host.old ≤ H.faults host.new }
+    ensures bad { result ≡ Err Fault.BadJson → read text.now ≡ None }
+{
+    match form_of(alloc, text) {
+        Ok(Form::Object) => Ok(Err(no_list())),
+        Ok(Form::Other) => read_small(alloc, text, kind, host),
+        Err(fault) => Err(fault),
+    }
+}
+
+// Whether the text is an object, however many members it has.
+fn form_of(alloc: Global, text: &str) -> Result<Form, Fault>
+    ensures read { IfOk result (λ form. (d : Data) × (read text.now ≡ Some d) × IsForm form d) }
+    ensures bad { result ≡ Err Fault.BadJson → read text.now ≡ None }
+{
+    let mut scratch = Scratch::new(alloc);
+    let mut fields = no_fields();
+    text_fields(alloc, text, &mut scratch, &mut fields)
+}
+
+fn no_fields<'a>() -> [Field<'static, 'a>; 0] {
+    []
+}
+
+fn no_list() -> PlacedRefusal
+    ensures { result ≡ spec.no_list }
+{
+    PlacedRefusal {
+        place: 0,
+        id: None,
+        cause: RuleRefusal::NotObject,
+        set: None,
+    }
+}
+
+// The same of a text that is one value, whose tree costs nothing.
+fn read_small<H: RegexHost>(
     alloc: Global,
     text: &str,
     kind: RuleKind,

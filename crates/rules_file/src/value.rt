@@ -1,48 +1,42 @@
 // The values of a text, one after another.
-ghost use Rattle.std.specs.Prelude.{◌≡◌, ◌<◌, ◌≤◌, Ok, Err, OnOk, IfOk, length, None, Some};
+ghost use Rattle.std.specs.Prelude.{◌≡◌, ◌<◌, Err, OnOk, IfOk, length, None, Some};
 ghost use Rattle.std.specs.Str.{IsUtf8};
-ghost use Rattle.json.specs.Json.{value};
+ghost use Rattle.serde_json.specs.Data.{Data};
 ghost use Rattle.serde_json.specs.View.{view};
 ghost use Rattle.serde_json.specs.Read.{read};
-ghost use Rattle.rules_file.specs.Reading.{value_in, HasValue, IsText};
+ghost use Rattle.rules_file.specs.Reading.{value_in, HasValue, HasRuleKeys, ReadsAs};
 
 use json::Reader;
+use json_fields::{Fault, next_chosen};
 use serde_json::Value;
 use std::alloc::Global;
 
-// Why a text gives no value.
-#[derive(Clone, Copy, Debug, PartialEq, Eq)]
-pub(crate) enum Fault {
-    BadJson,
-    NoMemory,
-}
-
-// The next value, as `serde_json` reads it where it stands in a list.
-pub(crate) fn next_value(alloc: Global, reader: &mut Reader<'_>) -> Result<Value, Fault>
-    ensures read { IfOk result (λ v. HasValue reader.old (view v) reader.new) }
+// The next element of a list, with those members alone of which a rule is read.
+pub(crate) fn next_element(alloc: Global, reader: &mut Reader<'_>) -> Result<Value, Fault>
+    ensures read { IfOk result (λ kept. (d : Data) × HasValue reader.old d reader.new × ReadsAs (view kept) d) }
     ensures shorter { OnOk result (length reader.new < length reader.old) }
     ensures bad { result ≡ Err Fault.BadJson → value_in reader.old ≡ None }
 {
-    match next_text(alloc, reader) {
-        Ok(text) => read_value(alloc, &text),
-        Err(fault) => Err(fault),
-    }
+    let names = rule_keys();
+    next_chosen(alloc, reader, 126, &names)
 }
 
-// The next value, written again.
-fn next_text(alloc: Global, reader: &mut Reader<'_>) -> Result<Vec<u8>, Fault>
-    ensures text { IfOk result (λ text. IsText reader.old text.items reader.new) }
-    ensures utf8 { IfOk result (λ text. IsUtf8 text.items) }
-    ensures shorter { OnOk result (length reader.new < length reader.old) }
-    ensures bad { result ≡ Err Fault.BadJson → value 126 reader.old ≡ None }
+// The keys of a rule.
+fn rule_keys() -> [&'static str; 4]
+    ensures { HasRuleKeys result }
 {
-    match json::Value::read(alloc, reader, 126) {
-        Ok(item) => match json::to_vec(alloc, &item) {
-            Ok(text) => Ok(text),
-            Err(_) => Err(Fault::NoMemory),
-        },
-        Err(json::Error::Invalid) => Err(Fault::BadJson),
-        Err(_) => Err(Fault::NoMemory),
+    ["id", "priority", "condition", "action"]
+}
+
+// Passes over the next element of a list.
+pub(crate) fn pass_element(reader: &mut Reader<'_>) -> Result<(), Fault>
+    ensures passed { OnOk result ((d : Data) × HasValue reader.old d reader.new) }
+    ensures shorter { OnOk result (length reader.new < length reader.old) }
+    ensures bad { result ≡ Err Fault.BadJson → value_in reader.old ≡ None }
+{
+    match json_fields::pass_value(reader, 126) {
+        Ok(()) => Ok(()),
+        Err(_) => Err(Fault::BadJson),
     }
 }
 

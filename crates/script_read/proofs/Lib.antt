@@ -3,3 +3,4 @@ pub mod Limits
 pub mod Stops
 pub mod FramesRead
 pub mod Pairs
+pub mod Same

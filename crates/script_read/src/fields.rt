@@ -1,22 +1,82 @@
-// The fields of a request that are one value each.
-ghost use Rattle.std.specs.Prelude.{◌≡◌, Ok, IfOk, IfErr};
-ghost use Rattle.serde_json.specs.View.{view};
+// The fields of a line, and those of them that are one value each.
+ghost use Rattle.std.specs.Prelude.{◌≡◌, Ok, IfOk, IfErr, length, map};
+ghost use Rattle.std.specs.List.{All};
+ghost use Rattle.dnr_base.specs.Kind.{kind_named};
+ghost use Rattle.dnr_base.specs.Method.{method_named};
+ghost use Rattle.json_fields.specs.Fields.{AreApart, IsEmpty, key_of, value_in};
 ghost use Rattle.json_spec.specs.RequestLine as spec;
+ghost use Rattle.script_read.specs.Fields.{line_keys, place_of, value_at, url_from, kind_from, method_from, tab_from};
 
 use dnr_base::{Kind, Method, Text, View};
 use dnr_spec::ViewRefusal;
-use json_spec::{CommandPath, LineFault, as_kind, as_method, as_tab};
-use serde_json::Value;
+use json_fields::{Field, Held};
+use json_spec::{CommandPath, LineFault};
 use std::alloc::Global;
 use url_view::parse;
 
-// The URL that is asked for.
-#[tactic(auto, unfolding(json_spec::specs::RequestLine::url_in))]
-pub(crate) fn url_in(alloc: Global, tree: &Value) -> Result<View, LineFault>
-    ensures read { IfOk result (λ url. spec.url_in (view tree.now) ≡ Ok url) }
-    ensures refused { IfErr result (spec.IsFaultOf (spec.url_in (view tree.now))) }
+macro_rules! field {
+    ($name:literal, $keeps:literal) => {
+        Field {
+            name: $name,
+            keeps: $keeps,
+            held: None,
+        }
+    };
+}
+
+// What is asked for of a line.
+pub(crate) fn line_fields<'a>() -> [Field<'static, 'a>; 9]
+    ensures keys { map key_of result ≡ line_keys }
+    ensures apart { AreApart result }
+    ensures empty { All IsEmpty result }
 {
-    match tree.get(CommandPath::Url.name()).and_then(Value::as_str) {
+    [
+        field!("cmd", false),
+        field!("url", false),
+        field!("type", false),
+        field!("initiator", false),
+        field!("method", false),
+        field!("tab", false),
+        field!("frames", true),
+        field!("requestHeaders", true),
+        field!("responseHeaders", true),
+    ]
+}
+
+// One field of them.
+pub(crate) fn field_at<'f, 'a>(
+    fields: &'f [Field<'static, 'a>],
+    path: CommandPath,
+) -> &'f Field<'static, 'a>
+    requires { length fields.now ≡ 9 }
+    ensures { value_in result.now ≡ value_at fields.now path }
+{
+    &fields[place(path)]
+}
+
+fn place(path: CommandPath) -> usize
+    ensures { result ≡ place_of path }
+{
+    match path {
+        CommandPath::Cmd => 0,
+        CommandPath::Url => 1,
+        CommandPath::Kind => 2,
+        CommandPath::Initiator => 3,
+        CommandPath::Method => 4,
+        CommandPath::Tab => 5,
+        CommandPath::Frames => 6,
+        CommandPath::RequestHeaders => 7,
+        CommandPath::ResponseHeaders => 8,
+    }
+}
+
+// The URL that is asked for.
+#[tactic(auto, unfolding(crate::specs::Fields::url_from))]
+pub(crate) fn url_in(alloc: Global, url: &Field<'_, '_>) -> Result<View, LineFault>
+    ensures read { IfOk result (λ view. url_from (value_in url.now) ≡ Ok view) }
+    ensures refused { IfErr result (spec.IsFaultOf (url_from (value_in url.now))) }
+{
+    match url.text() {
         Some(text) => view_at(alloc, CommandPath::Url, text),
         None => Err(LineFault::BadCommand(CommandPath::Url)),
     }
@@ -35,38 +95,53 @@ pub(crate) fn view_at(alloc: Global, field: CommandPath, text: &str) -> Result<V
 }
 
 // What is asked for.
-#[tactic(auto, unfolding(json_spec::specs::RequestLine::kind_in))]
-pub(crate) fn kind_in(tree: &Value) -> Result<Kind, LineFault>
-    ensures read { IfOk result (λ kind. spec.kind_in (view tree.now) ≡ Ok kind) }
-    ensures refused { IfErr result (spec.IsFaultOf (spec.kind_in (view tree.now))) }
+#[tactic(auto, unfolding(crate::specs::Fields::kind_from))]
+pub(crate) fn kind_in(kind: &Field<'_, '_>) -> Result<Kind, LineFault>
+    ensures read { IfOk result (λ named. kind_from (value_in kind.now) ≡ Ok named) }
+    ensures refused { IfErr result (spec.IsFaultOf (kind_from (value_in kind.now))) }
 {
-    match tree
-        .get(CommandPath::Kind.name())
-        .and_then(|value| as_kind(value))
-    {
+    let Some(_) = &kind.held else {
+        return Err(LineFault::BadCommand(CommandPath::Kind));
+    };
+    match kind.text() {
+        Some(text) => kind_named(text),
+        None => Err(LineFault::BadCommand(CommandPath::Kind)),
+    }
+}
+
+fn kind_named(name: &str) -> Result<Kind, LineFault>
+    ensures read { IfOk result (λ kind. spec.given CommandPath.Kind (kind_named name.now) ≡ Ok kind) }
+    ensures refused { IfErr result (spec.IsFaultOf (spec.given CommandPath.Kind (kind_named name.now))) }
+{
+    match Kind::named(name) {
         Some(kind) => Ok(kind),
         None => Err(LineFault::BadCommand(CommandPath::Kind)),
     }
 }
 
-// The host of who asks; faults name this field.
-#[tactic(auto, unfolding(json_spec::specs::RequestLine::initiator_in))]
+// The host of who asks.
 pub(crate) fn initiator_in(
     alloc: Global,
-    field: CommandPath,
-    tree: &Value,
+    initiator: &Field<'_, '_>,
 ) -> Result<Option<Text>, LineFault>
-    ensures read { IfOk result (λ host. spec.initiator_in field (view tree.now) ≡ Ok host) }
-    ensures refused { IfErr result (spec.IsFaultOf (spec.initiator_in field (view tree.now))) }
+    ensures read { IfOk result (λ host.
+        spec.initiator_from CommandPath.Initiator (value_in initiator.now) ≡ Ok host) }
+    ensures refused { IfErr result
+        (spec.IsFaultOf (spec.initiator_from CommandPath.Initiator (value_in initiator.now))) }
 {
-    match tree.get(CommandPath::Initiator.name()) {
-        None | Some(Value::Null) => Ok(None),
-        Some(Value::String(text)) => asking_host(alloc, field, text.as_str()),
-        Some(_) => Err(LineFault::BadCommand(field)),
+    match &initiator.held {
+        None | Some(Held::Null) => Ok(None),
+        Some(Held::Text(text)) => asking_host(alloc, CommandPath::Initiator, text),
+        Some(_) => Err(LineFault::BadCommand(CommandPath::Initiator)),
     }
 }
 
-fn asking_host(alloc: Global, field: CommandPath, text: &str) -> Result<Option<Text>, LineFault>
+// The host of who asks by this text, which stands in this field.
+pub(crate) fn asking_host(
+    alloc: Global,
+    field: CommandPath,
+    text: &str,
+) -> Result<Option<Text>, LineFault>
     ensures read { IfOk result (λ host. spec.asking_host field text.now ≡ Ok host) }
     ensures refused { IfErr result (spec.IsFaultOf (spec.asking_host field text.now)) }
 {
@@ -78,32 +153,44 @@ fn asking_host(alloc: Global, field: CommandPath, text: &str) -> Result<Option<T
     Ok(Some(Text::build(host)))
 }
 
-// How it is asked for; faults name this field.
-#[tactic(auto, unfolding(json_spec::specs::RequestLine::method_in))]
-pub(crate) fn method_in(field: CommandPath, tree: &Value) -> Result<Method, LineFault>
-    ensures read { IfOk result (λ method. spec.method_in field (view tree.now) ≡ Ok method) }
-    ensures refused { IfErr result (spec.IsFaultOf (spec.method_in field (view tree.now))) }
+// How it is asked for.
+#[tactic(auto, unfolding(crate::specs::Fields::method_from))]
+pub(crate) fn method_in(method: &Field<'_, '_>) -> Result<Method, LineFault>
+    ensures read { IfOk result (λ named. method_from CommandPath.Method (value_in method.now) ≡ Ok named) }
+    ensures refused { IfErr result
+        (spec.IsFaultOf (method_from CommandPath.Method (value_in method.now))) }
 {
-    let Some(value) = tree.get(CommandPath::Method.name()) else {
+    let Some(_) = &method.held else {
         return Ok(Method::Get);
     };
-    match as_method(value) {
+    match method.text() {
+        Some(text) => method_named(CommandPath::Method, text),
+        None => Err(LineFault::BadCommand(CommandPath::Method)),
+    }
+}
+
+// The method of this name, which stands in this field.
+pub(crate) fn method_named(field: CommandPath, name: &str) -> Result<Method, LineFault>
+    ensures read { IfOk result (λ method. spec.given field (method_named name.now) ≡ Ok method) }
+    ensures refused { IfErr result (spec.IsFaultOf (spec.given field (method_named name.now))) }
+{
+    match Method::named(name) {
         Some(method) => Ok(method),
         None => Err(LineFault::BadCommand(field)),
     }
 }
 
 // The tab in which it is asked for.
-#[tactic(auto, unfolding(json_spec::specs::RequestLine::tab_in))]
-pub(crate) fn tab_in(tree: &Value) -> Result<i32, LineFault>
-    ensures read { IfOk result (λ tab. spec.tab_in (view tree.now) ≡ Ok tab) }
-    ensures refused { IfErr result (spec.IsFaultOf (spec.tab_in (view tree.now))) }
+#[tactic(auto, unfolding(crate::specs::Fields::tab_from))]
+pub(crate) fn tab_in(tab: &Field<'_, '_>) -> Result<i32, LineFault>
+    ensures read { IfOk result (λ number. tab_from (value_in tab.now) ≡ Ok number) }
+    ensures refused { IfErr result (spec.IsFaultOf (tab_from (value_in tab.now))) }
 {
-    let Some(value) = tree.get(CommandPath::Tab.name()) else {
+    let Some(_) = &tab.held else {
         return Ok(-1);
     };
-    match as_tab(value) {
-        Some(tab) => Ok(tab),
-        None => Err(LineFault::BadCommand(CommandPath::Tab)),
+    match tab.whole_number() {
+        Some(number) if (-1..=2_147_483_647).contains(&number) => Ok(number as i32),
+        _ => Err(LineFault::BadCommand(CommandPath::Tab)),
     }
 }

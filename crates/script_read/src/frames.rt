@@ -2,11 +2,13 @@
 ghost use Rattle.std.specs.Prelude.{◌≡◌, ◌≤◌, length, Ok, IfOk, IfErr, option_map};
 ghost use Rattle.serde_json.specs.View.{view, items_view};
 ghost use Rattle.dnr_base.specs.Request.{max_frames};
+ghost use Rattle.json_fields.specs.Fields.{value_in};
 ghost use Rattle.json_spec.specs.RequestLine as spec;
 
-use crate::fields::{initiator_in, method_in, view_at};
-use dnr_base::{Frame, Items, View};
-use json_spec::{CommandPath, LineFault};
+use crate::fields::{asking_host, view_at};
+use dnr_base::{Frame, Items, Method, Text, View};
+use json_fields::Field;
+use json_spec::{CommandPath, LineFault, as_method};
 use serde_json::Value;
 use std::alloc::Global;
 
@@ -14,16 +16,16 @@ use std::alloc::Global;
 const MAX_FRAMES: usize = 64;
 
 // The frames in which the request is asked for.
-#[tactic(auto, using(crate::proofs::Limits::count_is), unfolding(json_spec::specs::RequestLine::frames_in))]
-pub(crate) fn frames_in(alloc: Global, tree: &Value) -> Result<Items<Frame>, LineFault>
-    ensures read { IfOk result (λ frames. spec.frames_in (view tree.now) ≡ Ok frames) }
-    ensures few { IfOk result (λ frames. length frames ≤ max_frames) }
-    ensures refused { IfErr result (spec.IsFaultOf (spec.frames_in (view tree.now))) }
+#[tactic(auto, using(crate::proofs::Limits::count_is))]
+pub(crate) fn frames_in(alloc: Global, frames: &Field<'_, '_>) -> Result<Items<Frame>, LineFault>
+    ensures read { IfOk result (λ read. spec.frames_given (value_in frames.now) ≡ Ok read) }
+    ensures few { IfOk result (λ read. length read ≤ max_frames) }
+    ensures refused { IfErr result (spec.IsFaultOf (spec.frames_given (value_in frames.now))) }
 {
-    let Some(value) = tree.get(CommandPath::Frames.name()) else {
+    let Some(_) = &frames.held else {
         return Ok(Items::build(Vec::new(alloc)));
     };
-    match value.as_array() {
+    match frames.list() {
         Some(values) if values.len() <= MAX_FRAMES => each_frame(alloc, values),
         _ => Err(LineFault::BadCommand(CommandPath::Frames)),
     }
@@ -47,8 +49,8 @@ fn frame_in(alloc: Global, value: &Value) -> Result<Frame, LineFault>
     ensures refused { IfErr result (spec.IsFaultOf (spec.frame_in (view value.now))) }
 {
     let view = frame_url(alloc, value.get(CommandPath::Url.name()))?;
-    let initiator = initiator_in(alloc, CommandPath::Frames, value)?;
-    let method = method_in(CommandPath::Frames, value)?;
+    let initiator = frame_initiator(alloc, value)?;
+    let method = frame_method(value)?;
     Ok(Frame {
         view,
         initiator,
@@ -65,5 +67,35 @@ fn frame_url(alloc: Global, url: Option<&Value>) -> Result<Option<View>, LineFau
         Some(Value::Null) => Ok(None),
         Some(Value::String(text)) => Ok(Some(view_at(alloc, CommandPath::Frames, text.as_str())?)),
         _ => Err(LineFault::BadCommand(CommandPath::Frames)),
+    }
+}
+
+// The host of who asked for the frame.
+#[tactic(auto, unfolding(json_spec::specs::RequestLine::initiator_in))]
+fn frame_initiator(alloc: Global, tree: &Value) -> Result<Option<Text>, LineFault>
+    ensures read { IfOk result (λ host. spec.initiator_in CommandPath.Frames (view tree.now) ≡ Ok host) }
+    ensures refused { IfErr result
+        (spec.IsFaultOf (spec.initiator_in CommandPath.Frames (view tree.now))) }
+{
+    match tree.get(CommandPath::Initiator.name()) {
+        None | Some(Value::Null) => Ok(None),
+        Some(Value::String(text)) => asking_host(alloc, CommandPath::Frames, text.as_str()),
+        Some(_) => Err(LineFault::BadCommand(CommandPath::Frames)),
+    }
+}
+
+// How the frame was asked for.
+#[tactic(auto, unfolding(json_spec::specs::RequestLine::method_in))]
+fn frame_method(tree: &Value) -> Result<Method, LineFault>
+    ensures read { IfOk result (λ method. spec.method_in CommandPath.Frames (view tree.now) ≡ Ok method) }
+    ensures refused { IfErr result
+        (spec.IsFaultOf (spec.method_in CommandPath.Frames (view tree.now))) }
+{
+    let Some(value) = tree.get(CommandPath::Method.name()) else {
+        return Ok(Method::Get);
+    };
+    match as_method(value) {
+        Some(method) => Ok(method),
+        None => Err(LineFault::BadCommand(CommandPath::Frames)),
     }
 }

@@ -1,16 +1,18 @@
 // The headers of a request.
-ghost use Rattle.std.specs.Prelude.{◌≡◌, not, Ok, IfOk, IfErr, IfSome, option_map};
+ghost use Rattle.std.specs.Prelude.{◌≡◌, not, Ok, IfOk, IfErr, IfSome, option_map, option_and_then};
 ghost use Rattle.std.specs.List.{list_all, list_any};
 ghost use Rattle.std.specs.Option.{option_copied};
 ghost use Rattle.http_header.specs.Token.{is_token_byte};
 ghost use Rattle.serde_json.specs.View.{view, items_view};
 ghost use Rattle.dnr_base.specs.Request.{IsHeaderList};
 ghost use Rattle.dnr_spec.specs.Headers as words;
+ghost use Rattle.json_fields.specs.Fields.{value_in};
 ghost use Rattle.json_spec.specs.RequestLine as spec;
 ghost use Rattle.json_spec.specs.RuleFields.{each};
 
 use dnr_base::{Header, Items, NoMemory, Text};
 use http_header::is_token_char;
+use json_fields::Field;
 use json_spec::{CommandPath, LineFault};
 use serde_json::Value;
 use std::alloc::Global;
@@ -22,31 +24,31 @@ const MAX_HEADERS: usize = 512;
 const MAX_NAME: usize = 256;
 
 // The headers of the list in this field, if there is one.
-#[tactic(auto, unfolding(json_spec::specs::RequestLine::headers_in))]
 pub(crate) fn headers_in(
     alloc: Global,
-    field: CommandPath,
-    tree: &Value,
+    path: CommandPath,
+    headers: &Field<'_, '_>,
 ) -> Result<Option<Items<Header>>, LineFault>
-    ensures read { IfOk result (λ headers. spec.headers_in field (view tree.now) ≡ Ok headers) }
-    ensures listed { IfOk result (λ headers. IfSome headers IsHeaderList) }
-    ensures refused { IfErr result (spec.IsFaultOf (spec.headers_in field (view tree.now))) }
+    ensures read { IfOk result (λ read. spec.headers_given path (value_in headers.now) ≡ Ok read) }
+    ensures listed { IfOk result (λ read. IfSome read IsHeaderList) }
+    ensures refused { IfErr result (spec.IsFaultOf (spec.headers_given path (value_in headers.now))) }
 {
-    let Some(value) = tree.get(field.name()) else {
+    let Some(_) = &headers.held else {
         return Ok(None);
     };
-    match as_headers(alloc, value)? {
+    match as_headers(alloc, headers.list())? {
         Some(headers) => Ok(Some(headers)),
-        None => Err(LineFault::BadCommand(field)),
+        None => Err(LineFault::BadCommand(path)),
     }
 }
 
 #[tactic(auto, using(crate::proofs::Limits::count_is, crate::proofs::Limits::headers_listed))]
-fn as_headers(alloc: Global, value: &Value) -> Result<Option<Items<Header>>, NoMemory>
-    ensures read { IfOk result (λ headers. headers ≡ spec.as_headers (view value.now)) }
+fn as_headers(alloc: Global, values: Option<&[Value]>) -> Result<Option<Items<Header>>, NoMemory>
+    ensures read { IfOk result (λ headers.
+        headers ≡ option_and_then spec.few_headers (option_map (λ s. items_view s.now) values.entry)) }
     ensures listed { IfOk result (λ headers. IfSome headers IsHeaderList) }
 {
-    match value.as_array() {
+    match values {
         Some(values) if values.len() <= MAX_HEADERS => each_header(alloc, values),
         _ => Ok(None),
     }

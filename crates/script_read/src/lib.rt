@@ -13,4 +13,4 @@ mod tests;
 
 pub use command::Command;
 pub use json_spec::{CommandPath, LineFault};
-pub use reading::{is_blank, read_line};
+pub use reading::{is_blank, read_line, read_line_with};

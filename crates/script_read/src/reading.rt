@@ -1,19 +1,22 @@
 // A line, and the request in it.
-ghost use Rattle.std.specs.Prelude.{◌≡◌, Ok, IfOk, IfErr};
-ghost use Rattle.serde_json.specs.View.{view};
+ghost use Rattle.std.specs.Prelude.{◌≡◌, Ok, IfOk, IfErr, length, map};
+ghost use Rattle.std.specs.List.{All};
 ghost use Rattle.dnr_spec.specs.Lines as lines;
 ghost use Rattle.dnr_base.specs.Request.{IsRequest};
 ghost use Rattle.json_spec.specs.Json.{tree_of};
 ghost use Rattle.json_spec.specs.RequestLine as spec;
+ghost use Rattle.json_fields.specs.Fields.{AreApart, IsEmpty, key_of};
+ghost use Rattle.script_read.specs.Fields.{line_keys, command_from, request_from};
 ghost use Rattle.script_read.specs.Seen.{command_seen};
 
 use crate::Command;
-use crate::fields::{initiator_in, kind_in, method_in, tab_in, url_in};
+use crate::fields::{field_at, initiator_in, kind_in, line_fields, method_in, tab_in, url_in};
 use crate::frames::frames_in;
 use crate::headers::headers_in;
 use dnr_base::Request;
-use json_spec::{CommandPath, LineFault, read_tree};
-use serde_json::Value;
+use json::Scratch;
+use json_fields::{Fault, Field, Form, Held, read_fields};
+use json_spec::{CommandPath, LineFault};
 use std::alloc::Global;
 
 /// Reads a line of a script, without the LF at its end; `line` is its number, from 1.
@@ -30,8 +33,23 @@ use std::alloc::Global;
 ///   another form, or there are more than 64 frames, or more than 512 headers in one list.
 /// - `BadUrl`: the first at fault is this one, and its text, or the one of a frame, is no URL that is decided.
 /// - `NoMemory`: memory ran out.
-#[tactic(auto, unfolding(json_spec::specs::RequestLine::command_of))]
 pub fn read_line(alloc: Global, line: u32, bytes: &[u8]) -> Result<Command, LineFault>
+    ensures read { IfOk result (λ command. spec.command_of line bytes.now ≡ Ok (command_seen command)) }
+    ensures within_limits { IfOk result (λ command. spec.IsWithinLimits (command_seen command)) }
+    ensures refused { IfErr result (spec.IsFaultOf (spec.command_of line bytes.now)) }
+{
+    let mut scratch = Scratch::new(alloc);
+    read_line_with(alloc, line, bytes, &mut scratch)
+}
+
+/// The same with the memory that the reader of JSON needs, which may be kept from one line to the next.
+#[tactic(auto, unfolding(json_spec::specs::RequestLine::command_of))]
+pub fn read_line_with(
+    alloc: Global,
+    line: u32,
+    bytes: &[u8],
+    scratch: &mut Scratch,
+) -> Result<Command, LineFault>
     ensures read { IfOk result (λ command. spec.command_of line bytes.now ≡ Ok (command_seen command)) }
     ensures within_limits { IfOk result (λ command. spec.IsWithinLimits (command_seen command)) }
     ensures refused { IfErr result (spec.IsFaultOf (spec.command_of line bytes.now)) }
@@ -39,10 +57,8 @@ pub fn read_line(alloc: Global, line: u32, bytes: &[u8]) -> Result<Command, Line
     if is_blank(bytes) {
         return Ok(Command::Blank);
     }
-    match read_tree(alloc, bytes)? {
-        Some(tree) => command_in(alloc, line, &tree),
-        None => Err(LineFault::BadJson),
-    }
+    let mut fields = line_fields();
+    command_by(alloc, line, bytes, scratch, &mut fields)
 }
 
 /// Whether the line has spaces and tabs alone.
@@ -52,40 +68,68 @@ pub fn is_blank(bytes: &[u8]) -> bool
     bytes.iter().all(|byte| *byte == b' ' || *byte == b'\t')
 }
 
-#[tactic(auto, using(crate::proofs::Stops::stops_there), unfolding(json_spec::specs::RequestLine::command_in))]
-fn command_in(alloc: Global, line: u32, tree: &Value) -> Result<Command, LineFault>
-    ensures read { IfOk result (λ command. spec.command_in line (view tree.now) ≡ Ok (command_seen command)) }
+// The command of a line that is not blank, of which nothing was read yet.
+fn command_by<'a>(
+    alloc: Global,
+    line: u32,
+    bytes: &'a [u8],
+    scratch: &'a mut Scratch,
+    fields: &mut [Field<'static, 'a>],
+) -> Result<Command, LineFault>
+    requires keys { map key_of fields.old ≡ line_keys }
+    requires apart { AreApart fields.old }
+    requires empty { All IsEmpty fields.old }
+    ensures read { IfOk result (λ command. spec.command_of_tree line (tree_of bytes.now) ≡ Ok (command_seen command)) }
     ensures within_limits { IfOk result (λ command. spec.IsWithinLimits (command_seen command)) }
-    ensures refused { IfErr result (spec.IsFaultOf (spec.command_in line (view tree.now))) }
+    ensures refused { IfErr result (spec.IsFaultOf (spec.command_of_tree line (tree_of bytes.now))) }
 {
-    if tree.as_object().is_none() {
-        return Err(LineFault::BadCommand(CommandPath::Cmd));
+    match read_fields(alloc, bytes, scratch, fields) {
+        Ok(Form::Object) => command_in(alloc, line, fields),
+        Ok(Form::Other) => Err(LineFault::BadCommand(CommandPath::Cmd)),
+        Err(Fault::BadJson) => Err(LineFault::BadJson),
+        Err(Fault::NoMemory) => Err(LineFault::NoMemory),
     }
-    let Some(name) = tree.get(CommandPath::Cmd.name()) else {
-        return Ok(Command::Request(request_in(alloc, line, tree)?));
-    };
-    match name.as_str() {
-        Some("request") => Ok(Command::Request(request_in(alloc, line, tree)?)),
-        Some("explain") => Ok(Command::Explain(request_in(alloc, line, tree)?)),
-        _ => Err(LineFault::BadCommand(CommandPath::Cmd)),
+}
+
+#[tactic(auto, using(crate::proofs::Stops::stops_there), unfolding(crate::specs::Fields::command_from))]
+fn command_in(alloc: Global, line: u32, fields: &[Field<'static, '_>]) -> Result<Command, LineFault>
+    requires { length fields.now ≡ 9 }
+    ensures read { IfOk result (λ command. command_from line fields.now ≡ Ok (command_seen command)) }
+    ensures within_limits { IfOk result (λ command. spec.IsWithinLimits (command_seen command)) }
+    ensures refused { IfErr result (spec.IsFaultOf (command_from line fields.now)) }
+{
+    match &field_at(fields, CommandPath::Cmd).held {
+        None => Ok(Command::Request(request_in(alloc, line, fields)?)),
+        Some(Held::Text("request")) => Ok(Command::Request(request_in(alloc, line, fields)?)),
+        Some(Held::Text("explain")) => Ok(Command::Explain(request_in(alloc, line, fields)?)),
+        Some(_) => Err(LineFault::BadCommand(CommandPath::Cmd)),
     }
 }
 
 // The request, whose fields are tested in the order in which they stand here.
-#[tactic(auto, using(crate::proofs::Stops::stops_there), unfolding(json_spec::specs::RequestLine::request_in))]
-fn request_in(alloc: Global, line: u32, tree: &Value) -> Result<Request, LineFault>
-    ensures read { IfOk result (λ request. spec.request_in line (view tree.now) ≡ Ok request) }
+#[tactic(auto, using(crate::proofs::Stops::stops_there), unfolding(crate::specs::Fields::request_from))]
+fn request_in(alloc: Global, line: u32, fields: &[Field<'static, '_>]) -> Result<Request, LineFault>
+    requires { length fields.now ≡ 9 }
+    ensures read { IfOk result (λ request. request_from line fields.now ≡ Ok request) }
     ensures within_limits { IfOk result IsRequest }
-    ensures refused { IfErr result (spec.IsFaultOf (spec.request_in line (view tree.now))) }
+    ensures refused { IfErr result (spec.IsFaultOf (request_from line fields.now)) }
 {
-    let view = url_in(alloc, tree)?;
-    let kind = kind_in(tree)?;
-    let initiator = initiator_in(alloc, CommandPath::Initiator, tree)?;
-    let method = method_in(CommandPath::Method, tree)?;
-    let tab = tab_in(tree)?;
-    let frames = frames_in(alloc, tree)?;
-    let request_headers = headers_in(alloc, CommandPath::RequestHeaders, tree)?;
-    let response_headers = headers_in(alloc, CommandPath::ResponseHeaders, tree)?;
+    let view = url_in(alloc, field_at(fields, CommandPath::Url))?;
+    let kind = kind_in(field_at(fields, CommandPath::Kind))?;
+    let initiator = initiator_in(alloc, field_at(fields, CommandPath::Initiator))?;
+    let method = method_in(field_at(fields, CommandPath::Method))?;
+    let tab = tab_in(field_at(fields, CommandPath::Tab))?;
+    let frames = frames_in(alloc, field_at(fields, CommandPath::Frames))?;
+    let request_headers = headers_in(
+        alloc,
+        CommandPath::RequestHeaders,
+        field_at(fields, CommandPath::RequestHeaders),
+    )?;
+    let response_headers = headers_in(
+        alloc,
+        CommandPath::ResponseHeaders,
+        field_at(fields, CommandPath::ResponseHeaders),
+    )?;
     Ok(Request {
         line,
         view,

@@ -1,7 +1,7 @@
-use Rattle.std.proofs.Common.{◌≡◌, ◌<◌, ◌∷◌, ◌∙◌, ap, arith, length}
+use Rattle.std.proofs.Common.{◌≡◌, ◌<◌, ◌∷◌, ◌∙◌, ap, arith, length, refl}
 use Rattle.abp_parse.specs.Cut.{pieces_left}
 use Rattle.list_spec.specs.LineKind.{lines_of}
-use Rattle.abp_compile.proofs.Walk.{goes_on, stops_there}
+use Rattle.abp_compile.proofs.Walk.{begins, goes_on, ends_filters, stops_there}
 use Rattle.abp_compile.proofs.lines.take_lines.Goals as goal
 
 pub lines-preserved : goal.lines-preserved
@@ -11,13 +11,27 @@ lines-preserved g c =
     let cut : lines_of c.lines.rest.now ≡ line ∷ more = c.cut_line.ensures.lines in
     let less : length c.in-Some.later.now < length c.lines.rest.now = rw c.in-Some.is at c.cut_line.ensures.shorter in
     record {
-      at = goes_on c.args.lines.now c.lines.rest.now line more c.lines.number c.lines.work c.take_line.new.work c.in-Some.later.now c.lines.invariant.at cut
-          (ap (pieces_left 10) c.in-Some.is) c.in-Ok.ensures.drafts c.in-Ok.ensures.reported;
+      at = goes_on c.args.lines.now c.lines.rest.now line more c.lines.number c.lines.taken.groups c.take_line.new.taken.groups c.lines.taken.reported.items c.take_line.new.taken.reported.items c.in-Some.later.now c.lines.invariant.at cut
+          (ap (pieces_left 10) c.in-Some.is) c.in-Ok.ensures.takes c.in-Ok.ensures.reported;
+      found = c.in-Ok.ensures.found;
       short = omega (arith, c.lines.invariant.short, less);
       calm = c.in-Ok.ensures.calm ∙ c.lines.invariant.calm;
     }
 
 pub returns-in-Err-clause-stops : goal.returns-in-Err-clause-stops
 returns-in-Err-clause-stops g c =
-    stops_there c.args.lines.now c.lines.rest.now c.cut_line.result.0.now (pieces_left 10 c.cut_line.result.1) c.lines.number c.lines.work c.take_line.new.work
+    stops_there c.args.lines.now c.lines.rest.now c.cut_line.result.0.now (pieces_left 10 c.cut_line.result.1) c.lines.number c.lines.taken.groups c.take_line.new.taken.groups c.lines.taken.reported.items c.take_line.new.taken.reported.items
     c.lines.invariant.at c.cut_line.ensures.lines c.in-Err.refusal c.in-Err.ensures.stops
+
+pub lines-init : goal.lines-init
+lines-init g c = record {
+  at = begins c.args.lines.now c.new.result c.new-2.result.items c.new.ensures.filters c.new-2.ensures.items;
+  found = c.new.ensures.found;
+  short = omega arith;
+  calm = refl;
+}
+
+pub returns-in-None-clause-filters : goal.returns-in-None-clause-filters
+returns-in-None-clause-filters g c =
+    ends_filters c.args.lines.now c.lines.rest.now c.cut_line.result.0.now (pieces_left 10 c.cut_line.result.1) c.lines.number c.lines.taken.groups c.take_line.new.taken.groups c.lines.taken.reported.items c.take_line.new.taken.reported.items
+    c.lines.invariant.at c.cut_line.ensures.lines (ap (pieces_left 10) c.in-None.is) c.in-Ok.ensures.takes

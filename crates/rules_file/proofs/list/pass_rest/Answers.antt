@@ -12,7 +12,7 @@ items-preserved c =
     let l = c.items in
     let going : (after_end_array l.reader ≡ None) × (c.take_end_array.new.self ≡ l.reader) = c.items-test.ensures in
     let one = rw going.1 at c.in-Ok.ensures.passed in
-    one_passed c.args.reader.now l.reader c.pass_value.new.reader one.0 l.invariant going.0 one.1 (rw going.1 at c.in-Ok.ensures.shorter)
+    one_passed c.args.reader.now l.reader c.pass_element.new.reader one.0 l.invariant going.0 one.1 (rw going.1 at c.in-Ok.ensures.shorter)
 
 pub returns-clause-passed : goal.returns-clause-passed
 returns-clause-passed c = let l = c.items in (l.invariant.front no_items, all_passed c.args.reader.now l.reader c.take_end_array.new.self l.invariant c.items-test.ensures)

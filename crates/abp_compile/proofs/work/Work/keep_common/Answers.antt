@@ -1,6 +1,8 @@
-use Rattle.std.proofs.Common.{◌≡◌, length, arith}
-use Rattle.abp_parse.specs.Seen.{filter_seen}
-use Rattle.abp_compile.specs.Seen.{effect_seen, initiators_seen, in_common_of}
+use Rattle.std.proofs.Common.{◌≡◌, length, arith, sym, ap, subst, List}
+use Rattle.compile_spec.specs.Compiled.{Draft}
+use Rattle.compile_spec.specs.Initiators.{Initiators}
+use Rattle.abp_compile.specs.Seen.{standing_seen, effect_seen, initiators_seen, in_common_of}
+use Rattle.abp_compile.specs.Work.{drafts, Keeps}
 use Rattle.abp_compile.proofs.Named.{one_if, all_named, only_given}
 use Rattle.abp_compile.proofs.work.Work.keep_common.Goals as goal
 
@@ -8,10 +10,10 @@ pub common-requires-clause-one : goal.common-requires-clause-one
 common-requires-clause-one c = one_if c.has_common.result (length (in_common_of c.args.domains.now)) c.has_common.ensures c.if-has_common.true
 
 pub common-requires-clause-named : goal.common-requires-clause-named
-common-requires-clause-named c = all_named (filter_seen c.args.filter) (effect_seen c.args.effect) (in_common_of c.args.domains.now) c.requires.rules
+common-requires-clause-named c = all_named (standing_seen c.args.standing.now) (effect_seen c.args.effect) (in_common_of c.args.domains.now) c.requires.rules
 
-pub rule_of-requires : goal.rule_of-requires
-rule_of-requires c =
+pub keep-requires : goal.keep-requires
+keep-requires c =
     let one : length (in_common_of c.args.domains.now) ≡ 1 = one_if c.has_common.result (length (in_common_of c.args.domains.now)) c.has_common.ensures c.if-has_common.true in
-    only_given c.args.id (filter_seen c.args.filter) (effect_seen c.args.effect) (in_common_of c.args.domains.now) (initiators_seen c.in_ok-initiators.initiators)
+    only_given c.args.id (standing_seen c.args.standing.now) (effect_seen c.args.effect) (in_common_of c.args.domains.now) (initiators_seen c.in_ok-initiators.initiators)
     c.requires.rules c.in_ok-initiators.ensures c.requires.some (omega (arith, one))

@@ -1,6 +1,5 @@
 use Rattle.std.proofs.Common.{◌≡◌, ◌<◌, ◌∙◌, List, ℕ, ap, get_or, length, arith}
-use Rattle.abp_parse.specs.Seen.{filter_seen}
-use Rattle.abp_compile.specs.Seen.{effect_seen}
+use Rattle.abp_compile.specs.Seen.{effect_seen, standing_seen}
 use Rattle.abp_compile.proofs.Named.{single_given}
 use Rattle.abp_compile.proofs.Drafts.{keeps_single}
 use Rattle.abp_compile.proofs.work.Work.keep_singles.Goals as goal
@@ -13,7 +12,7 @@ keep_single-requires c =
     let same = c.as_slice-domain-items.ensures.value in
     let less : i < length d.nested.items = omega (arith, ap length same) in
     let is : domain ≡ get_or d.nested.items i domain = c.domain-item.is ∙ ap (λ (l : List (List ℕ)). get_or l i domain) same in
-    single_given c.loop-domain.id (filter_seen c.args.filter.now) (effect_seen c.args.effect) d.excluded.items d.nested.items i domain c.requires.rules less is (omega arith) (omega arith)
+    single_given c.loop-domain.id (standing_seen c.args.standing.now) (effect_seen c.args.effect) d.excluded.items d.nested.items i domain c.requires.rules less is (omega arith) (omega arith)
 
 pub loop-domain-preserved : goal.loop-domain-preserved
 loop-domain-preserved c =
@@ -26,7 +25,6 @@ loop-domain-preserved c =
     record {
       next = omega arith;
       count = c.in_ok-keep_single.ensures.count ∙ c.loop-domain.invariant.count;
-      reported = c.in_ok-keep_single.ensures.reported ∙ c.loop-domain.invariant.reported;
-      kept = keeps_single c.args.first c.loop-domain.id c.args.line (filter_seen c.args.filter.now) (effect_seen c.args.effect) d.excluded.items d.nested.items i domain
+      kept = keeps_single c.args.first c.loop-domain.id (standing_seen c.args.standing.now) (effect_seen c.args.effect) d.excluded.items d.nested.items i domain
           c.args.self.now c.loop-domain.self c.keep_single.new.self c.loop-domain.invariant.next less is c.loop-domain.invariant.kept c.in_ok-keep_single.ensures.kept;
     }

@@ -1,0 +1,6 @@
+pub mod Bytes
+pub mod Fitted
+pub mod Firm
+pub mod Anchors
+pub mod Sharing
+pub mod Few

@@ -1,0 +1,25 @@
+//! The fields of a JSON object (RFC 8259) without its tree.
+//!
+//! A text is read by its tokens. The value at a key that is asked for is kept, and any other value is passed over
+//! without memory; so an object of many members costs no more than the fields that are read in it. What is read is
+//! exactly what `serde_json` reads in the whole text: where it gives no tree, as for a number out of range behind the
+//! last field, nothing is read here either, and of a repeated key the last value counts.
+#![tactic(auto)]
+
+mod chosen;
+mod field;
+mod fields;
+mod held;
+mod number;
+mod passed;
+#[cfg(test)]
+mod tests;
+mod tree;
+
+pub use chosen::next_chosen;
+pub use field::Field;
+pub use fields::{Form, read_fields, text_fields};
+pub use held::Held;
+pub use number::read_number;
+pub use passed::pass_value;
+pub use tree::{Fault, next_value};

@@ -1,0 +1,5 @@
+pub mod Asked
+pub mod Hash
+pub mod Pairs
+pub mod Cuts
+pub mod Kept

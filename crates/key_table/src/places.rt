@@ -1,0 +1,104 @@
+ghost use Rattle.std.specs.Prelude.{◌≡◌, ◌&&◌};
+ghost use Rattle.std.specs.Str.{bytes_eq};
+ghost use Rattle.std.specs.Iterator.{YieldsFirst, item_count};
+ghost use Rattle.key_table.specs.Kept.{AreEntries, IsEntry, key_in, pairs_in};
+ghost use Rattle.key_table.specs.Hash.{tag_of};
+ghost use Rattle.key_table.specs.Pairs.{shows, near_of};
+
+use crate::asked::Asked;
+use crate::entry::Entry;
+use crate::order::{compare_keys, key_in as key_of};
+use std::marker::Model;
+
+/// The places that have a key and need no more than is shown. A clause sees those that are left.
+#[derive(Debug, Drop)]
+pub struct Places<'a> {
+    texts: &'a [u8],
+    entries: &'a [Entry],
+    asked: Asked<'a>,
+    tag: u32,
+    shown: Option<u64>,
+}
+
+impl<'a> Model for Places<'a> {
+    ghost use Rattle.std.specs.Prelude.{◌≡◌, ℕ, List};
+    ghost use Rattle.key_table.specs.Kept.{AreEntries, pairs_in};
+    ghost use Rattle.key_table.specs.Hash.{tag_of};
+    ghost use Rattle.key_table.specs.Pairs.{near_of};
+
+    ghost Value = { List ℕ };
+
+    ghost view = { λ p. near_of p.asked p.shown (pairs_in p.texts.now p.entries.now) };
+
+    ghost invariant = { λ p. AreEntries p.texts.now p.entries.now × (p.tag ≡ tag_of p.asked) };
+}
+
+impl<'a> Places<'a> {
+    pub(crate) fn new(
+        texts: &'a [u8],
+        entries: &'a [Entry],
+        asked: Asked<'a>,
+        tag: u32,
+        shown: Option<u64>,
+    ) -> Places<'a>
+        requires entries { AreEntries texts.now entries.now }
+        requires tag { tag ≡ tag_of asked }
+        ensures { result ≡ near_of asked.entry shown (pairs_in texts.now entries.now) }
+    {
+        Places {
+            texts,
+            entries,
+            asked,
+            tag,
+            shown,
+        }
+    }
+}
+
+// Whether what is needed is all shown.
+fn is_shown(needed: u64, shown: Option<u64>) -> bool
+    ensures { result ≡ shows needed shown }
+{
+    match shown {
+        None => true,
+        Some(shown) => needed | shown == shown,
+    }
+}
+
+// Whether the entry has the key. A tag that differs tells that it has another.
+#[tactic(auto, using(crate::proofs::Tags::other_tag))]
+fn has_key(texts: &[u8], entry: &Entry, asked: &Asked<'_>, tag: u32) -> bool
+    requires entry { IsEntry texts.now entry.now }
+    requires tag { tag ≡ tag_of asked.now }
+    ensures { result ≡ bytes_eq (key_in texts.now entry.now) asked.now }
+{
+    entry.tag == tag && compare_keys(key_of(texts, entry), asked).is_eq()
+}
+
+// Whether the entry has the key and needs no more than is shown.
+fn is_near(texts: &[u8], entry: &Entry, asked: &Asked<'_>, tag: u32, shown: Option<u64>) -> bool
+    requires entry { IsEntry texts.now entry.now }
+    requires tag { tag ≡ tag_of asked.now }
+    ensures { result
+        ≡ (shows entry.now.needed shown && bytes_eq (key_in texts.now entry.now) asked.now) }
+{
+    is_shown(entry.needed, shown) && has_key(texts, entry, asked, tag)
+}
+
+impl<'a> Iterator for Places<'a> {
+    type Item = u32;
+
+    ghost next_gives = { YieldsFirst (λ places. places) };
+
+    ghost remaining = { item_count (λ places. places) };
+
+    fn next(&mut self) -> Option<u32> {
+        while let Some((first, others)) = self.entries.split_first() {
+            self.entries = others;
+            if is_near(self.texts, first, &self.asked, self.tag, self.shown) {
+                return Some(first.place);
+            }
+        }
+        None
+    }
+}

@@ -1,0 +1,152 @@
+ghost use Rattle.std.specs.Prelude.{◌≡◌, ◌≤◌, ◌<◌, ℕ, [], length, slice_range, slice_index_or, Option, Some, true, false, ◌∷◌};
+ghost use Rattle.std.specs.Ordering.{nat_cmp, is_le};
+ghost use Rattle.std.specs.Cmp.Lexicographic.{slice_cmp};
+ghost use Rattle.key_table.specs.declared.entry.Entry.{Entry as Seen};
+ghost use Rattle.key_table.specs.Hash.{tag_of};
+ghost use Rattle.key_table.specs.Kept.{AreEntries, IsRising, IsKept, pairs_in, rank_in, is_below};
+ghost use Rattle.key_table.specs.Pairs.{near_of, places_of};
+
+use crate::asked::Asked;
+use crate::entry::Entry;
+use crate::hashes::bucket_of;
+use crate::order::compare_asked;
+use crate::places::Places;
+use std::marker::Model;
+
+// The most entries of a bucket that are walked without a search.
+const LONG: usize = 8;
+
+/// Pairs of a key and a place. A clause sees the list of the pairs.
+#[derive(Debug, Drop)]
+pub struct Table {
+    texts: Vec<u8>,
+    entries: Vec<Entry>,
+    starts: Vec<u32>,
+}
+
+impl Model for Table {
+    ghost use Rattle.std.specs.Prelude.{List};
+    ghost use Rattle.key_table.specs.Pairs.{Pair};
+    ghost use Rattle.key_table.specs.Kept.{pairs_in, IsKept};
+
+    ghost Value = { List Pair };
+
+    ghost view = { λ t. pairs_in t.texts.items t.entries.items };
+
+    ghost invariant = { λ t. IsKept t.texts.items t.entries.items t.starts.items };
+}
+
+// The part of the entries that stands there.
+fn part(entries: &[Entry], start: usize, end: usize) -> &[Entry]
+    requires ordered { start ≤ end }
+    requires within { end ≤ length entries.now }
+    ensures { result.now ≡ slice_range entries.now start end }
+{
+    &entries[start..end]
+}
+
+// How many entries stand below the key.
+#[tactic(auto)]
+fn start_of(texts: &[u8], entries: &[Entry], tag: u32, asked: &Asked<'_>) -> usize
+    requires { IsRising texts.now entries.now }
+    ensures within { result ≤ length entries.now }
+    ensures below { (k : ℕ) (entry : Seen) → k < result
+        → is_below (rank_in texts.now (slice_index_or entries.now k entry)) (tag ∷ asked.now) ≡ true }
+{
+    entries.partition_point(|entry| compare_asked(texts, entry, tag, asked).is_lt())
+}
+
+// How many entries do not stand above the key.
+#[tactic(auto)]
+fn end_of(texts: &[u8], entries: &[Entry], tag: u32, asked: &Asked<'_>) -> usize
+    requires { IsRising texts.now entries.now }
+    ensures within { result ≤ length entries.now }
+    ensures above { (k : ℕ) (entry : Seen) → result ≤ k → k < length entries.now
+        → is_le (slice_cmp nat_cmp (rank_in texts.now (slice_index_or entries.now k entry)) (tag ∷ asked.now)) ≡ false }
+{
+    entries.partition_point(|entry| compare_asked(texts, entry, tag, asked).is_le())
+}
+
+// The entries that have the key, by halves.
+fn searched<'a>(texts: &[u8], entries: &'a [Entry], tag: u32, asked: &Asked<'_>) -> &'a [Entry]
+    requires all { AreEntries texts.now entries.now }
+    requires rising { IsRising texts.now entries.now }
+    requires tag { tag ≡ tag_of asked.now }
+    ensures entries { AreEntries texts.now result.now }
+    ensures places { (shown : Option ℕ) → near_of asked.now shown (pairs_in texts.now result.now)
+        ≡ near_of asked.now shown (pairs_in texts.now entries.now) }
+{
+    let start = start_of(texts, entries, tag, asked);
+    let end = end_of(texts, entries, tag, asked).max(start);
+    part(entries, start, end)
+}
+
+// The entries of a key's bucket or, if these are many, those that have the key.
+fn bucket<'a>(
+    texts: &[u8],
+    entries: &'a [Entry],
+    starts: &[u32],
+    tag: u32,
+    asked: &Asked<'_>,
+) -> &'a [Entry]
+    requires kept { IsKept texts.now entries.now starts.now }
+    requires tag { tag ≡ tag_of asked.now }
+    ensures entries { AreEntries texts.now result.now }
+    ensures places { (shown : Option ℕ) → near_of asked.now shown (pairs_in texts.now result.now)
+        ≡ near_of asked.now shown (pairs_in texts.now entries.now) }
+{
+    let buckets = (starts.len() - 1) as u32;
+    let bucket = bucket_of(buckets, tag);
+    let start = starts[bucket] as usize;
+    let end = starts[bucket + 1] as usize;
+    if end - start > LONG {
+        return searched(texts, entries, tag, asked);
+    }
+    part(entries, start, end)
+}
+
+impl Table {
+    pub(crate) fn new(texts: Vec<u8>, entries: Vec<Entry>, starts: Vec<u32>) -> Table
+        requires { IsKept texts.items entries.items starts.items }
+        ensures { result ≡ pairs_in texts.items entries.items }
+    {
+        Table {
+            texts,
+            entries,
+            starts,
+        }
+    }
+
+    /// The places that have the key, each once for each pair, and no others. It takes no memory.
+    pub fn places<'a>(&'a self, asked: Asked<'a>) -> Places<'a>
+        ensures { result ≡ places_of asked.entry self.now }
+    {
+        self.asked(asked, None)
+    }
+
+    /// Those of them that need no more than is shown. It takes no memory.
+    pub fn near<'a>(&'a self, asked: Asked<'a>, shown: u64) -> Places<'a>
+        ensures { result ≡ near_of asked.entry (Some shown) self.now }
+    {
+        self.asked(asked, Some(shown))
+    }
+
+    /// The places that have the key or, where it is told what is shown, those of them that need no more. It takes
+    /// no memory.
+    pub fn asked<'a>(&'a self, asked: Asked<'a>, shown: Option<u64>) -> Places<'a>
+        ensures { result ≡ near_of asked.entry shown self.now }
+    {
+        let tag = asked.tag();
+        let entries = bucket(&self.texts, &self.entries, &self.starts, tag, &asked);
+        Places::new(&self.texts, entries, asked, tag, shown)
+    }
+
+    /// No places.
+    pub fn no_places(&self) -> Places<'_>
+        ensures { result ≡ [] }
+    {
+        let asked = Asked::exactly(&[]);
+        let tag = asked.tag();
+        Places::new(&[], &[], asked, tag, None)
+    }
+}

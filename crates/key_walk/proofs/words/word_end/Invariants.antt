@@ -1,0 +1,9 @@
+use Rattle.std.proofs.Common.{◌≡◌, ◌≤◌, ◌-◌, ◌<◌, ℕ, length, slice_index, false}
+use Rattle.index_spec.specs.Words.{ends_word}
+use Rattle.key_walk.proofs.words.word_end.Given as goal
+
+abbrev pub invariant-loop-at : goal.invariant-loop-at
+invariant-loop-at l = record { within : l.at ≤ length l.text; inside : (k : ℕ) → k < l.at → ends_word (slice_index l.text k) ≡ false }
+
+abbrev pub decreases-loop-at : goal.decreases-loop-at
+decreases-loop-at l = length l.text - l.at

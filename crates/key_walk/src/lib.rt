@@ -1,0 +1,15 @@
+//! The places of a table that share a key with a text: a word of it, or a domain that a host lies in. No walk takes
+//! memory.
+#![tactic(auto)]
+
+mod domain_walk;
+mod domains;
+#[cfg(test)]
+mod tests;
+mod word_walk;
+mod words;
+
+pub use domain_walk::DomainWalk;
+pub use domains::Domains;
+pub use word_walk::WordWalk;
+pub use words::Words;

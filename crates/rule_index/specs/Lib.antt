@@ -1,0 +1,4 @@
+pub mod Index
+pub mod Found
+pub mod Tokens
+pub mod Walk

@@ -1,0 +1,90 @@
+-- The command of a line, by the values at its keys.
+use Rattle.std.specs.Prelude.{ℕ, ℤ, negsuc, List, [], ◌∷◌, map, get_or, codes, Bool, true, false, Option, Some, None, option_and_then, Result, Ok, Err, if◌then◌else◌}
+use Rattle.std.specs.Str.{bytes_eq}
+use Rattle.serde_json.specs.Data.{Data, string}
+use Rattle.serde_json.specs.Find.{as_str}
+use Rattle.dnr_base.specs.declared.kind.Kind.{Kind}
+use Rattle.dnr_base.specs.declared.method.Method.{Method}
+use Rattle.dnr_base.specs.declared.method.Method.TheVariants.{Get}
+use Rattle.dnr_base.specs.declared.request.Request.{Request}
+use Rattle.dnr_base.specs.View.{View}
+use Rattle.json_spec.specs.declared.command_path.CommandPath.{CommandPath}
+use Rattle.json_spec.specs.declared.command_path.CommandPath.TheVariants as path
+use Rattle.json_spec.specs.declared.line_fault.LineFault.{LineFault}
+use Rattle.json_spec.specs.declared.line_fault.LineFault.TheVariants.{BadCommand}
+use Rattle.json_spec.specs.RuleFields.{as_kind, as_method, as_tab}
+use Rattle.json_spec.specs.RequestLine.{and_then, given, given_or, view_at, initiator_from, frames_given, headers_given, Command, request, explain}
+use Rattle.json_fields.specs.declared.field.Field.{Field}
+use Rattle.json_fields.specs.Fields.{value_in}
+
+-- the keys of a line, in this order; of the first six nothing in brackets is kept
+abbrev pub line_keys : List (List ℕ × Bool)
+line_keys =
+    (codes "cmd", false) ∷ (codes "url", false) ∷ (codes "type", false)
+    ∷ (codes "initiator", false) ∷ (codes "method", false) ∷ (codes "tab", false)
+    ∷ (codes "frames", true) ∷ (codes "requestHeaders", true) ∷ (codes "responseHeaders", true) ∷ []
+
+abbrev pub place_of : CommandPath → ℕ
+place_of path.Cmd = 0
+place_of path.Url = 1
+place_of path.Kind = 2
+place_of path.Initiator = 3
+place_of path.Method = 4
+place_of path.Tab = 5
+place_of path.Frames = 6
+place_of path.RequestHeaders = 7
+place_of path.ResponseHeaders = 8
+
+-- the value of a field
+abbrev pub value_at : List Field → CommandPath → Option Data
+value_at fields field = get_or (map value_in fields) (place_of field) None
+
+unfoldable pub url_from : Option Data → Result View LineFault
+url_from found = and_then (given path.Url (option_and_then as_str found)) (view_at path.Url)
+
+unfoldable pub kind_from : Option Data → Result Kind LineFault
+kind_from found = given path.Kind (option_and_then as_kind found)
+
+unfoldable pub method_from : CommandPath → Option Data → Result Method LineFault
+method_from field found = given_or Get field as_method found
+
+unfoldable pub tab_from : Option Data → Result ℤ LineFault
+tab_from found = given_or (negsuc 0) path.Tab as_tab found
+
+-- the request of the line of this number
+unfoldable pub request_from : ℕ → List Field → Result Request LineFault
+request_from number fields =
+    and_then (url_from (value_at fields path.Url)) (λ view.
+    and_then (kind_from (value_at fields path.Kind)) (λ kind.
+    and_then (initiator_from path.Initiator (value_at fields path.Initiator)) (λ initiator.
+    and_then (method_from path.Method (value_at fields path.Method)) (λ method.
+    and_then (tab_from (value_at fields path.Tab)) (λ tab.
+    and_then (frames_given (value_at fields path.Frames)) (λ frames.
+    and_then (headers_given path.RequestHeaders (value_at fields path.RequestHeaders)) (λ request_headers.
+    and_then (headers_given path.ResponseHeaders (value_at fields path.ResponseHeaders)) (λ response_headers.
+    Ok (record {
+      line = number;
+      view = view;
+      initiator = initiator;
+      kind = kind;
+      method = method;
+      tab = tab;
+      frames = frames;
+      request_headers = request_headers;
+      response_headers = response_headers;
+    })))))))))
+
+abbrev pub command_named : ℕ → List Field → List ℕ → Result Command LineFault
+command_named number fields name =
+    if bytes_eq name (codes "request") then and_then (request_from number fields) (λ r. Ok (request r))
+    else (if bytes_eq name (codes "explain") then and_then (request_from number fields) (λ r. Ok (explain r))
+    else Err (BadCommand path.Cmd))
+
+abbrev pub command_at : ℕ → List Field → Option Data → Result Command LineFault
+command_at number fields None = command_named number fields (codes "request")
+command_at number fields (Some (string name)) = command_named number fields name
+command_at number fields (Some _) = Err (BadCommand path.Cmd)
+
+-- the command of the line of this number
+unfoldable pub command_from : ℕ → List Field → Result Command LineFault
+command_from number fields = command_at number fields (value_at fields path.Cmd)

@@ -1,0 +1,108 @@
+//! What the words of a command ask for, and what is read then.
+use crate::shelves::{shelf, words};
+use dnr_rules::Rule;
+use dnr_words::{Installed, Task, read_words};
+use manifest_read::{ManifestRefusal, read_extension};
+use regex_host::{ListHost, PackHost};
+use rule_spec::RuleKind;
+use session_load::{Loaded, Stop, load_list, load_local, load_rules, load_serving};
+use std::test::Fail;
+
+#[test]
+fn words_are_a_command(rt: HostRuntime) -> Result<(), Fail> {
+    let words = words(rt.alloc(), "serve --list l=e=f --psl p --ext shop s")?;
+    let Some(Task::Serve(serving)) = read_words(&words) else {
+        return Err(Fail::new("no session"));
+    };
+    assert!(rt; serving.script() == "s" && serving.suffixes() == Some("p"));
+    let installed = serving.installed(rt.alloc())?;
+    assert!(rt; matches!(installed.first(), Some(Installed::List("l", "e=f"))));
+    assert!(rt; matches!(installed.last(), Some(Installed::Folder("shop"))));
+    assert!(rt; read_words(&words[..1]).is_none());
+    Ok(())
+}
+
+fn has_id(rules: &[Rule], id: u32) -> bool {
+    rules.len() == 1 && rules.iter().all(|rule| rule.id() == id)
+}
+
+#[test]
+fn an_extension_has_its_rulesets(rt: HostRuntime) -> Result<(), Fail> {
+    let mut host = PackHost::new(rt.alloc())?;
+    let read = read_extension(rt.alloc(), &mut shelf(rt.alloc(), 0)?, "shop", &mut host);
+    let shop = read.ok().ok_or("refused")?;
+    assert!(rt; shop.name() == "shop" && shop.sets().len() == 1);
+    let set = shop.sets().first().ok_or("no ruleset")?;
+    assert!(rt; set.id() == "s" && !set.is_enabled() && has_id(set.rules(), 5));
+    let read = read_extension(rt.alloc(), &mut shelf(rt.alloc(), 2)?, "shop", &mut host);
+    assert!(rt; matches!(&read, Err(ManifestRefusal::ReadFault)));
+    Ok(())
+}
+
+#[test]
+fn rules_are_loaded(rt: HostRuntime) -> Result<(), Fail> {
+    let mut shelf = shelf(rt.alloc(), 0)?;
+    let mut host = PackHost::new(rt.alloc())?;
+    let loaded = load_rules(
+        rt.alloc(),
+        "r.json",
+        RuleKind::Static,
+        &mut shelf,
+        &mut host,
+    );
+    assert!(rt; has_id(&loaded.ok().ok_or("refused")?, 7));
+    let loaded = load_local(rt.alloc(), "r.json", &mut shelf, &mut host);
+    let Loaded { extensions, .. } = loaded.ok().ok_or("refused")?;
+    assert!(rt; extensions.iter().all(|it| it.name() == "local"));
+    Ok(())
+}
+
+#[test]
+fn a_list_is_compiled(rt: HostRuntime) -> Result<(), Fail> {
+    let mut host = PackHost::new(rt.alloc())?;
+    let loaded = load_list(rt.alloc(), "l.txt", &mut shelf(rt.alloc(), 0)?, &mut host);
+    let list = loaded.ok().ok_or("refused")?;
+    assert!(rt; has_id(&list.rules, 1) && list.report.lines.as_slice().len() == 1);
+    let mut origins = list.report.origins.iter();
+    assert!(rt; origins.all(|lines| lines.as_slice() == [2].as_slice()));
+    Ok(())
+}
+
+#[test]
+fn a_session_is_loaded_in_the_order_of_its_words(rt: HostRuntime) -> Result<(), Fail> {
+    let words = words(
+        rt.alloc(),
+        "serve --list l=l.txt --psl psl.dat --ext shop s",
+    )?;
+    let Some(Task::Serve(serving)) = read_words(&words) else {
+        return Err(Fail::new("no session"));
+    };
+    let mut host = PackHost::new(rt.alloc())?;
+    let loaded = load_serving(rt.alloc(), &serving, &mut shelf(rt.alloc(), 0)?, &mut host);
+    let Loaded {
+        suffixes,
+        extensions,
+    } = loaded.ok().ok_or("refused")?;
+    assert!(rt; suffixes.registrable("a.b.co.uk") == Some("b.co.uk"));
+    assert!(rt;
+        extensions
+            .iter()
+            .map(|it| it.name())
+            .eq(["l", "shop"].iter().copied())
+    );
+    Ok(())
+}
+
+// The first pattern is one at which the host fails.
+#[test]
+fn a_host_that_fails_refuses_the_file(rt: HostRuntime) -> Result<(), Fail> {
+    let below = PackHost::new(rt.alloc())?;
+    let mut host = ListHost::new(rt.alloc(), below, vec![in rt.alloc(); 1]?);
+    let loaded = load_local(rt.alloc(), "r.json", &mut shelf(rt.alloc(), 0)?, &mut host);
+    let Err(Stop::Refused(line)) = loaded else {
+        return Err(Fail::new("not refused"));
+    };
+    let want = "{\"file\":\"r.json\",\"refused\":\"pattern-host\",\"place\":0,\"id\":7}\n";
+    assert!(rt; line.as_str() == want);
+    Ok(())
+}

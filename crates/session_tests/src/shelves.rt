@@ -1,0 +1,45 @@
+//! Files, words and hosts that the tests use.
+use dnr_base::NoMemory;
+use dnr_io::{MemoryFile, MemoryShelf};
+use std::alloc::Global;
+
+// Rules, a list, a suffix list, an extension of a folder and scripts.
+const FILES: &[(&str, &str)] = &[
+    (
+        "r.json",
+        r#"[{"id":7,"condition":{"regexFilter":"^http://a"},"action":{"type":"block"}}]"#,
+    ),
+    ("l.txt", "a.com##.ad\n||b.com^\n"),
+    ("psl.dat", "uk\nco.uk\n"),
+    (
+        "shop/manifest.json",
+        r#"{"declarative_net_request":{"rule_resources":[{"id":"s","enabled":false,"path":"s.json"}]}}"#,
+    ),
+    (
+        "shop/s.json",
+        r#"[{"id":5,"condition":{},"action":{"type":"block"}}]"#,
+    ),
+    (
+        "q.jsonl",
+        "{\"url\":\"http://a.com/\",\"type\":\"script\"}\n\n{\"url\":\"http://b.com/\",\"type\":\"script\"}\n",
+    ),
+];
+
+/// A shelf whose call of this number fails, from 1.
+pub fn shelf(alloc: Global, failing: u64) -> Result<MemoryShelf, NoMemory> {
+    let mut files = Vec::new(alloc);
+    for (name, text) in FILES {
+        let name = String::from_str(alloc, name)?;
+        files.push(MemoryFile::new(name, Vec::from_slice(alloc, text.as_bytes())?))?;
+    }
+    Ok(MemoryShelf::new(files, 4096, vec![in alloc; failing]?))
+}
+
+/// The words of a command.
+pub fn words(alloc: Global, command: &str) -> Result<Vec<String>, NoMemory> {
+    let mut words = Vec::new(alloc);
+    for word in command.split(' ') {
+        words.push(String::from_str(alloc, word)?)?;
+    }
+    Ok(words)
+}
