@@ -1,10 +1,9 @@
 -- A pattern of values byte for byte.
-use Rattle.std.proofs.Common.{◌≡◌, ℕ, suc, ◌+◌, ◌<◌, ◌≤◌, List, [], ◌∷◌, ◌++◌, length, drop, get_or, Bool, true, false, not, ◌&&◌, ◌==◌, refl, sym, ap, ◌∙◌, subst, arith, append_assoc}
+use Rattle.std.proofs.Common.{◌≡◌, ℕ, ◌≤◌, List, [], ◌∷◌, length, Bool, true, false, not, ◌&&◌, ◌==◌, refl, sym, ap, ◌∙◌, arith}
 use Rattle.std.specs.Prelude.{if◌then◌else◌, nat_le}
 use Rattle.std.specs.List.{list_all}
 use Rattle.std.specs.Char.{is_ascii}
 use Rattle.std.proofs.lemmas.Bool.{and_parts, leb-true, cond-true, cond-false, true≢false}
-use Rattle.std.proofs.lemmas.List.{drop_more}
 use Rattle.dnr_spec.specs.declared.piece.Piece.{Piece}
 use Rattle.dnr_spec.specs.declared.piece.Piece.TheVariants.{Byte}
 use Rattle.dnr_spec.specs.HeaderTests.{is_special, escapes_well, is_value_pattern, piece_of, pieces_from, pieces_of}

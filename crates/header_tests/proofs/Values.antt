@@ -1,5 +1,5 @@
 -- The values of the headers of a name, by the headers themselves.
-use Rattle.std.proofs.Common.{◌≡◌, ℕ, suc, ◌<◌, List, [], ◌∷◌, length, map, Bool, true, false, ◌&&◌, ◌||◌, refl, sym, ap, ◌∙◌, arith, lt-ltb, cond}
+use Rattle.std.proofs.Common.{◌≡◌, ℕ, List, [], ◌∷◌, length, map, Bool, true, false, ◌&&◌, ◌||◌, refl, sym, ap, arith, lt-ltb, cond}
 use Rattle.std.specs.Prelude.{filter, nat_lt, bytes_eq}
 use Rattle.std.specs.List.{list_any}
 use Rattle.dnr_base.specs.declared.header.Header.{Header}
