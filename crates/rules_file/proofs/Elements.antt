@@ -1,11 +1,11 @@
 -- The values of a text one after another: how a list goes on behind each.
-use Rattle.std.proofs.Common.{◌≡◌, ℕ, zero, suc, ◌-◌, ◌<◌, ◌≤◌, List, [], ◌∷◌, ◌++◌, length, Option, Some, None, option_map, option_and_then, refl, sym, ap, ◌∙◌, append-nil, arith}
+use Rattle.std.proofs.Common.{◌≡◌, ℕ, zero, suc, ◌-◌, ◌<◌, ◌≤◌, List, [], ◌∷◌, length, Option, Some, None, option_map, option_and_then, refl, ap, ◌∙◌, arith}
 use Rattle.json.specs.Token.{Token}
 use Rattle.json.specs.Json as json
 use Rattle.json.specs.Json.{parse_map, after_end_array, items_step, items, value, if_last}
 use Rattle.json.proofs.Grammar.{items_end, items_more, value-begin_array}
 use Rattle.serde_json.specs.Data.{Data, array, Items, item, no_items}
-use Rattle.serde_json.specs.Read.{of_json, of_items, converted, read}
+use Rattle.serde_json.specs.Read.{of_json, of_items, converted}
 use Rattle.rules_file.specs.Reading.{value_in, items_in, HasValue, HasItems, HasNoItems}
 
 -- the tree of the tokens of a whole text

@@ -1,22 +1,15 @@
 -- A rule is read of four members of its object, so an object with those reads as the whole.
-use Rattle.std.proofs.Common.{◌≡◌, ℕ, List, Bool, true, codes, length, bytes_eq, refl, Option, Some, None, Result, Ok, Err, sym, ap, ◌∙◌, subst}
-use Rattle.std.specs.Prelude.{is_none, unwrap_or, option_and_then, min}
+use Rattle.std.proofs.Common.{◌≡◌, ℕ, List, Bool, true, codes, refl, None, sym, ap, ◌∙◌, subst}
+use Rattle.std.specs.Prelude.{is_none, unwrap_or, option_and_then}
 use Rattle.std.specs.Result.{result_unwrap_or}
 use Rattle.std.specs.Borrow.{Bor}
-use Rattle.std.specs.List.{list_any}
 use Rattle.serde_json.specs.Data.{Data, null, boolean, number, string, array, object}
 use Rattle.serde_json.specs.Find.{get, as_object}
 use Rattle.rule_spec.specs.declared.rule_kind.RuleKind.{RuleKind}
-use Rattle.rule_spec.specs.declared.rule_refusal.RuleRefusal.{RuleRefusal}
-use Rattle.rule_spec.specs.declared.rule_refusal.RuleRefusal.TheVariants.{HostFault, NoMemory}
-use Rattle.rule_spec.specs.declared.placed_refusal.PlacedRefusal.{PlacedRefusal}
-use Rattle.rule_spec.specs.Rule.{Rule}
 use Rattle.json_spec.specs.RuleFields.{refusal_in, fields_in}
-use Rattle.json_spec.specs.ReadRule.{rule_in, numbers_in, as_id, has_id, condition_at, no_fields, last_place, IsAtPattern}
-use Rattle.json_spec.specs.MayRefuse.{MayRefuse}
+use Rattle.json_spec.specs.ReadRule.{rule_in, numbers_in, as_id, condition_at, no_fields, IsAtPattern}
 use Rattle.json_fields.specs.Chosen.{GivesThose}
-use Rattle.rule_read.specs.Reading.{StopsAt}
-use Rattle.rules_file.specs.Reading.{Next, ReadsAs, HasRuleKeys}
+use Rattle.rules_file.specs.Reading.{ReadsAs, HasRuleKeys}
 
 record IsAlike (e d : Data) : Type 0 where
   pub id : get (codes "id") e ≡ get (codes "id") d
@@ -69,15 +62,3 @@ reads_as names d e keys h =
         filters = subst (λ c. IsAtPattern (result_unwrap_or (fields_in c) no_fields)) condition at.filters;
       };
     }
-
-may_same : (a b : Result Rule RuleRefusal) (x y : Type 0) (cause : RuleRefusal) → a ≡ b → (x → y) → MayRefuse a x cause → MayRefuse b y cause
-may_same a b x y HostFault same on h = on h
-may_same a b x y NoMemory same on h = tt
-may_same a b x y cause same on h = sym same ∙ h
-
-pub next_same : (kind : RuleKind) (e d : Data) (rules more : List Rule) (rose : Type 0) (found : Option PlacedRefusal) → ReadsAs e d → Next kind e rules more rose found → Next kind d rules more rose found
-next_same kind e d rules more rose None same h = (h.0, sym (same.rule kind (has_id rules)) ∙ h.1, h.2)
-next_same kind e d rules more rose (Some refusal) same h = record {
-  placed = h.placed ∙ ap (λ id. record { place = min (length rules) last_place; id = id; cause = refusal.cause; set = None }) same.id;
-  cause = may_same _ _ _ _ refusal.cause (same.rule kind (has_id rules)) (λ at. (at.0, same.pattern (has_id rules) at.1)) h.cause;
-}

@@ -1,5 +1,5 @@
 -- Why a rules file gives no rules.
-use Rattle.std.specs.Prelude.{◌≡◌, ℕ, List, Ok, Err}
+use Rattle.std.specs.Prelude.{◌≡◌, ℕ, List, Err}
 use Rattle.rule_spec.specs.declared.placed_refusal.PlacedRefusal.{PlacedRefusal}
 use Rattle.rule_spec.specs.declared.rule_kind.RuleKind.{RuleKind}
 use Rattle.rule_spec.specs.declared.rule_refusal.RuleRefusal.{RuleRefusal}

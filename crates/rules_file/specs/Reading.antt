@@ -1,5 +1,5 @@
 -- What is read of the tokens of a file, item by item.
-use Rattle.std.specs.Prelude.{◌≡◌, ℕ, ◌≤◌, List, [], ◌++◌, ◌∷◌, length, codes, Bool, true, Vec, Option, Some, None, option_and_then, Result, Ok, Err}
+use Rattle.std.specs.Prelude.{◌≡◌, ℕ, ◌≤◌, List, length, codes, Bool, true, Vec, Option, Some, None, Result, Ok, Err}
 use Rattle.std.specs.declared.alloc.Global.{Global}
 use Rattle.std.specs.Borrow.{Bor}
 use Rattle.std.specs.List.{list_any}
@@ -15,7 +15,7 @@ use Rattle.json_fields.specs.declared.fields.Form.TheVariants.{Object, Other}
 use Rattle.rule_spec.specs.declared.rule_kind.RuleKind.{RuleKind}
 use Rattle.rule_spec.specs.declared.placed_refusal.PlacedRefusal.{PlacedRefusal}
 use Rattle.rule_spec.specs.Rule.{Rule}
-use Rattle.json_spec.specs.ReadRule.{read_items, rule_in, has_id, id_of, IsRuleAtPattern}
+use Rattle.json_spec.specs.ReadRule.{read_items, rule_in, id_of, IsRuleAtPattern}
 use Rattle.rule_read.specs.Reading.{MayStop, StopsAt, ReadsNext}
 
 -- the next value, and the tokens behind it. A list holds it, so it nests one less than a text may

@@ -1,7 +1,7 @@
-use Rattle.std.proofs.Common.{◌≡◌, None, arith}
+use Rattle.std.proofs.Common.{◌≡◌, None}
 use Rattle.json.specs.Json.{after_end_array}
 use Rattle.serde_json.specs.Data.{no_items}
-use Rattle.rules_file.proofs.Steps.{IsPassed, none_passed, one_passed, all_passed, not_passed}
+use Rattle.rules_file.proofs.Steps.{none_passed, one_passed, all_passed, not_passed}
 use Rattle.rules_file.proofs.list.pass_rest.Goals as goal
 
 pub items-init : goal.items-init

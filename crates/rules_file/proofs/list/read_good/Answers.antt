@@ -1,4 +1,4 @@
-use Rattle.std.proofs.Common.{◌≡◌, ◌≤◌, ◌<◌, length, Ok, None, sym, ap, subst, arith}
+use Rattle.std.proofs.Common.{◌≡◌, ◌<◌, length, Ok, None, sym, ap, subst, arith}
 use Rattle.json.specs.Json.{after_end_array}
 use Rattle.dnr_base.specs.Faults.{Rose}
 use Rattle.rules_file.proofs.Steps.{IsReadSoFar, read_begins, read_goes_on, read_ends, read_refuses, not_passed, rose_since}

@@ -1,4 +1,4 @@
-use Rattle.std.proofs.Common.{◌≡◌, List, [], ◌∷◌, ◌∙◌, sym, ap, subst}
+use Rattle.std.proofs.Common.{◌≡◌, [], ◌∷◌, ◌∙◌, sym, ap, subst}
 use Rattle.json.specs.Token.{Token}
 use Rattle.json.specs.Json.{value}
 use Rattle.serde_json.specs.Data.{array}
