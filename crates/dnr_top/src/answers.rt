@@ -18,8 +18,9 @@ use dnr_io::{Failed, Sink, write_all};
 use dnr_spec::NoMemory;
 use explain_report::{write_bad, write_fault, write_not_yet, write_verdict};
 use generation::{DecideRefusal, Generation, Verdict};
+use json::Scratch;
 use regex_host::RegexHost;
-use script_read::{Command, LineFault, read_line};
+use script_read::{Command, LineFault, read_line_with};
 use std::alloc::Global;
 use std::marker::Brand;
 use std::sync::ledger::{Blank, Ledger};
@@ -76,6 +77,7 @@ pub fn answer_lines<O: Sink, H: RegexHost>(
     ensures cause { HasCauseOf WriteRefusal.Failed (O.faults out.old) (O.faults out.new) result }
 {
     let mut text = String::new(alloc);
+    let mut scratch = Scratch::new(alloc);
     for (index, line) in lines.iter().enumerate() {
         answer(
             alloc,
@@ -83,6 +85,7 @@ pub fn answer_lines<O: Sink, H: RegexHost>(
             postpones,
             (index + 1) as u32,
             line,
+            &mut scratch,
             host,
             &mut text,
         )?;
@@ -115,6 +118,7 @@ fn answer<H: RegexHost>(
     postpones: bool,
     number: u32,
     line: &[u8],
+    scratch: &mut Scratch,
     host: &mut H,
     into: &mut String,
 ) -> Result<(), NoMemory>
@@ -124,7 +128,7 @@ fn answer<H: RegexHost>(
         (string_bytes into.old) (string_bytes into.new)) }
     ensures later { HasNotFallen (H.faults host.old) (H.faults host.new) }
 {
-    match read_line(alloc, number, line) {
+    match read_line_with(alloc, number, line, scratch) {
         Ok(Command::Blank) => Ok(()),
         Ok(Command::Request(request)) => {
             answer_request(alloc, generation, postpones, number, &request, host, into)
