@@ -34,6 +34,8 @@ pub(crate) fn rule_of(
         not_hosts: DomainSet::empty(),
         tabs: None,
         not_tabs: Items::build(Vec::new(alloc)),
+        header_tests: None,
+        not_header_tests: Items::build(Vec::new(alloc)),
     };
     let rare = rare.boxed(alloc)?;
     Ok(Rule::build(RuleParts {

@@ -114,10 +114,12 @@ pub(crate) fn has_response(
 ) -> bool
     ensures { result ≡ spec.has_response (option_copied tests.entry) (option_copied headers.entry) }
 {
-    match (tests, headers) {
-        (None, _) => true,
-        (Some(_), None) => false,
-        (Some(tests), Some(headers)) => some_holds(tests.as_slice(), headers.as_slice()),
+    let Some(tests) = tests else {
+        return true;
+    };
+    match headers {
+        None => false,
+        Some(headers) => some_holds(tests.as_slice(), headers.as_slice()),
     }
 }
 

@@ -12,25 +12,23 @@ fn text(alloc: Global, text: &str) -> Option<Text> {
 fn sets(alloc: Global, count: usize, enabled: usize) -> Option<Vec<RuleSet>> {
     let mut sets = Vec::new(alloc);
     for place in 0..count {
-        let set = RuleSet::build(
-            text(alloc, "rules")?,
-            place < enabled,
-            Vec::new(alloc),
-            Vec::new(alloc),
-            Vec::new(alloc),
-        );
+        let set = RuleSet {
+            id: text(alloc, "rules")?,
+            enabled: place < enabled,
+            rules: Items::build(Vec::new(alloc)),
+            origins: Items::build(Vec::new(alloc)),
+        };
         sets.push(set).ok()?;
     }
     Some(sets)
 }
 
 fn extension(alloc: Global, name: &str, count: usize, enabled: usize) -> Option<Extension> {
-    Some(Extension::build(
-        text(alloc, name)?,
-        sets(alloc, count, enabled)?,
-        Vec::new(alloc),
-        Vec::new(alloc),
-    ))
+    Some(Extension {
+        name: text(alloc, name)?,
+        sets: Items::build(sets(alloc, count, enabled)?),
+        access: None,
+    })
 }
 
 // A store with this many extensions, the names of which are numbers.
@@ -110,19 +108,20 @@ fn the_newest_stands_last(rt: HostRuntime) -> Result<(), Fail> {
 #[test]
 fn a_copy_has_equal_parts(rt: HostRuntime) -> Result<(), Fail> {
     let alloc = rt.alloc();
-    let set = RuleSet::build(
-        text(alloc, "rules").ok_or("memory")?,
-        true,
-        Vec::new(alloc),
-        vec![in alloc;
+    let set = RuleSet {
+        id: text(alloc, "rules").ok_or("memory")?,
+        enabled: true,
+        rules: Items::build(Vec::new(alloc)),
+        origins: Items::build(vec![in alloc;
             Items::build(vec![in alloc; 1, 2]?),
             Items::build(Vec::new(alloc)),
-        ]?,
-        vec![in alloc; 7]?,
-    );
-    let name = text(alloc, "shop").ok_or("memory")?;
-    let sets = vec![in alloc; set]?;
-    let extension = Extension::build(name, sets, Vec::new(alloc), Vec::new(alloc));
+        ]?),
+    };
+    let extension = Extension {
+        name: text(alloc, "shop").ok_or("memory")?,
+        sets: Items::build(vec![in alloc; set]?),
+        access: Some(Items::build(Vec::new(alloc))),
+    };
     let copy = extension.copy(alloc).ok().ok_or("memory")?;
     let copy = format!(in alloc; "{copy:?}")?;
     assert_eq!(rt; copy, format!(in alloc; "{extension:?}")?);
