@@ -56,12 +56,7 @@ fn greater(a: u32, b: u32) -> u32
 
 impl<'a> Kept<'a> {
     // What is kept of the extension, which has this age and access to the request or not, before its first rule.
-    pub(crate) fn new(
-        alloc: Global,
-        extension: &'a Installed,
-        age: u32,
-        access: bool,
-    ) -> Kept<'a>
+    pub(crate) fn new(alloc: Global, extension: &'a Installed, age: u32, access: bool) -> Kept<'a>
         ensures { result ≡ spec.nothing_of extension.now.name age access }
     {
         Kept {

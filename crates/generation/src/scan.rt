@@ -97,7 +97,14 @@ impl<'r> Scan<'r> {
         if self.prepared.reaches(rule, host, steps)?.is_none() {
             return Ok(false);
         }
-        may_act(self.alloc, extension, access, rule, &self.request.view, host)
+        may_act(
+            self.alloc,
+            extension,
+            access,
+            rule,
+            &self.request.view,
+            host,
+        )
     }
 
     // Takes the rule at a place of a block in, if it is in force and a candidate.

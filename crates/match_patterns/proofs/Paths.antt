@@ -148,14 +148,14 @@ pub found_first : (piece behind text : List ℕ) (place : ℕ) → IsPlain piece
 found_first piece behind text place h found =
     let left : List ℕ = drop (place + length piece) text in
     let split : text ≡ take place text ++ (piece ++ left) =
-        sym (take-append-drop place text) ∙ ap (λ t. take place text ++ t) (OccursAt-split text piece place found.1) in
+    sym (take-append-drop place text) ∙ ap (λ t. take place text ++ t) (OccursAt-split text piece place found.1) in
     both (some_end (fits (piece ++ 42 ∷ behind)) text) (some_end (fits behind) left)
     (λ yes.
     let some = found_of piece behind text h yes in
     let early : place ≤ length some.0 = ⊎_elim
-        (λ (before : length some.0 < place). absurd (found.0.before (length some.0) (omega arith) before (occurs text some.0 piece some.1 some.2)))
-        (λ (later : place ≤ length some.0). later)
-        (cases_lt (length some.0) place) in
+    (λ (before : length some.0 < place). absurd (found.0.before (length some.0) (omega arith) before (occurs text some.0 piece some.1 some.2)))
+    (λ (later : place ≤ length some.0). later)
+    (cases_lt (length some.0) place) in
     ap (some_end (fits behind)) (left_later text some.0 piece some.1 place some.2 early)
     ∙ end_behind (fits behind) (take (length some.0 - place) left) some.1 some.3)
     (λ yes.

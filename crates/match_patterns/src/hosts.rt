@@ -67,7 +67,8 @@ fn is_subdomain(domain: &[u8], host: &[u8]) -> bool
 fn is_covered(domain: &[u8], host: &str) -> bool
     ensures { result ≡ domains.covers (lower_case domain.now) host.now }
 {
-    is_lowered(domain, host.as_bytes()) || (!is_ip_host(host) && is_subdomain(domain, host.as_bytes()))
+    is_lowered(domain, host.as_bytes())
+        || (!is_ip_host(host) && is_subdomain(domain, host.as_bytes()))
 }
 
 // Whether the host of a pattern covers a host.

@@ -66,7 +66,8 @@ impl MatchPattern {
     pub fn covers(&self, host: &str) -> bool
         ensures { result ≡ spec.match_covers self.now host.now }
     {
-        self.is_all_urls() || (self.has_parts && covers_host(parts_of(self.text.as_bytes()).host, host))
+        self.is_all_urls()
+            || (self.has_parts && covers_host(parts_of(self.text.as_bytes()).host, host))
     }
 
     /// An equal pattern.

@@ -33,9 +33,9 @@ impl<H: RegexHost> ListHost<H> {
     pub fn new(alloc: Global, below: H, failing: Vec<u64>) -> ListHost<H>
         ensures faults { ⟦<ListHost<H> as RegexHost>⟧.faults result ≡ both_counts (H.faults below) 0 }
         ensures value { result ≡ record {
-            below = below;
-            plan = record { failing = failing.items; calls = 0; faults = 0 };
-            asked = [];
+          below = below;
+          plan = record { failing = failing.items; calls = 0; faults = 0 };
+          asked = [];
         } }
     {
         ListHost {

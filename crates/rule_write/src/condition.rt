@@ -241,5 +241,10 @@ fn put_tests(
     let tests = given_tests(alloc, condition.header_tests())?;
     put(alloc, members, "responseHeaders", tests)?;
     let excluded = test_values(alloc, condition.not_header_tests())?;
-    put(alloc, members, "excludedResponseHeaders", unless_empty(excluded))
+    put(
+        alloc,
+        members,
+        "excludedResponseHeaders",
+        unless_empty(excluded),
+    )
 }

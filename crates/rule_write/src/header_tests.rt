@@ -41,7 +41,12 @@ fn test_value(alloc: Global, test: &HeaderTest) -> Result<Value, NoMemory>
     let values = given_patterns(alloc, &test.values)?;
     put(alloc, &mut members, "values", values)?;
     let excluded = pattern_values(alloc, test.excluded.as_slice())?;
-    put(alloc, &mut members, "excludedValues", unless_empty(excluded))?;
+    put(
+        alloc,
+        &mut members,
+        "excludedValues",
+        unless_empty(excluded),
+    )?;
     Ok(Value::Object(members))
 }
 

@@ -9,8 +9,8 @@ ghost use Rattle.ruleset_store.specs.Update.{Answers};
 use crate::counts::{count_enabled, count_enabled_patterns, count_rules, drawn, drawn_by, sum};
 use crate::{Installed, Store};
 use dnr_base::Text;
-use update_spec::Refusal;
 use std::alloc::Global;
+use update_spec::Refusal;
 
 const MAX_EXTENSIONS: usize = 16;
 

@@ -129,8 +129,8 @@ impl Store {
     fn copy_with(&self, alloc: Global, extension: Installed) -> Result<Store, NoMemory>
         requires { self.now.count < max_updates }
         ensures { IfOk result (λ store. store ≡ record {
-            extensions = self.now.extensions ++ extension ∷ [];
-            count = self.now.count + 1;
+          extensions = self.now.extensions ++ extension ∷ [];
+          count = self.now.count + 1;
         }) }
     {
         let mut extensions = copies(alloc, self.extensions())?;

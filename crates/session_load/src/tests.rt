@@ -132,7 +132,12 @@ fn extensions_and_lists_stand_in_the_order_of_the_words(rt: HostRuntime) -> Resu
     );
     let shop = extensions.last().ok_or("no extension")?;
     assert!(rt; shop.name.as_str() == "shop" && shop.sets.as_slice().len() == 1);
-    assert!(rt; shop.sets.as_slice().iter().all(|set| is_set(set, "s", false, &[5])));
+    assert!(rt;
+        shop.sets
+            .as_slice()
+            .iter()
+            .all(|set| is_set(set, "s", false, &[5]))
+    );
     Ok(())
 }
 
