@@ -1,8 +1,8 @@
 -- A rule that shares a key with a part is found for it.
-use Rattle.std.proofs.Common.{◌≡◌, ℕ, zero, suc, ◌+◌, ◌<◌, List, [], ◌∷◌, ◌++◌, length, map, get_or, Bool, true, false, not, cond, ◌&&◌, ◌||◌, ◌==◌, Option, Some, None, inl, inr, refl, sym, ap, ◌∙◌, subst, arith}
+use Rattle.std.proofs.Common.{◌≡◌, ℕ, zero, suc, ◌+◌, ◌<◌, List, [], ◌∷◌, ◌++◌, length, map, get_or, Bool, true, false, cond, ◌&&◌, ◌||◌, ◌==◌, Option, Some, None, inl, inr, refl, sym, ap, ◌∙◌, subst, arith}
 use Rattle.std.specs.List.{list_any, flat_map, cons_option}
 use Rattle.std.specs.Str.{bytes_eq}
-use Rattle.std.proofs.lemmas.Bool.{and_parts, or_cases, or_left, or_right, cases_Bool, false≢true}
+use Rattle.std.proofs.lemmas.Bool.{or_cases, or_left, or_right, cases_Bool, false≢true}
 use Rattle.std.proofs.lemmas.Bool.Decides.{nat_tests}
 use Rattle.std.proofs.lemmas.List.Folds.{list_any-append}
 use Rattle.std.proofs.lemmas.List.Sorted.{list_any-IsPermutation}
@@ -15,7 +15,6 @@ use Rattle.index_spec.specs.Words.{words_of}
 use Rattle.index_spec.specs.declared.key.Key.{Key}
 use Rattle.index_spec.specs.declared.key.Key.TheVariants.{Host, Token, Initiator, All}
 use Rattle.index_spec.specs.Keys.{same_key, has_key, keys_by_initiators, keys_by_token, keys_by_hosts, domains_over, domains_over_some, keys_of_part}
-use Rattle.index_laws.specs.Shared.{share_a_key}
 use Rattle.index_laws.proofs.Sharing.{rules_share_a_key}
 use Rattle.key_table.specs.Pairs.{Pair, near_if, near_of}
 use Rattle.key_walk.specs.Met.{is_met, places_behind, sharing_text}
