@@ -28,8 +28,6 @@ mod rule_name;
 mod scheme;
 mod span;
 mod steps;
-#[cfg(test)]
-mod tests;
 mod text;
 mod transform;
 mod verb;

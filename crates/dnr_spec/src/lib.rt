@@ -14,8 +14,6 @@ mod piece;
 mod status;
 mod substitution_refusal;
 mod suffix_refusal;
-#[cfg(test)]
-mod tests;
 mod value_refusal;
 mod view_refusal;
 

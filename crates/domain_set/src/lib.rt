@@ -6,8 +6,6 @@
 mod domain;
 mod set;
 mod table;
-#[cfg(test)]
-mod tests;
 
 pub use dnr_spec::DomainRefusal;
 pub use domain::is_domain;

@@ -10,8 +10,6 @@ mod laws;
 mod planning;
 mod standing;
 mod table;
-#[cfg(test)]
-mod tests;
 mod words;
 
 pub use dnr_base::{Direction, Header, NoMemory, Offered, Operation};

@@ -8,8 +8,6 @@ ghost use Rattle.std.specs.Option.{option_copied};
 ghost use Rattle.dnr_spec.specs.Party as spec;
 ghost use Rattle.dnr_spec.specs.Suffixes.{registrable};
 
-#[cfg(test)]
-mod tests;
 
 pub use suffix_list::SuffixList;
 

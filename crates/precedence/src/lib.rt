@@ -6,8 +6,6 @@
 
 mod laws;
 mod order;
-#[cfg(test)]
-mod tests;
 mod winners;
 
 pub use dnr_base::{Candidate, Rank, Verb, Winner};

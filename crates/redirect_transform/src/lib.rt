@@ -12,8 +12,6 @@ mod parts;
 mod piece;
 mod query;
 mod targets;
-#[cfg(test)]
-mod tests;
 
 pub use dnr_base::{
     NoMemory, QueryPair, QueryTransform, Redirect, Scheme, Span, Text, Transform, View,

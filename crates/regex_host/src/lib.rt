@@ -11,8 +11,6 @@ mod host;
 mod list_host;
 mod pack_host;
 mod substitution;
-#[cfg(test)]
-mod tests;
 
 pub use dnr_base::{NoMemory, Span};
 pub use dnr_spec::SubstitutionRefusal;

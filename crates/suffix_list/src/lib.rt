@@ -11,8 +11,6 @@ mod read;
 mod rule;
 mod table;
 mod tables;
-#[cfg(test)]
-mod tests;
 
 pub use dnr_spec::{NoMemory, SuffixRefusal};
 pub use list::SuffixList;

@@ -9,8 +9,6 @@ mod anchor;
 mod pattern;
 mod places;
 mod sought;
-#[cfg(test)]
-mod tests;
 mod walks;
 
 pub use dnr_spec::{NoMemory, PatternRefusal, Span};

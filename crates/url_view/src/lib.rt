@@ -6,8 +6,6 @@
 
 mod hosts;
 mod parsing;
-#[cfg(test)]
-mod tests;
 
 pub use dnr_base::View;
 pub use dnr_spec::ViewRefusal;
