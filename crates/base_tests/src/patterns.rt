@@ -1,5 +1,5 @@
 //! Pattern hosts and their faults, substitutions, and where redirects lead.
-use dnr_base::{Copied, Redirect, Span, Text};
+use dnr_base::{Copied, NoMemory, Redirect, Span, Text};
 use dnr_spec::SubstitutionRefusal;
 use redirect_transform::{target, upgraded};
 use regex_host::{HostRefusal, ListHost, PackHost, RegexHost, Substitution};
@@ -85,5 +85,23 @@ fn a_page_of_an_extension_is_a_target(rt: HostRuntime) -> Result<(), Fail> {
     assert!(rt; to.as_str() == "chrome-extension://abc/x.html?y");
     let to = upgraded(rt.alloc(), &view)?.ok_or("no upgrade")?;
     assert!(rt; to.as_str() == "https://a.com/");
+    Ok(())
+}
+
+// A text of the most bytes that a URL may have, of one letter.
+fn longest_text(alloc: Global) -> Result<String, NoMemory> {
+    let mut text = String::new(alloc);
+    for _ in 0..65_536 {
+        text.push('a')?;
+    }
+    Ok(text)
+}
+
+#[test]
+fn a_text_at_the_limit_is_searched(rt: HostRuntime) -> Result<(), Fail> {
+    let mut host = PackHost::new(rt.alloc())?;
+    let text = longest_text(rt.alloc())?;
+    assert!(rt; host.find("b", false, text.as_str(), &mut NOWHERE) == Ok(false));
+    assert!(rt; host.faults() == 0);
     Ok(())
 }
