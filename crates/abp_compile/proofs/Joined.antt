@@ -89,6 +89,7 @@ others_begun first one groups =
     taken : alike_to first one ≡ true → (b : Bool) → filter (λ group. not (alike_to first group.first)) (begun one b) ≡ []
     taken so true = refl
     taken so false = ap (λ b. cond (not b) (record { first = one; others = [] } ∷ []) []) so
+
     kept : alike_to first one ≡ false → (b : Bool) → filter (λ group. not (alike_to first group.first)) (begun one b) ≡ begun one b
     kept apart_so true = refl
     kept apart_so false = ap (λ b. cond (not b) (record { first = one; others = [] } ∷ []) []) apart_so
@@ -138,7 +139,6 @@ told_is : (one : Placed) (group : Group) → told_of (joined one group) ≡ told
 told_is one group = by (alike_to group.first one)
   where
     by : (b : Bool) → told_of (joined_with b one group) ≡ told_joined_with b one (told_of group)
-
     by true = λ i. record { filter = group.first.filter; lines = map_snoc (group.first ∷ group.others) one i; domains = domains_snoc (group.first ∷ group.others) one i }
     by false = refl
 
@@ -190,7 +190,7 @@ unlike_groups : (all : List Placed) → UnlikeGroups (groups_of all)
 unlike_groups [] = tt
 unlike_groups (first ∷ rest) = (
   each_weaker (λ (g : Group). not (alike_to first g.first) ≡ true) (λ (g : Group). alike_to first g.first ≡ false) (λ g h. not-true (alike_to first g.first) h)
-  (filter (λ g. not (alike_to first g.first)) (groups_of rest)) (each_passed (λ g. not (alike_to first g.first)) (groups_of rest)),
+      (filter (λ g. not (alike_to first g.first)) (groups_of rest)) (each_passed (λ g. not (alike_to first g.first)) (groups_of rest)),
   unlike_filtered (λ g. not (alike_to first g.first)) (groups_of rest) (unlike_groups rest),
 )
 

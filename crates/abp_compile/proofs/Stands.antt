@@ -69,10 +69,9 @@ pub next_drafts : (all left : List code.Group) (group : code.Group) (before now 
     → Gains (drafts_of standing) before now → ((held : List Draft) × HasDrafts before held × (held ++ flat_map (λ g. drafts_of (standing_told g)) (reverse all) ≡ whole))
     → (held : List Draft) × HasDrafts now held × (held ++ flat_map (λ g. drafts_of (standing_told g)) (reverse left) ≡ whole)
 next_drafts all left group before now standing whole e is gains held =
-    let rest = flat_map (λ (g : code.Group). drafts_of (standing_told g)) (reverse left) in
-    (
+    let rest = flat_map (λ (g : code.Group). drafts_of (standing_told g)) (reverse left) in (
       held.0 ++ drafts_of standing,
       gains held.0 held.1,
       append_assoc held.0 (drafts_of standing) rest ∙ ap (λ s. held.0 ++ (drafts_of s ++ rest)) is
-      ∙ sym (ap (λ (l : List code.Group). held.0 ++ flat_map (λ (g : code.Group). drafts_of (standing_told g)) l) (popped all left group e)) ∙ held.2,
+          ∙ sym (ap (λ (l : List code.Group). held.0 ++ flat_map (λ (g : code.Group). drafts_of (standing_told g)) l) (popped all left group e)) ∙ held.2,
     )

@@ -75,8 +75,10 @@ same_for one other a b same initiator = by initiator
   where
     to : (entry : DomainEntry) → In entry one → In entry other
     to entry i = among one other a b same entry i
+
     back : (entry : DomainEntry) → In entry other → In entry one
     back entry i = among other one b a (sym same) entry i
+
     by : (initiator : Option (List ℕ)) → is_for one initiator ≡ is_for other initiator
     by None = all_same one other to back (λ e. e.excluded)
     by (Some host) =

@@ -169,6 +169,7 @@ address_byte host k h some less =
     get_or-take (suc n) i [] less = refl
     get_or-take (suc n) zero (x ∷ xs) less = refl
     get_or-take (suc n) (suc i) (x ∷ xs) less = get_or-take n i xs (omega arith)
+
     get_or-drop : (n i : ℕ) (xs : List ℕ) → get_or (drop n xs) i 0 ≡ get_or xs (n + i) 0
     get_or-drop n i xs = sym (get_or_past n i xs)
       where
@@ -179,6 +180,7 @@ address_byte host k h some less =
           where
             suc_plus : (n i : ℕ) → suc n + i ≡ suc (n + i)
             suc_plus n i = omega arith
+
     length_inner : (host : List ℕ) (k : ℕ) → 0 < k → k < length host - 1 → k - 1 < length (slice_range host 1 (length host - 1))
     length_inner host k some less = omega (arith, length-take (length host - 1 - 1) (drop 1 host), length-drop 1 host)
 
@@ -302,7 +304,6 @@ module _ (front host behind name : List ℕ) (span : Span) (shown : IsShown fron
       same_truth (fits_from domain false fold body text span) (covers name host) (λ h. is_covered name host (fits_covered shown.named h)) (λ h. covered_fits (reads_covers name host h))
 
 -- ---- views
-
 
 no_end_anchor : (name : List ℕ) → has_end_anchor (name ++ codes "^") ≡ false
 no_end_anchor name =

@@ -168,8 +168,7 @@ rule_there lines suffixes request place filter view is fits =
     let Fits : CompiledRule → Type 0 = λ one. Contains one.lines (suc place) × (holds suffixes one.rule part ≡ true) in
     let Ready : Draft → Type 0 = λ draft. Contains draft.standing.lines (suc place) × (holds_on suffixes (condition_for draft.standing (kinds_for draft.standing.filter draft.effect) draft.initiators) part ≡ true) in
     let number : 1 + place ≡ suc place = omega arith in
-    let drafts = draft_from Ready lines group effect some.0 g.1 (on_its_types stood.filter request.kind stood.filter.exception refl kinds) some.1
-    (
+    let drafts = draft_from Ready lines group effect some.0 g.1 (on_its_types stood.filter request.kind stood.filter.exception refl kinds) some.1 (
       subst (λ (n : ℕ). Contains stood.lines n) number (has_line group stood.lines placed refl g.2),
       ap (λ (kinds : List Kind). holds_on suffixes (condition_for stood kinds some.0) part) (own_kinds stood.filter stood.filter.exception) ∙ some.2,
     ) in
