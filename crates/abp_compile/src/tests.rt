@@ -49,6 +49,10 @@ fn push_rule(
     if condition.case_sensitive() {
         told.push_str(" case")?;
     }
+    if let Some(domains) = condition.hosts() {
+        told.push_str(" at")?;
+        push_domains(told, domains.entries())?;
+    }
     if let Some(domains) = condition.initiators() {
         told.push_str(" for")?;
         push_domains(told, domains.entries())?;
@@ -119,7 +123,8 @@ x$domain=b.com|~c.b.com|a.com|B.com -> 1.1 block x for b.com a.com but c.b.com @
 ||a.com^$image,~image -> 
 x$script=1 -> 1 value, 
 /(/ -> 1 regex, 
-@@||a.com^$document,script;||B.com^$match-case -> 1.2 allow ||a.com^ but @1, 2.3 exempt ||a.com^ but @1, 3.1 block ||B.com^ case but @2, ";
+@@||a.com^$document,script;||B.com^$match-case -> 1.2 allow ||a.com^ but @1, 2.3 exempt ||a.com^ but @1, 3.1 block ||B.com^ case but @2, 
+||b.org^;x;||a.com^$match-case;||1.2^;||b.org^$~image -> 1.1 block at a.com b.org but @1 @3, 2.1 block x but @2, 3.1 block ||1.2^ but @4, 4.1 block ||b.org^ but @5, ";
     for row in rows.lines() {
         let (list, expected) = row.split_once(" -> ").ok_or("no row")?;
         let outcome = outcome(rt.alloc(), list, 0)?;

@@ -153,10 +153,10 @@ bytes_of_labels (b ∷ text) h =
     and_from (is_name_byte b) (list_all is_name_byte text) (or_left (is_label_byte b) (b == 46) rest.0) (bytes_of_labels text rest.1))
     (true_or_false (b == 46))
 
-name_bytes : (text : List ℕ) → is_name text ≡ true → list_all is_name_byte text ≡ true
+pub name_bytes : (text : List ℕ) → is_name text ≡ true → list_all is_name_byte text ≡ true
 name_bytes text h = bytes_of_labels text (label_bytes (labels_of text) h)
 
-all_at : (test : ℕ → Bool) (text : List ℕ) (k : ℕ) → k < length text → list_all test text ≡ true → test (get_or text k 0) ≡ true
+pub all_at : (test : ℕ → Bool) (text : List ℕ) (k : ℕ) → k < length text → list_all test text ≡ true → test (get_or text k 0) ≡ true
 all_at test [] k less h = absurd (omega arith)
 all_at test (b ∷ text) zero less h = (and_parts (test b) (list_all test text) h).0
 all_at test (b ∷ text) (suc k) less h = all_at test text k (omega arith) (and_parts (test b) (list_all test text) h).1
@@ -180,7 +180,7 @@ pub record IsAddress (text : List ℕ) : Type 0 where
   pub last : get_or text (length text - 1) 0 ≡ 93
   pub inner : list_all is_address_byte (slice_range text 1 (length text - 1)) ≡ true
 
-address_parts : (text : List ℕ) → is_address text ≡ true → IsAddress text
+pub address_parts : (text : List ℕ) → is_address text ≡ true → IsAddress text
 address_parts text h =
     let a = and_parts (nat_le 2 (length text) && slice_index text 0 == 91 && slice_index text (length text - 1) == 93) (list_all is_address_byte (slice_range text 1 (length text - 1))) h in
     let b = and_parts (nat_le 2 (length text) && slice_index text 0 == 91) (slice_index text (length text - 1) == 93) a.0 in

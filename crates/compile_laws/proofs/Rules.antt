@@ -168,7 +168,7 @@ hosts_lower : (placed : List Placed) → AllByRecursion IsLowerDomain (filter_ma
 hosts_lower [] = tt
 hosts_lower (one ∷ others) = host_lower one.filter.pattern (plain_domain one.filter.pattern) _ refl (hosts_lower others)
 
-stands_supported : (first : Placed) (others : List Placed) → IsSupported first.filter → IsSupported (standing_with first others).filter
+pub stands_supported : (first : Placed) (others : List Placed) → IsSupported first.filter → IsSupported (standing_with first others).filter
 stands_supported first [] is = is
 stands_supported first (other ∷ others) is = record { entries = is.entries; pattern = record { url = tt; regex = tt } }
 

@@ -1,0 +1,5 @@
+use Rattle.compile_laws.proofs.Origins as proof
+use Rattle.compile_laws.proofs.rules_do_as_their_lines.Goals as goal
+
+pub returns : goal.returns
+returns c = proof.rules_do_as_their_lines
