@@ -11,8 +11,6 @@ mod hiding;
 mod line;
 mod options;
 mod place;
-#[cfg(test)]
-mod tests;
 mod text;
 
 pub use dnr_base::{Items, KindSet, NoMemory, Text};

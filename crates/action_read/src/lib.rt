@@ -7,8 +7,6 @@
 mod action;
 mod headers;
 mod redirects;
-#[cfg(test)]
-mod tests;
 mod transforms;
 
 pub use action::read_action;

@@ -8,8 +8,6 @@ mod condition;
 mod parts;
 mod rest;
 mod rule;
-#[cfg(test)]
-mod tests;
 
 pub use action::{Action, HeaderOps};
 pub use condition::Condition;

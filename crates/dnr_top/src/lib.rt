@@ -7,7 +7,5 @@ mod compiling;
 mod ending;
 mod postponed;
 mod session;
-#[cfg(test)]
-mod tests;
 
 pub use commands::run;

@@ -8,8 +8,6 @@ mod names;
 mod options;
 mod serving;
 mod task;
-#[cfg(test)]
-mod tests;
 
 pub use options::Installed;
 pub use serving::Serving;

@@ -12,8 +12,6 @@ mod lists;
 mod names;
 mod report;
 mod rules;
-#[cfg(test)]
-mod tests;
 mod verdict;
 
 pub use bad::{write_bad, write_not_yet};

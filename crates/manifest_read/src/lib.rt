@@ -10,8 +10,6 @@ mod manifest;
 mod path;
 mod refusal;
 mod resource;
-#[cfg(test)]
-mod tests;
 
 pub use extension::read_extension;
 pub use load_spec::ManifestPath;

@@ -10,5 +10,3 @@ mod response_tests;
 pub use fields::{Fields, read_fields};
 pub use response_tests::TestFields;
 
-#[cfg(test)]
-mod tests;

@@ -1,4 +1,3 @@
 pub mod PatternLast
 pub mod FrameSteps
 pub mod ThirdFrames
-pub mod Tested

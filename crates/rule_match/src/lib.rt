@@ -11,8 +11,6 @@ mod prepared_part;
 mod prepared_request;
 mod refusal;
 mod single;
-#[cfg(test)]
-mod tests;
 
 pub use prepared_part::PreparedPart;
 pub use prepared_request::PreparedRequest;

@@ -7,8 +7,6 @@ mod conditions;
 mod frames;
 mod numbers;
 mod rules;
-#[cfg(test)]
-mod tests;
 
 pub use dnr_rules::Rule;
 pub use rule_spec::{HeaderCause, PlacedRefusal, RuleKind, RulePath, RuleRefusal};

@@ -1,4 +1,3 @@
 pub mod Inserted
 pub mod Plain
-pub mod Tested
 pub mod Texts

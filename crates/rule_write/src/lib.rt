@@ -9,8 +9,6 @@ mod fields;
 mod header_tests;
 mod rules;
 mod sets;
-#[cfg(test)]
-mod tests;
 
 pub use dnr_base::NoMemory;
 pub use dnr_rules::Rule;

@@ -12,8 +12,6 @@ mod installed_set;
 mod judging;
 mod rule_set;
 mod store;
-#[cfg(test)]
-mod tests;
 mod update;
 
 pub use dnr_base::{Items, NoMemory, Text};

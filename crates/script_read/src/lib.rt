@@ -8,8 +8,6 @@ mod fields;
 mod frames;
 mod headers;
 mod reading;
-#[cfg(test)]
-mod tests;
 
 pub use command::Command;
 pub use json_spec::{CommandPath, LineFault};

@@ -12,8 +12,6 @@ mod rules;
 mod serving;
 mod stop;
 mod suffixes;
-#[cfg(test)]
-mod tests;
 
 pub use lists::{CompiledList, load_list};
 pub use loaded::Loaded;
