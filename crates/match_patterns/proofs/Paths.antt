@@ -1,8 +1,8 @@
 -- Paths with stars: why the first place at which what stands between two stars is found is as good as any other.
-use Rattle.std.proofs.Common.{◌≡◌, ◌≢◌, ◌⊎◌, ⊎_elim, ℕ, suc, ◌+◌, ◌-◌, ◌<◌, ◌≤◌, List, [], ◌∷◌, ◌++◌, length, map, take, drop, Bool, true, false, ◌&&◌, ◌||◌, ◌==◌, Option, Some, None, refl, sym, ap, ◌∙◌, subst, arith, append-nil, append_assoc, length-append, length-drop, take-append-drop, ne_eqb, eq-eqb}
-use Rattle.std.specs.Prelude.{nat_le, Bor}
+use Rattle.std.proofs.Common.{◌≡◌, ◌≢◌, ⊎_elim, ℕ, suc, ◌+◌, ◌-◌, ◌<◌, ◌≤◌, List, [], ◌∷◌, ◌++◌, length, map, take, drop, Bool, true, false, ◌&&◌, ◌||◌, ◌==◌, Some, None, refl, sym, ap, ◌∙◌, arith, append-nil, length-append, take-append-drop, ne_eqb, eq-eqb}
+use Rattle.std.specs.Prelude.{nat_le}
 use Rattle.std.specs.Str.{bytes_eq}
-use Rattle.std.proofs.lemmas.Bool.{and_from, and_parts, cases_Bool, cases_lt, cond-false, eqb-true, le-leb, leb-true, true≢false}
+use Rattle.std.proofs.lemmas.Bool.{and_from, and_parts, cases_Bool, cases_lt, cond-false, eqb-true, le-leb, true≢false}
 use Rattle.std.proofs.lemmas.Slice.Eq.{bytes_eq-Decides}
 use Rattle.std.proofs.lemmas.List.{drop-drop}
 use Rattle.std.proofs.Math.Seq.{drop-append_seam, take-append_seam, drop-append-add}
@@ -12,7 +12,7 @@ use Rattle.dnr_spec.specs.declared.piece.Piece.TheVariants.{AnyBytes, Byte}
 use Rattle.dnr_spec.specs.UrlFilter.{some_end, at_byte, is_nothing}
 use Rattle.dnr_spec.specs.Wildcards.{takes}
 use Rattle.dnr_spec.specs.MatchPatterns.{path_piece}
-use Rattle.match_patterns.specs.Stars.{IsPlain, IsSplit, is_end}
+use Rattle.match_patterns.specs.Stars.{IsPlain, is_end}
 
 -- the path fits the whole text
 abbrev pub fits : List ℕ → List ℕ → Bool
@@ -24,7 +24,7 @@ both true b to from = sym (to refl)
 both false true to from = from refl
 both false false to from = refl
 
-never : (a : Bool) → ¬ (a ≡ true) → a ≡ false
+pub never : (a : Bool) → ¬ (a ≡ true) → a ≡ false
 never true h = absurd (h refl)
 never false h = refl
 
@@ -187,3 +187,20 @@ last_is piece text h =
     let front : List ℕ = take (length text - length piece) text in
     let is : text ≡ front ++ piece = sym (take-append-drop (length text - length piece) text) ∙ ap (λ t. front ++ t) (sym end) in
     ap (some_end (fits piece)) is ∙ end_behind (fits piece) front piece (whole_end (fits piece) piece (plain_fits piece h)))
+
+-- ---- a path that begins with a piece and a star
+
+-- the text begins with the piece
+pub strips : (path piece behind text rest : List ℕ) → IsPlain piece → path ≡ piece ++ 42 ∷ behind → bytes_eq (take (length piece) text) piece ≡ true → rest ≡ drop (length piece) text
+    → fits path text ≡ some_end (fits behind) rest
+strips path piece behind text rest h is begins left =
+    let whole : text ≡ piece ++ rest =
+    sym (take-append-drop (length piece) text) ∙ ap (λ t. t ++ drop (length piece) text) ((bytes_eq-Decides (take (length piece) text) piece).0 begins) ∙ ap (λ t. piece ++ t) (sym left) in
+    ap (λ p. fits p text) is ∙ ap (fits (piece ++ 42 ∷ behind)) whole ∙ takes_itself piece (42 ∷ behind) rest h
+
+pub strips_not : (path piece behind text : List ℕ) → IsPlain piece → path ≡ piece ++ 42 ∷ behind → bytes_eq (take (length piece) text) piece ≡ false → fits path text ≡ false
+strips_not path piece behind text h is other =
+    never (fits path text) (λ yes.
+    let begins = takes_no_other piece (42 ∷ behind) text h (sym (ap (λ p. fits p text) is) ∙ yes) in
+    let same : take (length piece) text ≡ piece = ap (take (length piece)) begins.is ∙ take-append_seam piece begins.rest in
+    true≢false (sym ((bytes_eq-Decides (take (length piece) text) piece).1 same) ∙ other))

@@ -1,9 +1,10 @@
 -- A pattern around its first star.
-use Rattle.std.proofs.Common.{◌≡◌, ◌≢◌, ℕ, ◌+◌, ◌<◌, ◌≤◌, List, [], ◌∷◌, ◌++◌, length, take, drop, get_or, Bool, true, false, ◌==◌, refl, sym, ap, ◌∙◌, arith, eq-eqb, get_or-take, length-take-le, take-append-drop}
+use Rattle.std.proofs.Common.{◌≡◌, ◌≢◌, ℕ, ◌+◌, ◌<◌, ◌≤◌, List, ◌∷◌, ◌++◌, length, take, drop, get_or, ◌==◌, sym, ap, ◌∙◌, arith, eq-eqb, get_or-take, length-take-le, take-append-drop, length-drop, ◌-◌}
 use Rattle.std.specs.List.{position_or_len}
 use Rattle.std.proofs.lemmas.Bool.{eqb-true, true≢false}
 use Rattle.std.proofs.lemmas.List.{drop_more}
 use Rattle.std.proofs.lemmas.List.Sums.{fails_before_first, passes_at_first}
+use Rattle.std.proofs.Math.Seq.{take-length}
 use Rattle.match_patterns.specs.Stars.{IsPlain}
 
 no_star : (pattern : List ℕ) (k : ℕ) → k < position_or_len (λ b. b == 42) pattern → get_or pattern k 0 ≢ 42
@@ -25,3 +26,7 @@ around_star pattern place is within =
 
 pub without_star : (pattern : List ℕ) (place : ℕ) → place ≡ position_or_len (λ b. b == 42) pattern → length pattern ≤ place → IsPlain pattern
 without_star pattern place is past = record { plain = λ k less. no_star pattern k (omega arith) }
+
+-- a part up to the end
+pub tail_slice : (n : ℕ) (text : List ℕ) → take (length text - n) (drop n text) ≡ drop n text
+tail_slice n text = ap (λ m. take m (drop n text)) (sym (length-drop n text)) ∙ take-length (drop n text)

@@ -1,5 +1,6 @@
 -- A pattern around its first star, and what a walk along a text needs of it.
-use Rattle.std.specs.Prelude.{◌≡◌, ◌≢◌, ℕ, ◌-◌, ◌<◌, List, ◌∷◌, ◌++◌, length, drop, slice_index, Bool, ◌&&◌, nat_le, Option, Some, None, Bor}
+use Rattle.std.specs.Prelude.{◌≡◌, ◌≢◌, ℕ, ◌-◌, ◌<◌, List, ◌∷◌, ◌++◌, length, drop, slice_index, Bool, ◌&&◌, nat_le, Option, Some, None}
+use Rattle.std.specs.Borrow.{Bor}
 use Rattle.std.specs.Str.{bytes_eq}
 
 -- the pattern has no star

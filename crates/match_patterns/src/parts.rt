@@ -5,7 +5,7 @@ ghost use Rattle.match_patterns.specs.Parts.{parts_seen};
 
 use crate::hosts::{covers_host, is_host_part};
 use crate::path::fits_path;
-use crate::stars::place_of;
+use crate::stars::{place_of, place_of_path};
 use dnr_base::{Scheme, View};
 
 // The texts of the parts; the path begins with its `/`.
@@ -45,12 +45,19 @@ fn behind_scheme(text: &[u8]) -> &[u8]
     &text[place_of(b':', text)..]
 }
 
+// What stands behind the first three bytes.
+fn behind_three(text: &[u8]) -> &[u8]
+    ensures { result.now ≡ drop 3 text.now }
+{
+    &text[text.len().min(3)..]
+}
+
 // The parts of the text, if it has the form of a pattern.
 pub(crate) fn parts_of(text: &[u8]) -> Parts<'_>
     ensures { parts_seen result ≡ spec.cut_parts text.now }
 {
     let (scheme, behind) = text.split_at(place_of(b':', text));
-    let rest = &behind[behind.len().min(3)..];
+    let rest = behind_three(behind);
     let (host, path) = rest.split_at(place_of(b'/', rest));
     Parts { scheme, host, path }
 }
@@ -71,13 +78,12 @@ fn behind_authority(view: &View) -> &[u8]
     ensures { result.now ≡ spec.behind_authority view.now }
 {
     let rest = &view.text().as_bytes()[view.host_span().end..];
-    let place = rest.iter().position(|b| *b == b'/' || *b == b'?');
-    &rest[place.unwrap_or(rest.len())..]
+    &rest[place_of_path(rest)..]
 }
 
 // Whether the parts fit the URL.
 pub(crate) fn parts_fit(parts: Parts<'_>, view: &View) -> bool
-    ensures { result ≡ spec.parts_fit view.now (parts_seen parts) }
+    ensures { result ≡ spec.parts_fit view.now (parts_seen parts.entry) }
 {
     fits_scheme(parts.scheme, view.scheme())
         && covers_host(parts.host, view.host())

@@ -1,5 +1,5 @@
 // Paths with stars that a whole text fits.
-ghost use Rattle.std.specs.Prelude.{◌≡◌, map, false};
+ghost use Rattle.std.specs.Prelude.{◌≡◌, ◌+◌, ◌≤◌, length, map, drop, false};
 ghost use Rattle.std.specs.Str.{bytes_eq};
 ghost use Rattle.dnr_spec.specs.UrlFilter.{some_end};
 ghost use Rattle.dnr_spec.specs.Wildcards.{takes};
@@ -37,9 +37,17 @@ fn fits_some_end(path: &[u8], text: &[u8]) -> bool
         let Some(place) = memmem::find(text, piece) else {
             return false;
         };
-        text = &text[place + piece.len()..];
+        text = left_behind(text, place, piece.len());
         path = behind;
     }
+}
+
+// What is left of the text behind so many bytes from this place on.
+fn left_behind(text: &[u8], place: usize, count: usize) -> &[u8]
+    requires { place + count ≤ length text.now }
+    ensures { result.now ≡ drop (place + count) text.now }
+{
+    &text[place + count..]
 }
 
 // Whether the text ends so.

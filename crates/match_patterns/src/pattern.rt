@@ -17,13 +17,13 @@ pub struct MatchPattern {
 
 impl Model for MatchPattern {
     ghost use Rattle.std.specs.Prelude.{◌≡◌, List, ℕ, string_bytes};
-    ghost use Rattle.dnr_spec.specs.MatchPatterns.{has_parts};
+    ghost use Rattle.dnr_spec.specs.MatchPatterns as spec;
 
     ghost Value = { List ℕ };
 
     ghost view = { λ p. string_bytes p.text };
 
-    ghost invariant = { λ p. p.has_parts ≡ has_parts (string_bytes p.text) };
+    ghost invariant = { λ p. p.has_parts ≡ spec.has_parts (string_bytes p.text) };
 }
 
 impl MatchPattern {
