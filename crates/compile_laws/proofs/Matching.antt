@@ -51,7 +51,7 @@ never false = refl
 
 -- the order in which a rule's fields are tested does not matter
 reordered : (kind methods hosts url among not_among party match : Bool) → methods ≡ true
-    → (kind && true && methods && true && true && hosts && true && url && among && not_among && party && match) ≡ (kind && ((among && not_among) && (hosts && ((url && match) && party))))
+    → (kind && true && methods && true && true && hosts && true && url && among && not_among && party && true && true && match) ≡ (kind && ((among && not_among) && (hosts && ((url && match) && party))))
 reordered false m h u f n p r e = refl
 reordered true false h u f n p r e = cc
 reordered true true false u f n p r e = never (f && n)

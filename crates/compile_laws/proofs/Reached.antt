@@ -72,7 +72,7 @@ own_or true later = refl
 own_or false later = and_true (is_some later)
 
 candidate_as : (suffixes : List SuffixRule) (name : List ℕ) (request : Request) (id : ℕ) (standing : Standing) (effect : Effect) (initiators : Initiators)
-    → is_candidate suffixes name request (rule_of id (record { standing = standing; effect = effect; initiators = initiators }))
+    → is_candidate suffixes name true request (rule_of id (record { standing = standing; effect = effect; initiators = initiators }))
     ≡ reaches_by suffixes request effect (condition_by standing effect initiators)
 candidate_as suffixes name request id standing blocks initiators = own_alone (holds_on suffixes (condition_by standing blocks initiators) (own_part request))
 candidate_as suffixes name request id standing allows initiators = own_alone (holds_on suffixes (condition_by standing allows initiators) (own_part request))
@@ -82,7 +82,7 @@ candidate_as suffixes name request id standing exempts initiators =
     ∙ ap (λ b. holds_on suffixes (condition_by standing exempts initiators) (own_part request) || b) (frame_found suffixes rule request 0 request.frames)
 
 -- a rule is a candidate where it reaches the request
-pub candidate_is : (suffixes : List SuffixRule) (name : List ℕ) (request : Request) (id : ℕ) (draft : Draft) → is_candidate suffixes name request (rule_of id draft) ≡ reaches_as suffixes request draft
+pub candidate_is : (suffixes : List SuffixRule) (name : List ℕ) (request : Request) (id : ℕ) (draft : Draft) → is_candidate suffixes name true request (rule_of id draft) ≡ reaches_as suffixes request draft
 candidate_is suffixes name request id draft = candidate_as suffixes name request id draft.standing draft.effect draft.initiators
 
 -- ---- what a test of parts says of a request

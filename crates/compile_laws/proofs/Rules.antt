@@ -128,6 +128,8 @@ one_pattern standing kinds initiators pattern hosts are = record {
   methods = tt;
   tabs = (tt, tt);
   not_tabs = refl;
+  header_tests = (tt, tt);
+  not_header_tests = refl;
 }
 
 pub is_rule : (standing : Standing) (effect : Effect) (initiators : Initiators) (id : ℕ) → IsTrue (is_number id) → IsPattern standing.filter.pattern → AreHosts standing → AreInitiators initiators

@@ -78,7 +78,7 @@ has_that P false live one lives is h = h
 module _ (suffixes : List SuffixRule) (name : List ℕ) (request : Request) where
   -- those of these rules that may decide
   abbrev may_decide : List Live → List (Live × Candidate)
-  may_decide lives = filter_map deciding_of (filter (λ live. is_candidate suffixes name request live.rule) lives)
+  may_decide lives = filter_map deciding_of (filter (λ live. is_candidate suffixes name true request live.rule) lives)
 
   abbrev numbered : ℕ → List Draft → List (Live × Candidate)
   numbered id drafts = may_decide (map live_as (with_ids id drafts))
@@ -97,8 +97,8 @@ module _ (suffixes : List SuffixRule) (name : List ℕ) (request : Request) wher
       → ((draft : Draft) → In draft drafts → reaches_as suffixes request draft ≡ true → (one : Live × Candidate) → IsOf draft one → P one) → AllByRecursion P (numbered id drafts)
   each_decides P id [] f = tt
   each_decides P id (draft ∷ drafts) f =
-      each_more P (is_candidate suffixes name request (rule_of id draft)) (live_at id draft) (one_at id draft)
-      (filter (λ live. is_candidate suffixes name request live.rule) (map live_as (with_ids (id + 1) drafts))) (decides_as (live_at id draft) draft.effect)
+      each_more P (is_candidate suffixes name true request (rule_of id draft)) (live_at id draft) (one_at id draft)
+      (filter (λ live. is_candidate suffixes name true request live.rule) (map live_as (with_ids (id + 1) drafts))) (decides_as (live_at id draft) draft.effect)
       (λ e. f draft (inl refl) (sym (candidate_is suffixes name request id draft) ∙ e) (one_at id draft) (is_of id draft))
       (each_decides P (id + 1) drafts (λ other i. f other (inr i)))
 
@@ -107,13 +107,13 @@ module _ (suffixes : List SuffixRule) (name : List ℕ) (request : Request) wher
       → ((one : Live × Candidate) → IsOf draft one → P one) → Has P (numbered id drafts)
   one_decides P id [] draft i h f = absurd i
   one_decides P id (first ∷ drafts) draft (inl same) h f =
-      has_this P (is_candidate suffixes name request (rule_of id first)) (live_at id first) (one_at id first)
-      (filter (λ live. is_candidate suffixes name request live.rule) (map live_as (with_ids (id + 1) drafts))) (decides_as (live_at id first) first.effect)
+      has_this P (is_candidate suffixes name true request (rule_of id first)) (live_at id first) (one_at id first)
+      (filter (λ live. is_candidate suffixes name true request live.rule) (map live_as (with_ids (id + 1) drafts))) (decides_as (live_at id first) first.effect)
       (candidate_is suffixes name request id first ∙ ap (reaches_as suffixes request) same ∙ h)
       (f (one_at id first) (subst (λ (d : Draft). IsOf d (one_at id first)) same (is_of id first)))
   one_decides P id (first ∷ drafts) draft (inr i) h f =
-      has_that P (is_candidate suffixes name request (rule_of id first)) (live_at id first) (one_at id first)
-      (filter (λ live. is_candidate suffixes name request live.rule) (map live_as (with_ids (id + 1) drafts))) (decides_as (live_at id first) first.effect)
+      has_that P (is_candidate suffixes name true request (rule_of id first)) (live_at id first) (one_at id first)
+      (filter (λ live. is_candidate suffixes name true request live.rule) (map live_as (with_ids (id + 1) drafts))) (decides_as (live_at id first) first.effect)
       (one_decides P (id + 1) drafts draft i h f)
 
 -- ---- the one that no other beats
