@@ -1,7 +1,8 @@
 //! Rules as Chrome's reference of declarativeNetRequest writes them, and which refusal comes first.
 
 use crate::{Rule, RuleKind, RuleRefusal, read_rule, read_rules};
-use dnr_base::{Kind, Method};
+use dnr_base::{Items, Kind, Method};
+use header_tests::HeaderTest;
 use regex_host::{ListHost, PackHost, RegexHost};
 use serde_json::Value;
 use std::alloc::Global;
@@ -37,6 +38,10 @@ EmptyList(InitiatorDomains) | {"id":1,"condition":{"resourceTypes":[],"initiator
 EmptyList(TabIds) | {"id":1,"condition":{"tabIds":[],"resourceTypes":["script"],"excludedResourceTypes":[]}}
 BothTypeLists | {"id":1,"condition":{"tabIds":[1],"resourceTypes":["script"],"excludedResourceTypes":[]}}
 AllowAllTypes | {"id":1,"condition":{"tabIds":[1]},"action":{"type":"allowAllRequests"}}
+EmptyList(ResponseHeaders) | {"id":1,"condition":{"responseHeaders":[],"resourceTypes":["script"],"excludedResourceTypes":[]}}
+EmptyList(ExcludedResponseHeaderValues) | {"id":1,"condition":{"excludedResponseHeaders":[{"header":" ","values":[]}]}}
+BadHeaderTest(ResponseHeaders) | {"id":1,"condition":{"responseHeaders":[{"header":"a","values":["a\\b"]}],"tabIds":[1]}}
+BadHeaderTest(ExcludedResponseHeaders) | {"id":1,"condition":{"excludedResponseHeaders":[{"header":" "}]}}
 TabsNotSession | {"id":1,"condition":{"excludedTabIds":[]}}
 BadAction | {"id":1,"condition":{},"action":{"type":"follow"}}"#;
     for row in rows.lines() {
@@ -62,6 +67,16 @@ fn is_as_written(rule: &Rule) -> bool {
         && !condition.kinds().contains(Kind::Script)
         && condition.kinds().contains(Kind::MainFrame)
         && tabs.as_slice() == [1, -1].as_slice()
+        && has_test_of(condition.header_tests(), "x-a")
+        && condition.not_header_tests().is_empty()
+}
+
+// Whether there is one test, of this name.
+fn has_test_of(tests: Option<&Items<HeaderTest>>, name: &str) -> bool {
+    match tests.map(Items::as_slice) {
+        Some([test]) => test.name.as_str() == name,
+        _ => false,
+    }
 }
 
 #[test]
@@ -69,7 +84,7 @@ fn a_session_rule_is_read_as_written(rt: HostRuntime) -> Result<(), Fail> {
     let alloc = rt.alloc();
     let text = r#"{"id":7,"condition":{"regexFilter":"a(b)","isUrlFilterCaseSensitive":true,
         "domains":["A.com"],"excludedResourceTypes":["script"],"excludedRequestMethods":["post"],
-        "tabIds":[1,-1,1]},"action":{"type":"block"}}"#;
+        "tabIds":[1,-1,1],"responseHeaders":[{"header":"X-A"}]},"action":{"type":"block"}}"#;
     let value = Value::from_slice(alloc, text.as_bytes())
         .ok()
         .ok_or("no JSON")?;
