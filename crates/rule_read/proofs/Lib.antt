@@ -1,3 +1,6 @@
+pub mod Given
+pub mod Asking
+pub mod Making
 pub mod TypeSets
 pub mod Texts
 pub mod Chains

@@ -11,7 +11,7 @@ use Rattle.rule_spec.specs.declared.rule_refusal.RuleRefusal.TheVariants.{HostFa
 use Rattle.rule_spec.specs.Rule.{Condition, Action, block, Rule}
 use Rattle.json_spec.specs.RuleFields.{first_refusal, refusal_in, unless_refused, Fields, fields_in}
 use Rattle.json_spec.specs.RuleAction.{action_in}
-use Rattle.json_spec.specs.ReadRule.{Numbers, DomainLists, numbers_in, numbers_at, condition_at, fields_at, no_fields, no_lists, no_numbers, lists_at, groups_at, filters_in, domain_lists_in, lists_in, frames_in, tabs_in, condition_of, rule_of, rule_in, IsAtPattern, IsRuleAtPattern}
+use Rattle.json_spec.specs.ReadRule.{Numbers, DomainLists, numbers_in, numbers_at, condition_at, fields_at, no_fields, no_lists, no_numbers, lists_at, groups_at, filters_in, domain_lists_in, lists_in, frames_in, header_tests_in, tabs_in, condition_of, rule_of, rule_in, IsAtPattern, IsRuleAtPattern}
 use Rattle.json_spec.specs.MayRefuse.{MayRefuse, IsRefused}
 use Rattle.json_spec.proofs.Refused.{refused_on}
 
@@ -68,14 +68,20 @@ listed is_taken d = domained is_taken d ++ refusal_in (lists_in (fields_at d)) �
 abbrev framed : (ℕ → Bool) → Data → List (Option RuleRefusal)
 framed is_taken d = listed is_taken d ++ refusal_in (frames_in (get (codes "action") d) (fields_at d)) ∷ []
 
+abbrev tested : (ℕ → Bool) → Data → List (Option RuleRefusal)
+tested is_taken d = framed is_taken d ++ refusal_in (header_tests_in (fields_at d)) ∷ []
+
 abbrev tabbed : RuleKind → (ℕ → Bool) → Data → List (Option RuleRefusal)
-tabbed kind is_taken d = framed is_taken d ++ refusal_in (tabs_in kind (fields_at d)) ∷ []
+tabbed kind is_taken d = tested is_taken d ++ refusal_in (tabs_in kind (fields_at d)) ∷ []
 
 abbrev after_tabs : Data → List (Option RuleRefusal)
 after_tabs d = refusal_in (action_in (groups_at d) (get (codes "action") d)) ∷ []
 
+abbrev after_tests : RuleKind → Data → List (Option RuleRefusal)
+after_tests kind d = refusal_in (tabs_in kind (fields_at d)) ∷ after_tabs d
+
 abbrev after_frames : RuleKind → Data → List (Option RuleRefusal)
-after_frames kind d = refusal_in (tabs_in kind (fields_at d)) ∷ after_tabs d
+after_frames kind d = refusal_in (header_tests_in (fields_at d)) ∷ after_tests kind d
 
 abbrev after_lists : RuleKind → Data → List (Option RuleRefusal)
 after_lists kind d = refusal_in (frames_in (get (codes "action") d) (fields_at d)) ∷ after_frames kind d
@@ -102,7 +108,7 @@ pub record IsBegun (is_taken : ℕ → Bool) (d : Data) (n : Numbers) (f : Field
 pub begins : (is_taken : ℕ → Bool) (d c : Data) (n : Numbers) (f : Fields) → numbers_in is_taken d ≡ Ok n → c ≡ condition_at d → fields_in c ≡ Ok f → IsBegun is_taken d n f
 begins is_taken d c n f numbers is fields = record { numbers = numbers; fields = subst (λ c. fields_in c ≡ Ok f) is fields }
 
-these : (is_taken : ℕ → Bool) (d : Data) (n : Numbers) (f : Fields) → IsBegun is_taken d n f → f ≡ fields_at d
+pub these : (is_taken : ℕ → Bool) (d : Data) (n : Numbers) (f : Fields) → IsBegun is_taken d n f → f ≡ fields_at d
 these is_taken d n f b = ap (λ r. result_unwrap_or r no_fields) (sym b.fields)
 
 pub forms_pass : (is_taken : ℕ → Bool) (d : Data) (n : Numbers) (f : Fields) → IsBegun is_taken d n f → AllPass (formed is_taken d)
@@ -126,9 +132,13 @@ frames_pass is_taken d n f a b same pass is =
     more (listed is_taken d) (frames_in (get (codes "action") d) (fields_at d)) tt pass
     (subst (λ f. frames_in (get (codes "action") d) f ≡ Ok tt) (these is_taken d n f b) (subst (λ a. frames_in a f ≡ Ok tt) same is))
 
-pub tabs_pass : (kind : RuleKind) (is_taken : ℕ → Bool) (d : Data) (n : Numbers) (f : Fields) → IsBegun is_taken d n f → AllPass (framed is_taken d) → tabs_in kind f ≡ Ok tt → AllPass (tabbed kind is_taken d)
+pub tests_pass : (is_taken : ℕ → Bool) (d : Data) (n : Numbers) (f : Fields) → IsBegun is_taken d n f → AllPass (framed is_taken d) → header_tests_in f ≡ Ok tt → AllPass (tested is_taken d)
+tests_pass is_taken d n f b pass is =
+    more (framed is_taken d) (header_tests_in (fields_at d)) tt pass (subst (λ f. header_tests_in f ≡ Ok tt) (these is_taken d n f b) is)
+
+pub tabs_pass : (kind : RuleKind) (is_taken : ℕ → Bool) (d : Data) (n : Numbers) (f : Fields) → IsBegun is_taken d n f → AllPass (tested is_taken d) → tabs_in kind f ≡ Ok tt → AllPass (tabbed kind is_taken d)
 tabs_pass kind is_taken d n f b pass is =
-    more (framed is_taken d) (tabs_in kind (fields_at d)) tt pass (subst (λ f. tabs_in kind f ≡ Ok tt) (these is_taken d n f b) is)
+    more (tested is_taken d) (tabs_in kind (fields_at d)) tt pass (subst (λ f. tabs_in kind f ≡ Ok tt) (these is_taken d n f b) is)
 
 -- ---- what is refused
 
@@ -176,11 +186,18 @@ frames_refuse kind is_taken d n f a fault refusal b same pass h =
     (calm (frames_in (get (codes "action") d) (fields_at d)) fault refusal
     (subst (λ f. IsRefused (frames_in (get (codes "action") d) f) refusal) (these is_taken d n f b) (subst (λ a. IsRefused (frames_in a f) refusal) same h)))
 
-pub tabs_refuse : (kind : RuleKind) (is_taken : ℕ → Bool) (d : Data) (n : Numbers) (f : Fields) (fault : Type 0) (refusal : RuleRefusal) → IsBegun is_taken d n f → AllPass (framed is_taken d)
+pub tests_refuse : (kind : RuleKind) (is_taken : ℕ → Bool) (d : Data) (n : Numbers) (f : Fields) (fault : Type 0) (refusal : RuleRefusal) → IsBegun is_taken d n f → AllPass (framed is_taken d)
+    → IsRefused (header_tests_in f) refusal → MayRefuse (rule_in kind is_taken d) fault refusal
+unfolding rule_in
+tests_refuse kind is_taken d n f fault refusal b pass h =
+    behind (framed is_taken d) (header_tests_in (fields_at d)) (after_tests kind d) (rule_of is_taken d) fault refusal pass.none
+    (calm (header_tests_in (fields_at d)) fault refusal (subst (λ f. IsRefused (header_tests_in f) refusal) (these is_taken d n f b) h))
+
+pub tabs_refuse : (kind : RuleKind) (is_taken : ℕ → Bool) (d : Data) (n : Numbers) (f : Fields) (fault : Type 0) (refusal : RuleRefusal) → IsBegun is_taken d n f → AllPass (tested is_taken d)
     → IsRefused (tabs_in kind f) refusal → MayRefuse (rule_in kind is_taken d) fault refusal
 unfolding rule_in
 tabs_refuse kind is_taken d n f fault refusal b pass h =
-    behind (framed is_taken d) (tabs_in kind (fields_at d)) (after_tabs d) (rule_of is_taken d) fault refusal pass.none
+    behind (tested is_taken d) (tabs_in kind (fields_at d)) (after_tabs d) (rule_of is_taken d) fault refusal pass.none
     (calm (tabs_in kind (fields_at d)) fault refusal (subst (λ f. IsRefused (tabs_in kind f) refusal) (these is_taken d n f b) h))
 
 -- the groups of the regexFilter and the action as they were read

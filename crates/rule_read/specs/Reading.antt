@@ -15,6 +15,11 @@ use Rattle.json_spec.specs.MayRefuse.{MayRefuse}
 abbrev pub Taken : BTreeSet ℕ → List Rule → Type 0
 Taken taken rules = (id : ℕ) → contains nat_cmp taken id ≡ has_id rules id
 
+-- the ids that are taken stay so, and no other is, unless memory ran out
+abbrev pub TakenStay : BTreeSet ℕ → BTreeSet ℕ → RuleRefusal → Type 0
+TakenStay before now NoMemory = Unit {0}
+TakenStay before now cause = now ≡ before
+
 -- the rule of the object stands behind the others
 abbrev pub ReadsNext : RuleKind → Data → List Rule → List Rule → Type 0
 ReadsNext kind d rules more = (rule : Rule) × (rule_in kind (has_id rules) d ≡ Ok rule) × (more ≡ rules ++ rule ∷ [])

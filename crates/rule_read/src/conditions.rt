@@ -1,5 +1,5 @@
 ghost use Rattle.std.specs.Prelude.{◌≡◌, ◌≤◌, ◌==◌, false, [], List, filter, not, Ok, OnOk, IfOk};
-ghost use Rattle.std.specs.Prelude.{IfErr, length, option_map, unwrap_or};
+ghost use Rattle.std.specs.Prelude.{◌&&◌, IfErr, is_some, length, option_map, unwrap_or};
 ghost use Rattle.std.specs.Option.{option_copied, option_map_or};
 ghost use Rattle.dnr_base.specs.Faults.{Rose};
 ghost use Rattle.dnr_base.specs.Kind.{all_kinds, has_kind};
@@ -11,9 +11,12 @@ ghost use Rattle.json_spec.specs.ReadRule.{filters_in, domains_in, domain_lists_
 ghost use Rattle.json_spec.specs.ReadRule.{tabs_in, IsAtPattern, kinds_from};
 ghost use Rattle.rule_spec.specs.IsRule.{is_regex_text};
 ghost use Rattle.json_spec.specs.MayRefuse.{MayRefuse, IsRefused, RefusesTest};
+ghost use Rattle.regex_host.specs.Asked.{AsksFor};
 ghost use Rattle.rule_fields.specs.Seen.{fields_seen};
+ghost use Rattle.rule_read.specs.Asking.{asked_by, AsksOrNot};
 ghost use Rattle.rule_read.specs.Seen.{lists_seen};
 
+use crate::response_tests::{has_no_test, has_no_value};
 use dnr_base::{Items, Kind, KindSet, MethodSet, Text};
 use dnr_spec::{DomainRefusal, PatternRefusal};
 use domain_set::DomainSet;
@@ -50,6 +53,10 @@ pub(crate) fn read_filters<H: RegexHost>(
         filters.groups ≡ option_map_or groups_of (option_copied fields.now.regex_filter) None) }
     ensures refused { IfErr result (MayRefuse (filters_in (fields_seen fields.now))
         (Rose (H.faults host.old) (H.faults host.new) × IsAtPattern (fields_seen fields.now))) }
+    ensures asked { OnOk result
+        (AsksFor H.asks host.old (asked_by (fields_seen fields.now)) host.new) }
+    ensures tried { AsksOrNot H.asks host.old (asked_by (fields_seen fields.now)) host.new }
+    ensures calm { OnOk result (H.faults host.new ≡ H.faults host.old) }
     ensures later { H.faults host.old ≤ H.faults host.new }
 {
     match (fields.url_filter, fields.regex_filter) {
@@ -105,6 +112,8 @@ fn check_pattern<H: RegexHost>(text: &str, fold: bool, host: &mut H) -> Result<u
     ensures groups { IfOk result (λ groups. groups_of text.now ≡ Some groups) }
     ensures refused { IfErr result (RefusesTest (spec.pattern_test (Some text.now))
         (Rose (H.faults host.old) (H.faults host.new))) }
+    ensures asked { H.asks host.old (record { pattern = text.now; fold = fold }) host.new }
+    ensures calm { OnOk result (H.faults host.new ≡ H.faults host.old) }
     ensures later { H.faults host.old ≤ H.faults host.new }
 {
     match host.check(text, fold) {
@@ -218,10 +227,26 @@ pub(crate) fn test_lists(fields: &Fields<'_>) -> Result<(), RuleRefusal>
     if has_no_tab(&fields.tabs) {
         return Err(RuleRefusal::EmptyList(RulePath::TabIds));
     }
-    if fields.kinds.is_some() && fields.not_kinds.is_some() {
+    if has_no_test(&fields.header_tests) {
+        return Err(RuleRefusal::EmptyList(RulePath::ResponseHeaders));
+    }
+    if has_no_value(&fields.header_tests) {
+        return Err(RuleRefusal::EmptyList(RulePath::ResponseHeaderValues));
+    }
+    if has_no_value(&fields.not_header_tests) {
+        return Err(RuleRefusal::EmptyList(RulePath::ExcludedResponseHeaderValues));
+    }
+    if are_both_given(fields.kinds, fields.not_kinds) {
         return Err(RuleRefusal::BothTypeLists);
     }
     Ok(())
+}
+
+fn are_both_given(kinds: Option<KindSet>, excluded: Option<KindSet>) -> bool
+    ensures { result ≡ (is_some (option_map kinds_of kinds)
+        && is_some (option_map kinds_of excluded)) }
+{
+    kinds.is_some() && excluded.is_some()
 }
 
 fn is_empty(texts: &Option<Items<Text>>) -> bool

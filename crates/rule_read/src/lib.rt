@@ -6,6 +6,7 @@
 mod conditions;
 mod frames;
 mod numbers;
+mod response_tests;
 mod rules;
 
 pub use dnr_rules::Rule;

@@ -6,21 +6,25 @@ ghost use Rattle.serde_json.specs.View.{view, items_view};
 ghost use Rattle.serde_json.specs.Find.{as_array};
 ghost use Rattle.dnr_base.specs.Faults.{Rose};
 ghost use Rattle.json_spec.specs.ReadRule as spec;
-ghost use Rattle.json_spec.specs.ReadRule.{rule_in, IsRuleAtPattern};
+ghost use Rattle.json_spec.specs.ReadRule.{rule_in, fields_at, IsRuleAtPattern};
 ghost use Rattle.std.specs.Prelude.{unwrap_or};
 ghost use Rattle.std.specs.Option.{option_copied};
 ghost use Rattle.dnr_base.specs.MethodSet.{methods_of};
+ghost use Rattle.dnr_spec.specs.HeaderTests.{in_lower_case};
 ghost use Rattle.dnr_rules.specs.Seen.{condition_seen};
 ghost use Rattle.json_spec.specs.MayRefuse.{MayRefuse};
+ghost use Rattle.regex_host.specs.Asked.{AsksFor};
 ghost use Rattle.rule_fields.specs.Seen.{fields_seen};
 ghost use Rattle.rule_read.specs.Seen.{lists_seen};
-ghost use Rattle.rule_read.specs.Reading.{Taken, MayStop, ReadsNext, StopsAt};
+ghost use Rattle.rule_read.specs.Asking.{asked_by, asked_of, asked_of_all, AsksOrNot, AsksNext};
+ghost use Rattle.rule_read.specs.Reading.{Taken, TakenStay, MayStop, ReadsNext, StopsAt};
 
 use crate::conditions::{
     DomainLists, Filters, kinds_in, read_domain_lists, read_filters, test_lists, test_tabs,
 };
 use crate::frames::test_frames;
 use crate::numbers::{Numbers, id_of, read_numbers};
+use crate::response_tests::{Tests, read_tests};
 use action_read::read_action;
 use dnr_base::{Items, MethodSet, NoMemory};
 use dnr_rules::{ConditionParts, PlacedRefusal, RareParts, Rule, RuleKind, RuleParts, RuleRefusal};
@@ -52,6 +56,10 @@ pub fn read_rule<H: RegexHost>(
     ensures refused { IfErr result (MayRefuse (spec.read_rule kind (view value.now))
         (Rose (H.faults host.old) (H.faults host.new)
         × IsRuleAtPattern (λ id. false) (view value.now))) }
+    ensures asked { IfOk result (λ rule.
+        AsksFor H.asks host.old (asked_of rule.condition) host.new) }
+    ensures tried { AsksOrNot H.asks host.old (asked_by (fields_at (view value.now))) host.new }
+    ensures calm { OnOk result (H.faults host.new ≡ H.faults host.old) }
     ensures later { H.faults host.old ≤ H.faults host.new }
 {
     let taken = BTreeSet::new(alloc);
@@ -72,6 +80,10 @@ fn read_among<H: RegexHost>(
         (MayRefuse (rule_in kind (λ id. contains nat_cmp taken.now id) (view value.now))
         (Rose (H.faults host.old) (H.faults host.new)
         × IsRuleAtPattern (λ id. contains nat_cmp taken.now id) (view value.now))) }
+    ensures asked { IfOk result (λ rule.
+        AsksFor H.asks host.old (asked_of rule.condition) host.new) }
+    ensures tried { AsksOrNot H.asks host.old (asked_by (fields_at (view value.now))) host.new }
+    ensures calm { OnOk result (H.faults host.new ≡ H.faults host.old) }
     ensures later { H.faults host.old ≤ H.faults host.new }
 {
     let numbers = read_numbers(value, taken)?;
@@ -81,9 +93,10 @@ fn read_among<H: RegexHost>(
     test_lists(&fields)?;
     let action = value.get("action");
     test_frames(action, &fields)?;
+    let tests = read_tests(alloc, &fields)?;
     test_tabs(kind, &fields)?;
     let action = read_action(alloc, action, filters.groups)?;
-    let condition = condition_of(alloc, fields, filters, lists)?;
+    let condition = condition_of(alloc, fields, filters, lists, tests)?;
     rules_keep_their_form();
     Ok(Rule::build(RuleParts {
         id: numbers.id,
@@ -99,9 +112,13 @@ fn condition_of(
     fields: Fields<'_>,
     filters: Filters,
     lists: DomainLists,
+    tests: Tests,
 ) -> Result<ConditionParts, NoMemory>
     requires url_filter { filters.url_filter ≡ option_copied fields.url_filter }
     requires regex_filter { filters.regex_filter ≡ option_copied fields.regex_filter }
+    requires tests { tests.header_tests ≡ option_map (map in_lower_case) fields.header_tests }
+    requires not_tests { tests.not_header_tests
+        ≡ map in_lower_case (unwrap_or fields.not_header_tests []) }
     ensures { IfOk result (λ condition. condition_seen condition
         ≡ spec.condition_of (fields_seen fields.entry) (lists_seen lists)) }
 {
@@ -116,6 +133,8 @@ fn condition_of(
         not_hosts: lists.not_hosts,
         tabs: fields.tabs,
         not_tabs: tabs_or_none(alloc, fields.not_tabs),
+        header_tests: tests.header_tests,
+        not_header_tests: tests.not_header_tests,
     };
     let rare = rare.boxed(alloc)?;
     Ok(ConditionParts {
@@ -166,6 +185,9 @@ pub fn read_rules<H: RegexHost>(
     ensures ok { IfOk result (λ rules. spec.read_rules kind (view value.now) ≡ Ok rules.items) }
     ensures refused { IfErr result (MayStop kind (as_array (view value.now))
         (Rose (H.faults host.old) (H.faults host.new))) }
+    ensures asked { IfOk result (λ rules.
+        AsksFor H.asks host.old (asked_of_all rules.items) host.new) }
+    ensures calm { OnOk result (H.faults host.new ≡ H.faults host.old) }
     ensures later { H.faults host.old ≤ H.faults host.new }
 {
     match value.as_array() {
@@ -189,6 +211,9 @@ fn read_list<H: RegexHost>(
     ensures ok { IfOk result (λ rules. spec.read_from kind [] (items_view values.now) ≡ Ok rules.items) }
     ensures refused { IfErr result (MayStop kind (Some (items_view values.now))
         (Rose (H.faults host.old) (H.faults host.new))) }
+    ensures asked { IfOk result (λ rules.
+        AsksFor H.asks host.old (asked_of_all rules.items) host.new) }
+    ensures calm { OnOk result (H.faults host.new ≡ H.faults host.old) }
     ensures later { H.faults host.old ≤ H.faults host.new }
 {
     let mut taken = BTreeSet::new(alloc);
@@ -220,6 +245,11 @@ pub fn read_next<H: RegexHost>(
     ensures refused { IfErr result (StopsAt kind (view value.now) rules.old.items
         (Rose (H.faults host.old) (H.faults host.new))) }
     ensures kept { OnErr result (rules.new.items ≡ rules.old.items) }
+    ensures ids { IfErr result (λ refusal.
+        TakenStay taken.old taken.new refusal.cause) }
+    ensures asked { OnOk result
+        (AsksNext H.asks host.old host.new rules.old.items rules.new.items) }
+    ensures calm { OnOk result (H.faults host.new ≡ H.faults host.old) }
     ensures later { H.faults host.old ≤ H.faults host.new }
 {
     let rule = match read_among(alloc, value, kind, taken, host) {

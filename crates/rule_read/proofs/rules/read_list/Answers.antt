@@ -1,4 +1,5 @@
-use Rattle.std.proofs.Common.{arith}
+use Rattle.std.proofs.Common.{◌∙◌, arith}
+use Rattle.rule_read.proofs.Asking.{asks_for_next}
 use Rattle.rule_read.proofs.ReadLists.{list_goes}
 use Rattle.rule_read.proofs.rules.read_list.Goals as goal
 
@@ -9,5 +10,7 @@ loop-value-preserved g c =
     record {
       taken = after.taken;
       so_far = list_goes c.args.kind c.args.values.now c.loop-value.value-index _ _ _ c.loop-value-test.true c.value-item.is before.so_far after.read;
+      asked = asks_for_next g.H.RegexHost.asks _ _ _ _ _ before.asked after.asked;
+      calm = after.calm ∙ before.calm;
       later = omega (arith, before.later, after.later);
     }
