@@ -117,11 +117,11 @@ frame_kind_counts false = refl
 
 module _ (suffixes : List SuffixRule) (request : Request) (standing : Standing) (are : AreEntries standing.filter.domains) where
   view_some : (place : ℕ) (initiator : Option (List ℕ)) (method : Method) (view : Option View)
-      → list_any (λ initiators. holds_part suffixes (condition_by standing exempts initiators) (option_map (λ v. record { view = v; initiator = initiator; kind = frame_kind place; method = method; tab = request.tab }) view)) (initiators_of standing.filter.domains)
-      ≡ part_by (stands suffixes standing) (option_map (λ v. record { view = v; initiator = initiator; kind = frame_kind place; method = method; tab = request.tab }) view)
+      → list_any (λ initiators. holds_part suffixes (condition_by standing exempts initiators) (option_map (λ v. record { view = v; initiator = initiator; kind = frame_kind place; method = method; tab = request.tab; response_headers = None }) view)) (initiators_of standing.filter.domains)
+      ≡ part_by (stands suffixes standing) (option_map (λ v. record { view = v; initiator = initiator; kind = frame_kind place; method = method; tab = request.tab; response_headers = None }) view)
   view_some place initiator method None = never_any (initiators_of standing.filter.domains)
   view_some place initiator method (Some view) =
-      let part : Part = record { view = view; initiator = initiator; kind = frame_kind place; method = method; tab = request.tab } in
+      let part : Part = record { view = view; initiator = initiator; kind = frame_kind place; method = method; tab = request.tab; response_headers = None } in
       holds_some suffixes standing (MainFrame ∷ SubFrame ∷ []) part are ∙ ap (λ b. b && stands suffixes standing part) (frame_kind_counts (place == 0))
 
   frames_some : (place : ℕ) (frames : List Frame)
