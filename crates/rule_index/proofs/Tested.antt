@@ -6,9 +6,8 @@ use Rattle.std.specs.Char.{is_ascii}
 use Rattle.dnr_spec.specs.declared.pattern_refusal.PatternRefusal.TheVariants.{Empty, TooLong, AnchorStar, NotAscii}
 use Rattle.dnr_spec.specs.UrlFilter.{pattern_of, max_pattern}
 use Rattle.dnr_base.specs.declared.kind.Kind.{Kind}
-use Rattle.dnr_rules.specs.Plain.{plain_condition}
 use Rattle.rule_spec.specs.IsRule.{AreDomains, IsCondition}
-use Rattle.rule_spec.specs.Rule.{Condition}
+use Rattle.rule_spec.specs.Rule.{Condition, plain_condition}
 
 same_text : (a b c d : Bool) (text other : List ℕ) → cond a (Err Empty) (cond b (Err TooLong) (cond c (Err AnchorStar) (cond d (Ok text) (Err NotAscii)))) ≡ Ok other → text ≡ other
 same_text true b c d text other h = cc
@@ -41,6 +40,8 @@ plain_whole kinds = record {
   methods = tt;
   tabs = (tt, tt);
   not_tabs = refl;
+  header_tests = (tt, tt);
+  not_header_tests = refl;
 }
 
 pub plain_is : (condition : Condition) (kinds : List Kind) → condition ≡ plain_condition kinds → IsCondition condition
