@@ -85,6 +85,7 @@ fn part<'a>(view: &'a View, initiator: Option<&'a Text>) -> Part<'a> {
         kind: Kind::Script,
         method: Method::Get,
         tab: -1,
+        response_headers: None,
     }
 }
 
