@@ -1,13 +1,13 @@
 -- Entries that are the same as a set.
-use Rattle.std.proofs.Common.{◌≡◌, ℕ, List, [], ◌∷◌, map, Bool, true, false, cond, not, ◌&&◌, Option, Some, None, inl, inr, refl, sym, ap, ◌∙◌, subst, ⊎_elim, arith}
-use Rattle.std.specs.Prelude.{filter, nat_le, length}
+use Rattle.std.proofs.Common.{◌≡◌, ℕ, List, [], ◌∷◌, map, Bool, true, false, cond, not, ◌&&◌, Option, Some, None, inl, refl, sym, ap, ◌∙◌, subst, ⊎_elim, arith}
+use Rattle.std.specs.Prelude.{nat_le, length}
 use Rattle.std.specs.List.{list_any, list_all, AllByRecursion}
 use Rattle.std.proofs.lemmas.Bool.{or_cases, true≢false}
 use Rattle.dnr_spec.specs.Domains.{is_domain, is_address, is_name, covers}
 use Rattle.list_spec.specs.declared.domain_entry.DomainEntry.{DomainEntry}
 use Rattle.list_spec.specs.Says.{covering, is_longest, lists_none, longest_is_listed, is_for}
-use Rattle.compile_spec.specs.Alike.{written_entry, set_of_entries, ascending}
-use Rattle.compile_laws.proofs.Lists.{In, Has, has_in, in_has, each_in, in_each, any_in, any_out, all_pass, each_passes, has_mapped, has_unmapped, has_weaker, in_filtered, in_unfiltered}
+use Rattle.compile_spec.specs.Alike.{written_entry, set_of_entries}
+use Rattle.compile_laws.proofs.Lists.{In, Has, has_in, each_in, in_each, any_in, any_out, all_pass, each_passes, has_mapped, has_unmapped, has_weaker, in_filtered, in_unfiltered}
 use Rattle.compile_laws.proofs.Covered.{address_parts, name_bytes}
 use Rattle.compile_laws.proofs.Fitting.{same_truth}
 use Rattle.compile_laws.proofs.Plain.{has_ascending, had_ascending}

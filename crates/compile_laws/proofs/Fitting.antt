@@ -1,12 +1,12 @@
 -- A pattern `||`, a plain domain and `^` fits a URL exactly where the domain covers its host.
-use Rattle.std.proofs.Common.{◌≡◌, ℕ, zero, suc, ◌+◌, ◌-◌, ◌≤◌, ◌<◌, List, [], ◌∷◌, ◌++◌, length, take, drop, get_or, Bool, true, false, not, ◌||◌, ◌&&◌, ◌==◌, ◌⊎◌, inl, inr, refl, sym, ap, ◌∙◌, subst, ⊎_elim, arith, length-append, length-take-le}
+use Rattle.std.proofs.Common.{◌≡◌, ℕ, zero, suc, ◌+◌, ◌-◌, ◌≤◌, ◌<◌, List, [], ◌∷◌, ◌++◌, length, take, drop, get_or, Bool, true, false, ◌&&◌, ◌==◌, ◌⊎◌, inl, inr, refl, sym, ap, ◌∙◌, subst, ⊎_elim, arith, length-append, length-take-le}
 use Rattle.std.specs.Prelude.{codes, nat_lt, nat_le, nat_eq, slice_index, slice_range}
 use Rattle.std.specs.List.{list_all, list_any, starts_with}
 use Rattle.std.specs.Char.{to_ascii_lowercase, is_ascii_digit}
 use Rattle.std.specs.Str.{bytes_eq}
 use Rattle.std.proofs.Math.Seq.{take-add, drop-append-add, get_or-append_seam}
 use Rattle.std.proofs.lemmas.List.{drop-append-le, drop-drop, get_or_append_left, get_or-append-add, length-take, length-drop}
-use Rattle.std.proofs.lemmas.Bool.{and_parts, and_from, or_cases, or_left, or_right, or_from, or_parts, true≢false, false_from_ne_true, eqb-true}
+use Rattle.std.proofs.lemmas.Bool.{and_parts, and_from, or_cases, or_left, or_right, or_from, true≢false, false_from_ne_true, eqb-true}
 use Rattle.std.proofs.lemmas.Bool.Decides.{nat_tests, Decides-eqb}
 use Rattle.std.proofs.lemmas.Slice.Eq.{bytes_eq-Decides}
 use Rattle.dnr_base.specs.declared.span.Span.{Span}
@@ -17,7 +17,7 @@ use Rattle.dnr_spec.specs.Domains as domains
 use Rattle.dnr_spec.specs.UrlFilter.{domain, has_end_anchor, is_separator, is_same, fits_at, some_below, follows_dot, fits_from, fits}
 use Rattle.compile_spec.specs.Alike.{is_lower_letter, ends_in_letters}
 use Rattle.compile_laws.proofs.Lists.{true_or_false}
-use Rattle.compile_laws.proofs.Covered.{Covered, reads_covers, is_covered, last_of_rest, same_last, labels_some, take_and_drop, drop_front, all_at}
+use Rattle.compile_laws.proofs.Covered.{Covered, reads_covers, is_covered, last_of_rest, same_last, take_and_drop, drop_front, all_at}
 use Rattle.compile_laws.proofs.Plain.{IsPlain, byte_lower}
 
 -- ---- bytes

@@ -1,13 +1,12 @@
 -- The filters of a list, and those among them that stand as one.
-use Rattle.std.proofs.Common.{◌≡◌, ℕ, zero, suc, ◌+◌, List, [], ◌∷◌, ◌++◌, map, Bool, true, false, cond, not, Option, Some, None, ◌⊎◌, inl, inr, refl, sym, ap, ◌∙◌, subst, ⊎_elim, arith}
+use Rattle.std.proofs.Common.{◌≡◌, ℕ, zero, suc, ◌+◌, List, [], ◌∷◌, true, not, Option, Some, None, inl, inr, refl, sym, ap, ◌∙◌, subst, ⊎_elim, arith}
 use Rattle.std.specs.Prelude.{slice_get, option_and_then, filter}
 use Rattle.std.specs.List.{AllByRecursion}
-use Rattle.std.proofs.lemmas.Bool.{not_from_false, not-true, true≢false, false_from_ne_true}
+use Rattle.std.proofs.lemmas.Bool.{not_from_false}
 use Rattle.list_spec.specs.LineKind.{FilterLine, line_of}
 use Rattle.list_spec.specs.Says.{filter_in}
-use Rattle.compile_spec.specs.Alike.{alike}
 use Rattle.compile_spec.specs.Compiled.{Placed, and_filter, placed_from, Group, alike_to, groups_of}
-use Rattle.compile_laws.proofs.Lists.{Has, In, true_or_false, in_has, has_in, in_each, each_in, each_weaker, each_filtered, has_weaker, in_filtered, in_unfiltered}
+use Rattle.compile_laws.proofs.Lists.{Has, In, true_or_false, in_has, has_in, in_each, each_in, each_weaker, each_filtered, in_filtered, in_unfiltered}
 use Rattle.compile_laws.proofs.Likeness.{alike_through}
 
 -- ---- filters and their places

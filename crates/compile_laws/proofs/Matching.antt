@@ -12,7 +12,7 @@ use Rattle.dnr_spec.specs.Party.{is_third_party}
 use Rattle.rule_spec.specs.Rule.{Condition}
 use Rattle.rule_spec.specs.Holds as rules
 use Rattle.rule_spec.specs.Holds.{fits_url, has_match, is_among, is_from, is_not_from, has_methods, is_not_by, holds_on}
-use Rattle.list_spec.specs.LineKind.{FilterPattern, every_url, plain, regex, FilterLine}
+use Rattle.list_spec.specs.LineKind.{FilterPattern, every_url, plain, regex}
 use Rattle.list_spec.specs.Says.{matches_url, is_party, is_for, matches}
 use Rattle.compile_spec.specs.Initiators.{Initiators, initiators_of}
 use Rattle.compile_spec.specs.Compiled.{Standing, url_filter_of, regex_filter_of, condition_of}

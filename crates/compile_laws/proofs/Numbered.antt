@@ -1,5 +1,5 @@
 -- Drafts and rules with ids.
-use Rattle.std.proofs.Common.{◌≡◌, ℕ, ◌+◌, suc, List, [], ◌∷◌, inl, inr, arith}
+use Rattle.std.proofs.Common.{ℕ, ◌+◌, suc, List, [], ◌∷◌, inl, inr, arith}
 use Rattle.std.specs.List.{Contains, AllByRecursion}
 use Rattle.compile_spec.specs.Compiled.{Draft, CompiledRule, rule_of, with_ids}
 use Rattle.compile_laws.proofs.Lists.{Has, In}

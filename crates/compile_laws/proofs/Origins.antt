@@ -1,6 +1,6 @@
 -- The rules of a list and the lines that they come from.
-use Rattle.std.proofs.Common.{◌≡◌, ℕ, zero, suc, ◌+◌, ◌<◌, List, [], ◌∷◌, ◌++◌, map, length, Bool, true, false, cond, Option, Some, None, inl, inr, refl, sym, ap, ◌∙◌, subst, arith}
-use Rattle.std.specs.Prelude.{codes, All}
+use Rattle.std.proofs.Common.{◌≡◌, ℕ, zero, suc, ◌+◌, ◌<◌, List, [], ◌∷◌, ◌++◌, map, length, Bool, true, false, cond, Option, Some, inl, inr, refl, sym, ap, ◌∙◌, subst, arith}
+use Rattle.std.specs.Prelude.{All}
 use Rattle.std.specs.List.{Contains, list_any, filter_map, cons_option, AllByRecursion}
 use Rattle.std.proofs.lemmas.Bool.{and_parts, and_from}
 use Rattle.std.proofs.lemmas.List.Elements.{All-from_recursion}
@@ -16,10 +16,10 @@ use Rattle.list_spec.specs.LineKind.{FilterLine}
 use Rattle.list_spec.specs.Says.{matches, fits_request}
 use Rattle.compile_spec.specs.Alike.{plain_domain, ascending}
 use Rattle.compile_spec.specs.Initiators.{Initiators, initiators_of}
-use Rattle.compile_spec.specs.Compiled.{Placed, placed_from, Group, groups_of, Standing, standing_with, standing, alike_to, Effect, blocks, allows, exempts, action_of, kinds_for, on_types, on_pages, effects_of, Draft, drafts_with, drafts_of, drafts_in, CompiledRule, with_ids, compiled}
+use Rattle.compile_spec.specs.Compiled.{Placed, placed_from, Group, groups_of, Standing, standing_with, standing, Effect, blocks, allows, action_of, kinds_for, on_types, on_pages, effects_of, Draft, drafts_with, drafts_of, drafts_in, CompiledRule, with_ids, compiled}
 use Rattle.compile_laws.specs.Origins.{filter_at, HasOrigin, HasRule, DoesAs, IsDoneFor, IsOfDomain, HasDomainOf, HasLineOf, NamesItsLines}
 use Rattle.compile_laws.specs.Laws.{RulesHoldByTheirLines, LinesHoldByTheirRules, RulesDoAsTheirLines, RulesNameTheirLines}
-use Rattle.compile_laws.proofs.Lists.{Has, In, has_in, in_has, each_in, in_each, any_in, any_out, each_joined, each_weaker, each_mapped, each_flat, has_left, has_right, has_mapped, has_unmapped, has_flat}
+use Rattle.compile_laws.proofs.Lists.{Has, In, has_in, in_has, each_in, in_each, any_in, any_out, each_joined, each_weaker, each_mapped, each_flat, has_left, has_mapped, has_flat}
 use Rattle.compile_laws.proofs.Groups.{filter_in_place, IsPlaced, each_placed, placed_there, IsGroup, are_groups, IsMember, in_a_group}
 use Rattle.compile_laws.proofs.Numbered.{one_of, each_numbered, has_numbered, contains}
 use Rattle.compile_laws.proofs.Likeness.{Agrees}

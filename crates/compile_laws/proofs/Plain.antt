@@ -1,13 +1,11 @@
 -- Plain domains, and texts in ascending order.
-use Rattle.std.proofs.Common.{◌≡◌, ℕ, zero, suc, ◌+◌, ◌-◌, ◌≤◌, ◌<◌, List, [], ◌∷◌, ◌++◌, length, map, take, drop, Bool, true, false, cond, ◌&&◌, ◌||◌, Option, Some, None, ◌⊎◌, inl, inr, refl, sym, ap, ◌∙◌, subst, ⊎_elim, arith}
-use Rattle.std.specs.Prelude.{codes, fold, nat_le, nat_lt, nat_eq, option_and_then}
+use Rattle.std.proofs.Common.{◌≡◌, ℕ, ◌-◌, List, [], ◌∷◌, ◌++◌, length, take, drop, Bool, true, false, cond, ◌&&◌, Option, Some, None, ◌⊎◌, inl, inr, refl, sym, ap, ◌∙◌, subst, ⊎_elim, arith}
+use Rattle.std.specs.Prelude.{codes, fold, nat_eq, option_and_then}
 use Rattle.std.specs.BTreeSet.{insert_key}
 use Rattle.std.specs.Char.{to_ascii_lowercase}
 use Rattle.std.specs.Cmp.Lexicographic.{slice_cmp}
 use Rattle.std.specs.List.{list_all, starts_with, ends_with, AllByRecursion}
 use Rattle.std.specs.Ordering.{is_eq, match_ordering, nat_cmp}
-use Rattle.std.specs.Ordering as ordering
-use Rattle.std.specs.Str.{bytes_eq}
 use Rattle.std.specs.declared.cmp.Ordering.{Ordering}
 use Rattle.std.specs.declared.cmp.Ordering.TheVariants.{Less, Equal, Greater}
 use Rattle.std.proofs.lemmas.Bool.{and_parts}
@@ -19,7 +17,7 @@ use Rattle.dnr_spec.specs.Hosts.{labels_of}
 use Rattle.dnr_spec.specs.Domains.{is_domain, lower_case}
 use Rattle.list_spec.specs.LineKind.{FilterPattern, every_url, plain, regex}
 use Rattle.compile_spec.specs.Alike.{ends_in_letters, is_plain_domain, behind_bars, before_caret, if_plain, plain_domain, ascending}
-use Rattle.compile_laws.proofs.Lists.{Has, In, has_in, in_each, each_in}
+use Rattle.compile_laws.proofs.Lists.{Has, in_each, each_in}
 use Rattle.compile_laws.proofs.Covered.{take_and_drop}
 
 -- ---- plain domains

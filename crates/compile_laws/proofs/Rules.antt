@@ -1,5 +1,5 @@
 -- The rules of a filter list are rules.
-use Rattle.std.proofs.Common.{◌≡◌, ℕ, ◌+◌, ◌≤◌, ◌<◌, List, [], ◌∷◌, zero, suc, inl, inr, length, map, true, false, not, Option, Some, None, Ok, refl, sym, ap, ◌∙◌, arith}
+use Rattle.std.proofs.Common.{◌≡◌, ℕ, ◌+◌, ◌≤◌, ◌<◌, List, [], ◌∷◌, zero, suc, inl, length, map, true, false, not, Option, Some, None, Ok, refl, ap, ◌∙◌, arith}
 use Rattle.std.specs.Prelude.{IsTrue, is_none, is_some, ◌||◌, IfSome, filter, nat_lt, nat_le}
 use Rattle.std.specs.List.{position_or_len, filter_map, cons_option, AllByRecursion}
 use Rattle.std.proofs.lemmas.Bool.{and_from, cond-true, cond-false, le-leb}
@@ -9,8 +9,7 @@ use Rattle.dnr_base.specs.declared.kind.Kind.{Kind}
 use Rattle.dnr_spec.specs.Domains.{is_domain, lower_case, unless_bad}
 use Rattle.rule_spec.specs.IsRule.{IsRule, IsCondition, AreDomains, IsGivenWhole, is_number}
 use Rattle.list_spec.specs.declared.domain_entry.DomainEntry.{DomainEntry}
-use Rattle.list_spec.specs.LineKind.{FilterPattern, every_url, plain, regex, FilterLine, line_of}
-use Rattle.list_spec.specs.Says.{filter_in}
+use Rattle.list_spec.specs.LineKind.{FilterPattern, every_url, plain, regex, FilterLine}
 use Rattle.compile_spec.specs.Alike.{plain_domain, ascending}
 use Rattle.compile_spec.specs.Initiators.{Initiators, each_once, listed_in, excluded_in, lies_under, those_under, nested, not_nested, in_one, shared, single, in_several, initiators_of}
 use Rattle.compile_spec.specs.Compiled.{Placed, placed_from, alike_to, Group, groups_of, Standing, standing_with, standing, effects_of, Effect, blocks, allows, exempts, url_filter_of, regex_filter_of, condition_of, Draft, drafts_with, drafts_of, drafts_in, rule_of, with_ids, compiled}

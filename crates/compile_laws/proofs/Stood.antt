@@ -1,9 +1,8 @@
 -- What stands for filters that are alike matches exactly where one of them does.
-use Rattle.std.proofs.Common.{◌≡◌, ℕ, List, [], ◌∷◌, ◌++◌, map, Bool, true, false, not, ◌||◌, ◌&&◌, Option, Some, None, inl, inr, refl, sym, ap, ◌∙◌, subst}
-use Rattle.std.specs.Prelude.{codes, is_some}
+use Rattle.std.proofs.Common.{◌≡◌, ℕ, List, [], ◌∷◌, map, Bool, true, false, not, ◌||◌, ◌&&◌, Option, Some, None, inl, inr, refl, sym, ap, ◌∙◌, subst}
+use Rattle.std.specs.Prelude.{is_some}
 use Rattle.std.specs.List.{list_any, filter_map, cons_option, AllByRecursion}
-use Rattle.std.proofs.lemmas.Bool.{and_parts}
-use Rattle.dnr_base.specs.View.{View, IsView, host_of}
+use Rattle.dnr_base.specs.View.{IsView, host_of}
 use Rattle.dnr_base.specs.Request.{Part}
 use Rattle.dnr_spec.specs.Domains.{covers, covers_some}
 use Rattle.dnr_spec.specs.Suffixes.{SuffixRule}
@@ -11,12 +10,12 @@ use Rattle.dnr_spec.specs.Party.{is_third_party}
 use Rattle.list_spec.specs.LineKind.{FilterPattern, FilterLine}
 use Rattle.list_spec.specs.Says.{matches_url, is_party, is_for, matches}
 use Rattle.compile_spec.specs.Alike.{plain_domain, ascending}
-use Rattle.compile_spec.specs.Compiled.{Placed, placed_from, Group, alike_to, standing, standing_with}
+use Rattle.compile_spec.specs.Compiled.{Placed, placed_from, Group, alike_to, standing_with}
 use Rattle.compile_laws.proofs.Bools.{or_false}
-use Rattle.compile_laws.proofs.Lists.{In, Has, each_in, in_each, each_weaker, has_passing, any_passes}
+use Rattle.compile_laws.proofs.Lists.{In, each_in, in_each, each_weaker, has_passing, any_passes}
 use Rattle.compile_laws.proofs.Supported.{IsSupported}
-use Rattle.compile_laws.proofs.Plain.{HasDomain, has_domain, has_ascending, had_ascending}
-use Rattle.compile_laws.proofs.Likeness.{Agrees, IsAlike, reads_alike, reads_agree, agree_itself}
+use Rattle.compile_laws.proofs.Plain.{has_domain, has_ascending, had_ascending}
+use Rattle.compile_laws.proofs.Likeness.{Agrees, reads_alike, reads_agree, agree_itself}
 use Rattle.compile_laws.proofs.Entries.{same_for}
 use Rattle.compile_laws.proofs.Groups.{IsGroup}
 use Rattle.compile_laws.proofs.Rules.{each_supported}
