@@ -1,6 +1,6 @@
 -- Which filters of a list stand as one in its rules: those of one plain domain each that agree in all else but the case
 -- of letters, which counts nowhere in a domain.
-use Rattle.std.specs.Prelude.{ℕ, ◌-◌, List, [], ◌∷◌, map, fold, length, take, drop, codes, Bool, false, not, ◌&&◌, nat_le, nat_eq, Option, Some, None, is_some, option_and_then, if◌then◌else◌}
+use Rattle.std.specs.Prelude.{ℕ, ◌-◌, List, [], ◌∷◌, map, fold, length, take, drop, codes, Bool, true, false, not, ◌&&◌, nat_le, nat_eq, Option, Some, None, is_some, option_and_then, if◌then◌else◌}
 use Rattle.std.specs.BTreeSet.{insert_key}
 use Rattle.std.specs.Cmp.Lexicographic.{pointwise, slice_cmp}
 use Rattle.std.specs.List.{list_all, list_any, starts_with, ends_with}
