@@ -8,7 +8,6 @@ ghost use Rattle.std.specs.Option.{option_copied};
 ghost use Rattle.dnr_spec.specs.Party as spec;
 ghost use Rattle.dnr_spec.specs.Suffixes.{registrable};
 
-
 pub use suffix_list::SuffixList;
 
 /// Whether a request for this host is third party, with the host of its initiator where it has one: its domain

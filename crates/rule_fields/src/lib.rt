@@ -9,4 +9,3 @@ mod response_tests;
 
 pub use fields::{Fields, read_fields};
 pub use response_tests::TestFields;
-
