@@ -8,7 +8,7 @@ use Rattle.dnr_io.specs.declared.shelf.ShelfRefusal.TheVariants as shelf
 use Rattle.json_spec.specs.Json.{tree_of}
 use Rattle.json_spec.specs.RulesFile.{max_file}
 use Rattle.load_spec.specs.Files.{Files, HoldsLongFile}
-use Rattle.load_spec.specs.Manifest.{Resource, ManifestFault, no_json, at, manifest_in, manifest_of, manifest_of_tree, or_fault}
+use Rattle.load_spec.specs.Manifest.{Manifest, ManifestFault, no_json, at, manifest_in, manifest_of, manifest_of_tree, or_fault}
 use Rattle.load_spec.specs.Extensions.{manifest_name, manifest_cause, HoldsManifest, BreaksManifest}
 use Rattle.manifest_read.specs.declared.fault.Fault.{Fault}
 use Rattle.manifest_read.specs.declared.fault.Fault.TheVariants.{BadJson, At, NoMemory}
@@ -21,10 +21,10 @@ bytes_at_fault bytes d BadJson is h = absurd h
 bytes_at_fault bytes d (At field) is h = ap manifest_of_tree (sym is) ∙ ap or_fault h
 bytes_at_fault bytes d NoMemory is h = tt
 
-pub holds_manifest : (known : Option Files) (name file bytes : List ℕ) (resources : List Resource) → file ≡ manifest_name name → Holds known file bytes → length bytes ≤ max_file
-    → manifest_of bytes ≡ Ok resources → IfSome known (λ files. HoldsManifest files name resources)
-holds_manifest None name file bytes resources named held short read = tt
-holds_manifest (Some files) name file bytes resources named held short read = record {
+pub holds_manifest : (known : Option Files) (name file bytes : List ℕ) (manifest : Manifest) → file ≡ manifest_name name → Holds known file bytes → length bytes ≤ max_file
+    → manifest_of bytes ≡ Ok manifest → IfSome known (λ files. HoldsManifest files name manifest)
+holds_manifest None name file bytes manifest named held short read = tt
+holds_manifest (Some files) name file bytes manifest named held short read = record {
   bytes = bytes;
   file = record { held = ap files (sym named) ∙ held; short = short };
   read = read;

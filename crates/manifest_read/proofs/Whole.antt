@@ -90,4 +90,4 @@ by_sets files rose name manifest NoMemory held why = tt
 pub refused_by_sets : (known : Option Files) (rose : Type 0) (name : List ℕ) (manifest : Manifest) (refusal : ManifestRefusal) → IfSome known (λ files. HoldsManifest files name manifest)
     → IfSome known (λ files. RefusesSets files rose name manifest.resources refusal) → IfSome known (λ files. Refuses files rose name refusal)
 refused_by_sets None rose name manifest refusal held why = tt
-refused_by_sets (Some files) rose name resources refusal manifest why = by_sets files rose name manifest refusal held why
+refused_by_sets (Some files) rose name manifest refusal held why = by_sets files rose name manifest refusal held why

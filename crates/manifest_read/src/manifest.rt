@@ -90,7 +90,8 @@ fn each_pattern(alloc: Global, values: &[Value]) -> Result<Option<Items<MatchPat
         let Some(text) = value.as_str() else {
             return Ok(None);
         };
-        patterns.push(MatchPattern::read(alloc, text)?)?;
+        let pattern = MatchPattern::read(alloc, text)?;
+        patterns.push(pattern)?;
     }
     Ok(Some(Items::build(patterns)))
 }
