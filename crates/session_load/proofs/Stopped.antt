@@ -82,9 +82,9 @@ set_wider files A B name refused resource wider why = record {
 extension_wider : (files : Files) (A B : Type 0) (name : List ℕ) (refused : RefusedFile) → (A → B) → RefusesExtension files A name refused → RefusesExtension files B name refused
 extension_wider files A B name refused wider (inl manifest) = inl manifest
 extension_wider files A B name refused wider (inr sets) = inr (record {
-  resources = sets.resources;
   manifest = sets.manifest;
-  first = ends_wider (HoldsSet files name) (BreaksSet files A name refused) (BreaksSet files B name refused) sets.resources (λ resource why. set_wider files A B name refused resource wider why) sets.first;
+  held = sets.held;
+  first = ends_wider (HoldsSet files name) (BreaksSet files A name refused) (BreaksSet files B name refused) sets.manifest.resources (λ resource why. set_wider files A B name refused resource wider why) sets.first;
 })
 
 pub one_wider : (files : Files) (A B : Type 0) (line : List ℕ) (installed : Installed) → (A → B) → Refuses files A line installed → Refuses files B line installed
