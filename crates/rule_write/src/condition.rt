@@ -11,7 +11,7 @@ ghost use Rattle.dnr_base.specs.MethodSet.{methods_of};
 ghost use Rattle.json_spec.specs.RuleFields.{method_set};
 
 use crate::fields::{put, put_text, true_or_none, unless_empty};
-use crate::header_tests::{given_tests, test_values};
+use crate::response_tests::{given_tests, test_values};
 use crate::sets::{
     are_default, domain_values, kind_values, kinds_in, method_values, methods_in, tab_values,
 };

@@ -6,7 +6,7 @@
 mod action;
 mod condition;
 mod fields;
-mod header_tests;
+mod response_tests;
 mod rules;
 mod sets;
 

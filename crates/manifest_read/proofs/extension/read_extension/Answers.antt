@@ -17,7 +17,7 @@ returns-in_err-sets-clause-refused g c =
     let refusal = c.in_err-sets.field-0.0 in
     let in_order = subst (λ (rs : List Resource). IfSome (g.F.Source.files c.read_manifest.new.shelf) (λ files. RefusesSets files rose c.args.name.now rs refusal)) c.deref.ensures.value c.in_err-sets.ensures.refused in
     let of_manifest = subst (λ (rs : List Resource). IfSome (g.F.Source.files c.read_manifest.new.shelf) (λ files. RefusesSets files rose c.args.name.now rs refusal))
-        (ap (λ (m : Manifest). m.resources) c.manifest.view_is) in_order in
+    (ap (λ (m : Manifest). m.resources) c.manifest.view_is) in_order in
     let why = subst (λ k. IfSome k (λ files. RefusesSets files rose c.args.name.now resources refusal)) c.in_ok-manifest.ensures.files of_manifest in
     let whole = refused_by_sets known rose c.args.name.now manifest refusal c.in_ok-manifest.ensures.ok why in
     subst (λ r. IfErr r (λ e. IfSome known (λ files. Refuses files rose c.args.name.now e))) (sym p.1)
