@@ -3,7 +3,7 @@ use crate::shelves::{shelf, words};
 use dnr_base::{Copied, Items, Text};
 use dnr_rules::Rule;
 use dnr_words::{Installed, Task, read_words};
-use manifest_read::{ManifestRefusal, read_extension};
+use manifest_read::{ManifestPath, ManifestRefusal, read_extension};
 use regex_host::{ListHost, PackHost};
 use rule_spec::RuleKind;
 use ruleset_store::{Extension, Refusal, RuleSet, Store, Update};
@@ -22,6 +22,15 @@ fn words_are_a_command(rt: HostRuntime) -> Result<(), Fail> {
     assert!(rt; matches!(installed.first(), Some(Installed::List("l", "e=f"))));
     assert!(rt; matches!(installed.last(), Some(Installed::Folder("shop"))));
     assert!(rt; read_words(&words[..1]).is_none());
+    Ok(())
+}
+
+// The second call of the shelf would be a fault.
+#[test]
+fn a_path_that_leaves_the_folder_opens_no_file(rt: HostRuntime) -> Result<(), Fail> {
+    let mut host = PackHost::new(rt.alloc())?;
+    let read = read_extension(rt.alloc(), &mut shelf(rt.alloc(), 2)?, "out", &mut host);
+    assert!(rt; matches!(&read, Err(ManifestRefusal::BadManifest(ManifestPath::Path))));
     Ok(())
 }
 

@@ -3,7 +3,7 @@ use dnr_base::NoMemory;
 use dnr_io::{MemoryFile, MemoryShelf};
 use std::alloc::Global;
 
-// Rules, a list, a suffix list, an extension of a folder and scripts.
+// Rules, a list, a suffix list, an extension, one with a path that leaves its folder, and requests.
 const FILES: &[(&str, &str)] = &[
     (
         "r.json",
@@ -18,6 +18,10 @@ const FILES: &[(&str, &str)] = &[
     (
         "shop/s.json",
         r#"[{"id":5,"condition":{},"action":{"type":"block"}}]"#,
+    ),
+    (
+        "out/manifest.json",
+        r#"{"declarative_net_request":{"rule_resources":[{"id":"a","enabled":true,"path":"a.json"},{"id":"b","enabled":true,"path":"../shop/s.json"}]}}"#,
     ),
     (
         "q.jsonl",
