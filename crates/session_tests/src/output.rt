@@ -9,10 +9,11 @@ use explain_report::{
 };
 use json_spec::{CommandPath, LineFault};
 use list_spec::Reason;
-use load_spec::{ManifestPath, Refusal};
+use load_spec::ManifestPath;
 use rule_spec::{Outcome, PlacedRefusal, RuleRefusal};
 use std::alloc::Global;
 use std::test::Fail;
+use update_spec::Refusal;
 
 fn rule(alloc: Global) -> Result<RuleName, Fail> {
     Ok(RuleName {
