@@ -8,8 +8,8 @@ use Rattle.generation.specs.declared.first.FirstRefusal.{FirstRefusal}
 use Rattle.generation.specs.declared.first.FirstRefusal.TheVariants.{Refused}
 use Rattle.generation.specs.First.{IsFirstRefusal}
 use Rattle.load_spec.specs.Files.{Files, HoldsRules, HoldsLongFile}
-use Rattle.load_spec.specs.Installing.{opening}
-use Rattle.load_spec.specs.declared.refusal.Refusal.{Refusal}
+use Rattle.update_spec.specs.Entries.{opening}
+use Rattle.update_spec.specs.declared.refusal.Refusal.{Refusal}
 use Rattle.rule_spec.specs.declared.rule_kind.RuleKind.{RuleKind}
 use Rattle.rule_spec.specs.declared.rule_kind.RuleKind.TheVariants.{Static}
 use Rattle.rule_spec.specs.Rule.{Rule}

@@ -9,7 +9,7 @@ use Rattle.dnr_spec.specs.declared.status.Status.TheVariants as status
 use Rattle.generation.specs.Basis.{Basis}
 use Rattle.json_spec.specs.Written.{written as json_text}
 use Rattle.load_spec.specs.Files.{Files}
-use Rattle.load_spec.specs.Installing.{RefusedInstall, opening}
+use Rattle.update_spec.specs.Entries.{RefusedInstall, opening}
 use Rattle.rule_spec.specs.State.{State}
 use Rattle.session_load.specs.declared.lists.CompiledList.{CompiledList}
 use Rattle.session_load.specs.declared.stop.Stop.{Stop}

@@ -14,10 +14,10 @@ use dnr_base::NoMemory;
 use dnr_io::{LineRefusal, Shelf, Sink, Status, read_lines};
 use explain_report::write_install_refusal;
 use generation::{FirstRefusal, Generation};
-use load_spec::Refusal;
 use regex_host::RegexHost;
 use session_load::{Loaded, Stop};
 use std::alloc::Global;
+use update_spec::Refusal;
 
 /// Installs what was loaded, reads the script and answers its lines. Where the session postpones them, lines that ask for
 /// updates are answered as what is not there yet. `finder` finds the matches of patterns.

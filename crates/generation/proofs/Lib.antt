@@ -7,4 +7,3 @@ mod Scanned
 mod Rest
 mod Blamed
 mod Taken
-mod Opening

@@ -20,12 +20,17 @@ lives_at rank set disabled rules origins = filter_map (live_at rank set disabled
 abbrev pub lines_at : List (List ℕ) → ℕ → List ℕ
 lines_at origins place = unwrap_or (slice_get origins place) []
 
+-- the ids that are switched off, if any may be
+abbrev pub ids_off : Option (Bor (List ℕ)) → List ℕ
+ids_off None = []
+ids_off (Some disabled) = disabled.now
+
 -- the rule at a place of a block, if it is in force
 abbrev pub live_in : Block → ℕ → Rule → Option Live
-live_in block place rule = live_at block.rank block.set.now block.disabled.now (rule, lines_at block.origins.now place)
+live_in block place rule = live_at block.rank block.set.now (ids_off block.disabled) (rule, lines_at block.origins.now place)
 
 abbrev pub lives_in : Block → List Live
-lives_in block = lives_at block.rank block.set.now block.disabled.now block.rules.now block.origins.now
+lives_in block = lives_at block.rank block.set.now (ids_off block.disabled) block.rules.now block.origins.now
 
 -- the rules that were added to an extension since it was installed
 abbrev pub added_to : Extension → List Live

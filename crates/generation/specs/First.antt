@@ -1,9 +1,9 @@
 -- Why there is no generation to begin with.
 use Rattle.std.specs.Prelude.{◌≡◌, ◌≢◌, ℕ, List, Result, Err}
 use Rattle.rule_spec.specs.State.{State}
-use Rattle.load_spec.specs.Installing.{RefusedInstall}
-use Rattle.load_spec.specs.declared.refusal.Refusal.{Refusal}
-use Rattle.load_spec.specs.declared.refusal.Refusal.TheVariants as cause
+use Rattle.update_spec.specs.Entries.{RefusedInstall}
+use Rattle.update_spec.specs.declared.refusal.Refusal.{Refusal}
+use Rattle.update_spec.specs.declared.refusal.Refusal.TheVariants as cause
 use Rattle.generation.specs.declared.first.FirstRefusal.{FirstRefusal}
 use Rattle.generation.specs.declared.first.FirstRefusal.TheVariants.{Refused, NoMemory}
 

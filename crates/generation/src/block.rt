@@ -1,21 +1,21 @@
 ghost use Rattle.std.specs.Prelude.{◌≡◌, codes, true};
 ghost use Rattle.dnr_base.specs.declared.rank.Rank.TheVariants as rank;
 ghost use Rattle.rule_spec.specs.State as spec;
-ghost use Rattle.generation.specs.Block.{lines_at, lives_in};
+ghost use Rattle.generation.specs.Block.{ids_off, lines_at, lives_in};
 
 use crate::live::Live;
 use dnr_base::{Items, Rank};
 use dnr_rules::Rule;
-use ruleset_store::{Extension, RuleSet};
+use ruleset_store::{DisabledIds, InstalledExtension, InstalledSet, RuleList};
 
 // Rules that stand together, with the lines that each comes from, if any, and the ids of those that are switched off.
 #[derive(Drop)]
 pub(crate) struct Block<'a> {
     rank: Rank,
     set: &'a str,
-    pub rules: &'a [Rule],
+    pub rules: &'a RuleList,
     origins: &'a [Items<u32>],
-    disabled: &'a [u32],
+    disabled: Option<&'a DisabledIds>,
 }
 
 // The lines of the rule at a place.
@@ -29,15 +29,18 @@ fn lines_at(origins: &[Items<u32>], place: usize) -> &[u32]
 }
 
 // Whether the id is one of those that are switched off.
-fn is_off(disabled: &[u32], id: u32) -> bool
-    ensures { result ≡ spec.has_number disabled.now id }
+fn is_off(disabled: Option<&DisabledIds>, id: u32) -> bool
+    ensures { result ≡ spec.has_number (ids_off disabled) id }
 {
-    disabled.iter().any(|other| id == *other)
+    match disabled {
+        Some(disabled) => disabled.has(id),
+        None => false,
+    }
 }
 
 impl<'a> Block<'a> {
     // Rules that were added to an extension.
-    fn added(rank: Rank, set: &'a str, rules: &'a [Rule]) -> Block<'a>
+    fn added(rank: Rank, set: &'a str, rules: &'a RuleList) -> Block<'a>
         ensures { lives_in result ≡ spec.live_with rank set.now rules.now }
     {
         Block {
@@ -45,19 +48,19 @@ impl<'a> Block<'a> {
             set,
             rules,
             origins: &[],
-            disabled: &[],
+            disabled: None,
         }
     }
 
     // The session rules of an extension.
-    pub(crate) fn session(extension: &'a Extension) -> Block<'a>
+    pub(crate) fn session(extension: &'a InstalledExtension) -> Block<'a>
         ensures { lives_in result ≡ spec.live_with rank.Session (codes "_session") extension.now.session }
     {
         Block::added(Rank::Session, "_session", extension.session())
     }
 
     // The dynamic rules of an extension.
-    pub(crate) fn dynamic(extension: &'a Extension) -> Block<'a>
+    pub(crate) fn dynamic(extension: &'a InstalledExtension) -> Block<'a>
         ensures { lives_in result ≡ spec.live_with rank.Dynamic (codes "_dynamic") extension.now.dynamic }
     {
         Block::added(Rank::Dynamic, "_dynamic", extension.dynamic())
@@ -65,7 +68,7 @@ impl<'a> Block<'a> {
 
     // The rules of the enabled ruleset at this place of its manifest.
     #[tactic(auto, using(crate::proofs::Blocks::set_lives))]
-    pub(crate) fn of_set(place: u32, set: &'a RuleSet) -> Block<'a>
+    pub(crate) fn of_set(place: u32, set: &'a InstalledSet) -> Block<'a>
         requires { set.now.enabled ≡ true }
         ensures { lives_in result ≡ spec.live_of place set.now }
     {
@@ -74,13 +77,13 @@ impl<'a> Block<'a> {
             set: set.id(),
             rules: set.rules(),
             origins: set.origins(),
-            disabled: set.disabled(),
+            disabled: Some(set.disabled()),
         }
     }
 
     // Whether the rule is switched off.
     pub(crate) fn is_off(&self, rule: &Rule) -> bool
-        ensures { result ≡ spec.has_number self.now.disabled.now rule.now.id }
+        ensures { result ≡ spec.has_number (ids_off self.now.disabled) rule.now.id }
     {
         is_off(self.disabled, rule.id())
     }

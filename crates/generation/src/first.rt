@@ -1,5 +1,5 @@
 ghost use Rattle.std.specs.Prelude.{◌≡◌, [], ◌∷◌, Ok, IfOk, IfErr};
-ghost use Rattle.load_spec.specs.Installing as spec;
+ghost use Rattle.update_spec.specs.Entries as spec;
 ghost use Rattle.generation.specs.First.{IsFirstRefusal, IsRefusedSo};
 
 use dnr_base::Text;
@@ -60,10 +60,9 @@ fn with_all(alloc: Global, extensions: Vec<Extension>) -> Result<Store, FirstRef
 }
 
 // The store before any update, once these extensions are installed.
-#[tactic(auto, using(crate::proofs::Opening::opening_refused))]
 pub(crate) fn first_store(alloc: Global, extensions: Vec<Extension>) -> Result<Store, FirstRefusal>
     ensures opened { IfOk result (λ store. spec.opening extensions.items ≡ Ok store) }
     ensures refused { IfErr result (IsFirstRefusal (spec.opening extensions.items)) }
 {
-    Ok(with_all(alloc, extensions)?.opened())
+    with_all(alloc, extensions)
 }

@@ -3,7 +3,7 @@ ghost use Rattle.dnr_base.specs.Request.{max_frames};
 ghost use Rattle.generation.specs.First.{IsFirstRefusal};
 ghost use Rattle.generation.specs.Kept.{kept_from};
 ghost use Rattle.generation.specs.Refused.{Ends};
-ghost use Rattle.load_spec.specs.Installing.{opening};
+ghost use Rattle.update_spec.specs.Entries.{opening};
 ghost use Rattle.rule_spec.specs.PatternRule.{NamesPattern};
 ghost use Rattle.rule_spec.specs.Scan.{scan};
 
@@ -15,7 +15,7 @@ use crate::{DecideRefusal, FirstRefusal};
 use dnr_base::{Request, Steps};
 use dnr_verdict::Verdict;
 use regex_host::RegexHost;
-use ruleset_store::{Extension, Store};
+use ruleset_store::{Extension, InstalledExtension, Store};
 use std::alloc::Global;
 use std::marker::Model;
 use std::sync::ledger::Ledger;
@@ -65,7 +65,7 @@ impl Generation {
     }
 
     /// The extensions, in the order of their installation.
-    pub fn extensions(&self) -> &[Extension]
+    pub fn extensions(&self) -> &[InstalledExtension]
         ensures { result.now ≡ self.now.state.extensions }
     {
         self.store.extensions()

@@ -4,7 +4,7 @@ ghost use Rattle.generation.specs.Kept as spec;
 use crate::live::Live;
 use dnr_base::{Candidate, NoMemory, Verb};
 use precedence::beats;
-use ruleset_store::Extension;
+use ruleset_store::InstalledExtension;
 use std::alloc::Global;
 use std::marker::Model;
 
@@ -48,7 +48,7 @@ fn greater(a: u32, b: u32) -> u32
 
 impl<'a> Kept<'a> {
     // What is kept of the extension, which has this age, before its first rule.
-    pub(crate) fn new(alloc: Global, extension: &'a Extension, age: u32) -> Kept<'a>
+    pub(crate) fn new(alloc: Global, extension: &'a InstalledExtension, age: u32) -> Kept<'a>
         ensures { result ≡ spec.nothing_of extension.now.name age }
     {
         Kept {

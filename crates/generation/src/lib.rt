@@ -23,4 +23,4 @@ pub use first::FirstRefusal;
 pub use generation::Generation;
 pub use refusal::DecideRefusal;
 pub use rule_spec::Outcome;
-pub use ruleset_store::{Extension, Refusal, RuleSet};
+pub use ruleset_store::{Extension, InstalledExtension, Refusal};

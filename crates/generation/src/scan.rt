@@ -17,7 +17,7 @@ use dnr_base::{Request, Steps};
 use dnr_rules::Rule;
 use regex_host::RegexHost;
 use rule_match::{MatchRefusal, PreparedRequest};
-use ruleset_store::{Extension, RuleSet};
+use ruleset_store::{InstalledExtension, InstalledSet, SharedRule};
 use std::alloc::Global;
 use std::marker::Model;
 use std::sync::ledger::Ledger;
@@ -104,13 +104,14 @@ impl<'r> Scan<'r> {
         kept: &mut Kept<'a>,
         block: &Block<'a>,
         place: usize,
-        rule: &'a Rule,
+        shared: &'a SharedRule,
         host: &mut H,
         steps: &mut Steps<L>,
     ) -> Result<(), DecideRefusal>
-        ensures kept { OnOk result (kept.new ≡ spec.with_some self.now.suffixes self.now.request kept.old (live_in block.now place rule.now)) }
-        ensures ends { Ends (IsPattern kept.old.name (option_to_list (live_in block.now place rule.now))) (H.faults host.old) (H.faults host.new) result }
+        ensures kept { OnOk result (kept.new ≡ spec.with_some self.now.suffixes self.now.request kept.old (live_in block.now place shared.now)) }
+        ensures ends { Ends (IsPattern kept.old.name (option_to_list (live_in block.now place shared.now))) (H.faults host.old) (H.faults host.new) result }
     {
+        let rule = shared.rule();
         if block.is_off(rule) {
             return Ok(());
         }
@@ -139,7 +140,7 @@ impl<'r> Scan<'r> {
         ensures ends { Ends (IsPattern kept.entry.name (lives_in block.now)) (H.faults host.old) (H.faults host.new) result }
     {
         let mut kept = kept;
-        for (place, rule) in block.rules.iter().enumerate() {
+        for (place, rule) in block.rules.shared().iter().enumerate() {
             match self.take_at(&mut kept, block, place, rule, host, steps) {
                 Ok(()) => {}
                 Err(refusal) => return Err(refusal),
@@ -153,7 +154,7 @@ impl<'r> Scan<'r> {
         &self,
         kept: Kept<'a>,
         place: usize,
-        set: &'a RuleSet,
+        set: &'a InstalledSet,
         host: &mut H,
         steps: &mut Steps<L>,
     ) -> Result<Kept<'a>, DecideRefusal>
@@ -174,7 +175,7 @@ impl<'r> Scan<'r> {
     fn take_sets<'a, H: RegexHost, L: Ledger>(
         &self,
         kept: Kept<'a>,
-        sets: &'a [RuleSet],
+        sets: &'a [InstalledSet],
         host: &mut H,
         steps: &mut Steps<L>,
     ) -> Result<Kept<'a>, DecideRefusal>
@@ -195,7 +196,7 @@ impl<'r> Scan<'r> {
     fn take_added<'a, H: RegexHost, L: Ledger>(
         &self,
         kept: Kept<'a>,
-        extension: &'a Extension,
+        extension: &'a InstalledExtension,
         host: &mut H,
         steps: &mut Steps<L>,
     ) -> Result<Kept<'a>, DecideRefusal>
@@ -214,7 +215,7 @@ impl<'r> Scan<'r> {
     fn take_extension<'a, H: RegexHost, L: Ledger>(
         &self,
         age: usize,
-        extension: &'a Extension,
+        extension: &'a InstalledExtension,
         host: &mut H,
         steps: &mut Steps<L>,
     ) -> Result<Kept<'a>, DecideRefusal>
@@ -235,7 +236,7 @@ impl<'r> Scan<'r> {
     // What is kept of each extension.
     pub(crate) fn take_all<'a, H: RegexHost, L: Ledger>(
         &self,
-        extensions: &'a [Extension],
+        extensions: &'a [InstalledExtension],
         host: &mut H,
         steps: &mut Steps<L>,
     ) -> Result<Vec<Kept<'a>>, DecideRefusal>

@@ -4,7 +4,7 @@ use Rattle.std.specs.Prelude.{IfSome, min}
 use Rattle.std.specs.List.{AllZip}
 use Rattle.std.proofs.lemmas.List.{drop_more, drop_all, append-nil}
 use Rattle.dnr_base.specs.Faults.{Rose}
-use Rattle.rule_spec.specs.State.{RuleSet}
+use Rattle.update_spec.specs.Update.{NewRuleSet}
 use Rattle.load_spec.specs.Files.{Files}
 use Rattle.load_spec.specs.Manifest.{Resource}
 use Rattle.load_spec.specs.Extensions.{RefusedFile, HoldsSet, BreaksSet, EndsAtOne}
@@ -38,7 +38,7 @@ ends_wider Reads A B (x ∷ xs) wider (inr later) = inr (later.0, later.1, ends_
 
 -- ---- rulesets
 
-pub record AreReadSoFar (known : Option Files) (name : List ℕ) (resources : List Resource) (sets : List RuleSet) (next : ℕ) : Type 0 where
+pub record AreReadSoFar (known : Option Files) (name : List ℕ) (resources : List Resource) (sets : List NewRuleSet) (next : ℕ) : Type 0 where
   pub same : IfSome known (λ files. IsReadTo (HoldsSet files name) resources sets (drop next resources))
 
 pub sets_begin : (known : Option Files) (name : List ℕ) (resources : List Resource) → AreReadSoFar known name resources [] 0
@@ -48,7 +48,7 @@ sets_begin (Some files) name resources = record { same = record { front = []; re
 rest_is : (resources : List Resource) (next : ℕ) (resource : Resource) → next < length resources → resource ≡ get_or resources next resource → drop next resources ≡ resource ∷ drop (next + 1) resources
 rest_is resources next resource inside is = drop_more resources next resource inside ∙ ap (λ r. r ∷ drop (next + 1) resources) (sym is)
 
-pub sets_go : (known : Option Files) (name : List ℕ) (resources : List Resource) (sets : List RuleSet) (next : ℕ) (resource : Resource) (set : RuleSet)
+pub sets_go : (known : Option Files) (name : List ℕ) (resources : List Resource) (sets : List NewRuleSet) (next : ℕ) (resource : Resource) (set : NewRuleSet)
     → next < length resources → resource ≡ get_or resources next resource → AreReadSoFar known name resources sets next
     → IfSome known (λ files. HoldsSet files name resource set) → AreReadSoFar known name resources (sets ++ set ∷ []) (next + 1)
 sets_go None name resources sets next resource set inside is so_far one = record { same = tt }
@@ -61,7 +61,7 @@ sets_go (Some files) name resources sets next resource set inside is so_far one 
   };
 }
 
-pub sets_end : (known : Option Files) (name : List ℕ) (resources : List Resource) (sets : List RuleSet) (next : ℕ) → length resources ≤ next
+pub sets_end : (known : Option Files) (name : List ℕ) (resources : List Resource) (sets : List NewRuleSet) (next : ℕ) → length resources ≤ next
     → AreReadSoFar known name resources sets next → IfSome known (λ files. AllZip (HoldsSet files name) resources sets)
 sets_end None name resources sets next end so_far = tt
 sets_end (Some files) name resources sets next end so_far =
@@ -83,7 +83,7 @@ set_wider files A B name (BadManifest field) resource wider why = why
 set_wider files A B name (RuleRefused file refusal) resource wider why = breaks_wider files A B name _ resource wider why
 set_wider files A B name NoMemory resource wider why = why
 
-stop : (files : Files) (A B : Type 0) (name : List ℕ) (resources : List Resource) (sets : List RuleSet) (next : ℕ) (resource : Resource) (refusal : ManifestRefusal) → (A → B)
+stop : (files : Files) (A B : Type 0) (name : List ℕ) (resources : List Resource) (sets : List NewRuleSet) (next : ℕ) (resource : Resource) (refusal : ManifestRefusal) → (A → B)
     → next < length resources → resource ≡ get_or resources next resource → IsReadTo (HoldsSet files name) resources sets (drop next resources)
     → RefusesSet files A name refusal resource → EndsAtOne (HoldsSet files name) (RefusesSet files B name refusal) resources
 stop files A B name resources sets next resource refusal wider inside is so_far why =
@@ -93,14 +93,14 @@ stop files A B name resources sets next resource refusal wider inside is so_far 
     let rest = subst (λ rs. EndsAtOne Reads Ends rs) (sym (rest_is resources next resource inside is)) ends in
     subst (λ rs. EndsAtOne Reads Ends rs) (sym so_far.all) (ends_behind Reads Ends so_far.front sets (drop next resources) so_far.read rest)
 
-stop_for : (files : Files) (A B : Type 0) (name : List ℕ) (resources : List Resource) (sets : List RuleSet) (next : ℕ) (resource : Resource) (refusal : ManifestRefusal) → (A → B)
+stop_for : (files : Files) (A B : Type 0) (name : List ℕ) (resources : List Resource) (sets : List NewRuleSet) (next : ℕ) (resource : Resource) (refusal : ManifestRefusal) → (A → B)
     → next < length resources → resource ≡ get_or resources next resource → IsReadTo (HoldsSet files name) resources sets (drop next resources)
     → RefusesSet files A name refusal resource → RefusesSets files B name resources refusal
 stop_for files A B name resources sets next resource ReadFault wider inside is so_far why = tt
 stop_for files A B name resources sets next resource NoMemory wider inside is so_far why = tt
 stop_for files A B name resources sets next resource refusal wider inside is so_far why = stop files A B name resources sets next resource refusal wider inside is so_far why
 
-pub sets_stop : (known : Option Files) (A B : Type 0) (name : List ℕ) (resources : List Resource) (sets : List RuleSet) (next : ℕ) (resource : Resource) (refusal : ManifestRefusal) → (A → B)
+pub sets_stop : (known : Option Files) (A B : Type 0) (name : List ℕ) (resources : List Resource) (sets : List NewRuleSet) (next : ℕ) (resource : Resource) (refusal : ManifestRefusal) → (A → B)
     → next < length resources → resource ≡ get_or resources next resource → AreReadSoFar known name resources sets next
     → IfSome known (λ files. RefusesSet files A name refusal resource) → IfSome known (λ files. RefusesSets files B name resources refusal)
 sets_stop None A B name resources sets next resource refusal wider inside is so_far why = tt

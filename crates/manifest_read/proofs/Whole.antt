@@ -4,7 +4,7 @@ use Rattle.std.specs.Prelude.{IfSome}
 use Rattle.std.specs.List.{AllZip}
 use Rattle.rule_spec.specs.declared.rule_kind.RuleKind.TheVariants.{Static}
 use Rattle.rule_spec.specs.Rule.{Rule}
-use Rattle.rule_spec.specs.State.{RuleSet, Extension}
+use Rattle.update_spec.specs.Update.{NewRuleSet, NewExtension}
 use Rattle.json_spec.specs.RulesFile.{bad_json, bad_rules}
 use Rattle.load_spec.specs.Files.{Files, HoldsLongFile, HoldsRules}
 use Rattle.load_spec.specs.Manifest.{Resource}
@@ -20,7 +20,7 @@ use Rattle.manifest_read.proofs.Sets.{ends_wider}
 
 -- ---- a ruleset
 
-pub holds_set : (known : Option Files) (name : List ℕ) (resource : Resource) (rules : List Rule) (set : RuleSet) → set ≡ set_of resource rules
+pub holds_set : (known : Option Files) (name : List ℕ) (resource : Resource) (rules : List Rule) (set : NewRuleSet) → set ≡ set_of resource rules
     → IfSome known (λ files. HoldsRules files Static (file_in name resource.path) rules) → IfSome known (λ files. HoldsSet files name resource set)
 holds_set None name resource rules set same loaded = tt
 holds_set (Some files) name resource rules set same loaded = record { rules = rules; loaded = loaded; same = same }
@@ -48,7 +48,7 @@ memory_apart file load.NoMemory apart = tt
 
 -- ---- the extension
 
-pub holds_extension : (known : Option Files) (name : List ℕ) (resources : List Resource) (sets : List RuleSet) (extension : Extension) → extension ≡ extension_of name sets
+pub holds_extension : (known : Option Files) (name : List ℕ) (resources : List Resource) (sets : List NewRuleSet) (extension : NewExtension) → extension ≡ extension_of name sets
     → IfSome known (λ files. HoldsManifest files name resources) → IfSome known (λ files. AllZip (HoldsSet files name) resources sets) → IfSome known (λ files. HoldsExtension files name extension)
 holds_extension None name resources sets extension same manifest loaded = tt
 holds_extension (Some files) name resources sets extension same manifest loaded = record { resources = resources; manifest = manifest; sets = sets; loaded = loaded; same = same }

@@ -50,7 +50,7 @@ pub fn read_extension<F: Shelf, H: RegexHost>(
     let resources = read_manifest(alloc, shelf, name)?;
     let sets = read_sets(alloc, shelf, name, &resources, host)?;
     let own_name = Text::build(String::from_str(alloc, name)?);
-    Ok(Extension::build(own_name, sets, Vec::new(alloc), Vec::new(alloc)))
+    Ok(Extension::build(alloc, own_name, sets, None)?)
 }
 
 // Reads the rulesets that the manifest names.
@@ -163,13 +163,7 @@ fn set_of(alloc: Global, resource: &Resource, rules: Vec<Rule>) -> Result<RuleSe
     ensures { IfOk result (λ set. set ≡ set_of resource.now rules.items) }
 {
     let id = resource.id().copy(alloc)?;
-    Ok(RuleSet::build(
-        id,
-        resource.is_enabled(),
-        rules,
-        Vec::new(alloc),
-        Vec::new(alloc),
-    ))
+    RuleSet::build(alloc, id, resource.is_enabled(), rules, Vec::new(alloc))
 }
 
 fn set_refusal(file: Text, refusal: LoadRefusal) -> ManifestRefusal

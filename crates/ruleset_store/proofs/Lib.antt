@@ -1,1 +1,4 @@
-mod Made
+pub mod Batches
+pub mod IdSets
+pub mod Kept
+pub mod Rows

@@ -1,47 +1,43 @@
-ghost use Rattle.std.specs.Prelude.{◌≡◌, IfOk};
+ghost use Rattle.std.specs.Prelude.{◌≡◌, IfOk, option_map};
 
 use crate::RuleSet;
-use crate::copies::copies;
-use dnr_base::{Copied, NoMemory, Text};
-use dnr_rules::Rule;
+use crate::rule_set::SharedSet;
+use dnr_base::{Items, NoMemory, Text};
 use std::alloc::Global;
 use std::marker::Model;
 
-/// An extension, as it is installed: its static rulesets, and the rules that were added since. A clause sees
-/// the extension of `rule_spec`.
+/// An extension, as it is installed. A clause sees the new extension of `update_spec`.
 #[derive(Debug, Drop)]
 pub struct Extension {
     name: Text,
-    sets: Vec<RuleSet>,
-    dynamic: Vec<Rule>,
-    session: Vec<Rule>,
+    sets: Vec<SharedSet>,
+    access: Option<Items<Text>>,
 }
 
 impl Model for Extension {
-    ghost use Rattle.rule_spec.specs.State as spec;
+    ghost use Rattle.update_spec.specs.Update as spec;
 
-    ghost Value = { spec.Extension };
+    ghost Value = { spec.NewExtension };
 
-    ghost view = { λ e. record { name = e.name; sets = e.sets.items; dynamic = e.dynamic.items; session = e.session.items } };
+    ghost view = { λ e. record { name = e.name; sets = e.sets.items; access = e.access } };
 }
 
 impl Extension {
-    /// An extension of these parts, which takes no memory: its name, its static rulesets in the order of its
-    /// manifest, its dynamic rules and its session rules.
+    /// An extension of these parts: its name, its static rulesets in the order of its manifest, and the texts of the
+    /// match patterns of the requests that it has access to, if they are restricted.
+    ///
+    /// `NoMemory`: no memory is left to share its rulesets.
     pub fn build(
+        alloc: Global,
         name: Text,
         sets: Vec<RuleSet>,
-        dynamic: Vec<Rule>,
-        session: Vec<Rule>,
-    ) -> Extension
-        ensures { result ≡ record { name = name; sets = sets.items; dynamic = dynamic.items; session = session.items } }
+        access: Option<Items<Text>>,
+    ) -> Result<Extension, NoMemory>
+        ensures { IfOk result (λ extension. extension
+            ≡ record { name = name; sets = sets.items; access = access }) }
     {
-        Extension {
-            name,
-            sets,
-            dynamic,
-            session,
-        }
+        let sets = shared(alloc, sets)?;
+        Ok(Extension { name, sets, access })
     }
 
     /// Its name.
@@ -51,44 +47,31 @@ impl Extension {
         self.name.as_str()
     }
 
+    /// The texts of the match patterns of the requests that it has access to, if they are restricted.
+    pub fn access(&self) -> Option<&[Text]>
+        ensures { option_map (λ texts. texts.now) result ≡ self.now.access }
+    {
+        match &self.access {
+            Some(texts) => Some(texts.as_slice()),
+            None => None,
+        }
+    }
+
     /// Its static rulesets, in the order of its manifest.
-    pub fn sets(&self) -> &[RuleSet]
+    pub fn sets(&self) -> &[SharedSet]
         ensures { result.now ≡ self.now.sets }
     {
         self.sets.as_slice()
     }
-
-    /// Its dynamic rules.
-    pub fn dynamic(&self) -> &[Rule]
-        ensures { result.now ≡ self.now.dynamic }
-    {
-        self.dynamic.as_slice()
-    }
-
-    /// Its session rules.
-    pub fn session(&self) -> &[Rule]
-        ensures { result.now ≡ self.now.session }
-    {
-        self.session.as_slice()
-    }
-
-    /// An equal extension.
-    ///
-    /// `NoMemory`: no memory is left for its parts.
-    pub fn copy(&self, alloc: Global) -> Result<Extension, NoMemory>
-        ensures { IfOk result (λ copy. copy ≡ self.now) }
-    {
-        Ok(Extension {
-            name: self.name.copy(alloc)?,
-            sets: copies(alloc, self.sets())?,
-            dynamic: copies(alloc, self.dynamic())?,
-            session: copies(alloc, self.session())?,
-        })
-    }
 }
 
-impl Copied for Extension {
-    fn copied(&self, alloc: Global) -> Result<Extension, NoMemory> {
-        self.copy(alloc)
+// The rulesets, behind a handle each.
+fn shared(alloc: Global, sets: Vec<RuleSet>) -> Result<Vec<SharedSet>, NoMemory>
+    ensures { IfOk result (λ shared. shared.items ≡ sets.items) }
+{
+    let mut shared = Vec::with_capacity(alloc, sets.len())?;
+    for set in sets {
+        shared.push(SharedSet::new(alloc, set)?)?;
     }
+    Ok(shared)
 }

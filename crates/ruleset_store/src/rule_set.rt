@@ -1,50 +1,62 @@
-ghost use Rattle.std.specs.Prelude.{◌≡◌, IfOk};
+ghost use Rattle.std.specs.Prelude.{◌≡◌, pos, IfOk};
+ghost use Rattle.std.specs.List.{list_any};
+ghost use Rattle.std.specs.Ordering.{int_eq};
 
-use crate::copies::{copies, lists_again};
-use dnr_base::{Copied, Items, NoMemory, Text};
+use crate::RuleList;
+use crate::ids::{has_whole, ids_of};
+use dnr_base::{Items, NoMemory, Text};
 use dnr_rules::Rule;
 use std::alloc::Global;
+use std::collections::BTreeSet;
 use std::marker::Model;
+use std::sync::Arc;
 
-/// A static ruleset of an extension: Chrome's reference of declarativeNetRequest, `Ruleset`. A clause sees
-/// the ruleset of `rule_spec`.
+/// A static ruleset, as its extension brings it: Chrome's reference of declarativeNetRequest, `Ruleset`. A clause sees
+/// the new ruleset of `update_spec`.
 #[derive(Debug, Drop)]
 pub struct RuleSet {
     id: Text,
     enabled: bool,
-    rules: Vec<Rule>,
-    origins: Vec<Items<u32>>,
-    disabled: Vec<u32>,
+    rules: RuleList,
+    origins: Items<Items<u32>>,
+    ids: BTreeSet<i128>,
 }
 
 impl Model for RuleSet {
-    ghost use Rattle.rule_spec.specs.State as spec;
+    ghost use Rattle.update_spec.specs.Update as spec;
+    ghost use Rattle.ruleset_store.specs.Ids.{HasIdsOf};
 
-    ghost Value = { spec.RuleSet };
+    ghost Value = { spec.NewRuleSet };
 
-    ghost view = { λ s. record { id = s.id; enabled = s.enabled; rules = s.rules.items; origins = s.origins.items; disabled = s.disabled.items } };
+    ghost view = { λ s. record { id = s.id; enabled = s.enabled; rules = s.rules; origins = s.origins } };
+
+    ghost invariant = { λ s. HasIdsOf s.ids s.rules };
 }
 
 impl RuleSet {
-    /// A ruleset of these parts, which takes no memory: its id, whether it is enabled, its rules in their
-    /// order, the lines of a filter list that each rule comes from (one list for each rule, or none at all), and
-    /// the ids of the rules that are switched off.
+    /// A ruleset of these parts: its id, whether it is enabled, its rules in their order, and the lines of a filter
+    /// list that each rule comes from (one list for each rule, or none at all).
+    ///
+    /// `NoMemory`: no memory is left to share its rules.
     pub fn build(
+        alloc: Global,
         id: Text,
         enabled: bool,
         rules: Vec<Rule>,
         origins: Vec<Items<u32>>,
-        disabled: Vec<u32>,
-    ) -> RuleSet
-        ensures { result ≡ record { id = id; enabled = enabled; rules = rules.items; origins = origins.items; disabled = disabled.items } }
+    ) -> Result<RuleSet, NoMemory>
+        ensures { IfOk result (λ set. set
+            ≡ record { id = id; enabled = enabled; rules = rules.items; origins = origins.items }) }
     {
-        RuleSet {
+        let rules = RuleList::of(alloc, rules)?;
+        let ids = ids_of(alloc, &rules)?;
+        Ok(RuleSet {
             id,
             enabled,
             rules,
-            origins,
-            disabled,
-        }
+            origins: Items::build(origins),
+            ids,
+        })
     }
 
     /// The id by which its extension names it.
@@ -54,7 +66,7 @@ impl RuleSet {
         self.id.as_str()
     }
 
-    /// Whether its rules are in force.
+    /// Whether its rules are in force once it is installed.
     pub fn is_enabled(&self) -> bool
         ensures { result ≡ self.now.enabled }
     {
@@ -62,10 +74,10 @@ impl RuleSet {
     }
 
     /// Its rules, in their order.
-    pub fn rules(&self) -> &[Rule]
+    pub fn rules(&self) -> &RuleList
         ensures { result.now ≡ self.now.rules }
     {
-        self.rules.as_slice()
+        &self.rules
     }
 
     /// The lines of a filter list that each rule comes from, or nothing.
@@ -75,31 +87,51 @@ impl RuleSet {
         self.origins.as_slice()
     }
 
-    /// The ids of the rules that are switched off.
-    pub fn disabled(&self) -> &[u32]
-        ensures { result.now ≡ self.now.disabled }
+    // Whether one of its rules has this id.
+    pub(crate) fn has_rule(&self, id: i128) -> bool
+        ensures { result ≡ list_any (λ rule. int_eq id (pos rule.id)) self.now.rules }
     {
-        self.disabled.as_slice()
-    }
-
-    /// An equal ruleset.
-    ///
-    /// `NoMemory`: no memory is left for its parts.
-    pub fn copy(&self, alloc: Global) -> Result<RuleSet, NoMemory>
-        ensures { IfOk result (λ copy. copy ≡ self.now) }
-    {
-        Ok(RuleSet {
-            id: self.id.copy(alloc)?,
-            enabled: self.enabled,
-            rules: copies(alloc, self.rules())?,
-            origins: lists_again(alloc, self.origins())?,
-            disabled: Vec::from_slice(alloc, self.disabled())?,
-        })
+        has_whole(&self.ids, id)
     }
 }
 
-impl Copied for RuleSet {
-    fn copied(&self, alloc: Global) -> Result<RuleSet, NoMemory> {
-        self.copy(alloc)
+/// A ruleset that the states after its installation share. A clause sees the ruleset.
+#[derive(Debug, Drop)]
+pub struct SharedSet {
+    set: Arc<RuleSet>,
+}
+
+impl Model for SharedSet {
+    ghost use Rattle.std.specs.Arc.{arc_value};
+    ghost use Rattle.update_spec.specs.Update as spec;
+
+    ghost Value = { spec.NewRuleSet };
+
+    ghost view = { λ s. arc_value s.set };
+}
+
+impl SharedSet {
+    pub(crate) fn new(alloc: Global, set: RuleSet) -> Result<SharedSet, NoMemory>
+        ensures { IfOk result (λ shared. shared ≡ set) }
+    {
+        Ok(SharedSet {
+            set: Arc::new(alloc, set)?,
+        })
+    }
+
+    // The same ruleset once more. It takes no memory.
+    pub(crate) fn again(&self) -> Result<SharedSet, NoMemory>
+        ensures { IfOk result (λ again. again ≡ self.now) }
+    {
+        Ok(SharedSet {
+            set: Arc::try_clone(&self.set)?,
+        })
+    }
+
+    /// The ruleset.
+    pub fn set(&self) -> &RuleSet
+        ensures { result.now ≡ self.now }
+    {
+        &self.set
     }
 }

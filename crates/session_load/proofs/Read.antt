@@ -26,7 +26,7 @@ use Rattle.manifest_read.proofs.Sets.{IsReadTo}
 use Rattle.rule_spec.specs.declared.rule_kind.RuleKind.{RuleKind}
 use Rattle.rule_spec.specs.declared.rule_kind.RuleKind.TheVariants.{Static}
 use Rattle.rule_spec.specs.Rule.{Rule}
-use Rattle.rule_spec.specs.State.{Extension}
+use Rattle.update_spec.specs.Update.{NewExtension}
 use Rattle.session_load.specs.declared.lists.CompiledList.{CompiledList}
 use Rattle.session_load.specs.declared.stop.Stop.{Stop}
 use Rattle.session_load.specs.declared.stop.Stop.TheVariants as stop
@@ -116,11 +116,11 @@ host_fault rose name bytes r line s is rises why prints =
     (record { refusal = host_failed line; refused = (rises, subst (StopsAt (lines_of bytes)) is why); same = refl })
 
 -- the extension of this name with the one ruleset `list`, of these rules and lines
-abbrev with_list : List ℕ → List Rule → List (List ℕ) → Extension
+abbrev with_list : List ℕ → List Rule → List (List ℕ) → NewExtension
 with_list name rules origins =
-    extension_of name (record { id = codes "list"; enabled = true; rules = rules; origins = origins; disabled = [] } ∷ [])
+    extension_of name (record { id = codes "list"; enabled = true; rules = rules; origins = origins } ∷ [])
 
-pub reads_list : (known : Option Files) (name file : List ℕ) (l : CompiledList) (extension : Extension) → IfSome known (λ files. HoldsCompiled files file l) → extension ≡ extension_in name l
+pub reads_list : (known : Option Files) (name file : List ℕ) (l : CompiledList) (extension : NewExtension) → IfSome known (λ files. HoldsCompiled files file l) → extension ≡ extension_in name l
     → IfSome known (λ files. HoldsListExtension files name file extension)
 reads_list None name file l extension held same = tt
 reads_list (Some files) name file l extension held same = record {
@@ -177,7 +177,7 @@ ends_behind R E [] ys rest all ends = ends
 ends_behind R E (first ∷ front) [] rest all ends = absurd all
 ends_behind R E (first ∷ front) (y ∷ ys) rest all ends = inr (y, all.0, ends_behind R E front ys rest all.1 ends)
 
-pub record AreLoadedSoFar (known : Option Files) (installed : List Installed) (all : List Extension) (next : ℕ) : Type 0 where
+pub record AreLoadedSoFar (known : Option Files) (installed : List Installed) (all : List NewExtension) (next : ℕ) : Type 0 where
   pub same : IfSome known (λ files. IsReadTo (Reads files) (map installed_seen installed) all (map installed_seen (drop next installed)))
 
 pub extensions_begin : (known : Option Files) (installed : List Installed) → AreLoadedSoFar known installed [] 0
@@ -189,7 +189,7 @@ rest_is : (installed : List Installed) (next : ℕ) (one : Installed) → next <
 rest_is installed next one inside is =
     ap (map installed_seen) (drop_more installed next one inside) ∙ ap (λ i. installed_seen i ∷ map installed_seen (drop (next + 1) installed)) (sym is)
 
-pub extensions_go : (known : Option Files) (installed : List Installed) (all : List Extension) (next : ℕ) (one : Installed) (extension : Extension)
+pub extensions_go : (known : Option Files) (installed : List Installed) (all : List NewExtension) (next : ℕ) (one : Installed) (extension : NewExtension)
     → next < length installed → one ≡ get_or installed next one → AreLoadedSoFar known installed all next → IfSome known (λ files. Reads files (installed_seen one) extension)
     → AreLoadedSoFar known installed (all ++ extension ∷ []) (next + 1)
 extensions_go None installed all next one extension inside is so_far read = record { same = tt }
@@ -202,7 +202,7 @@ extensions_go (Some files) installed all next one extension inside is so_far rea
   };
 }
 
-pub extensions_end : (known : Option Files) (installed : List Installed) (all : List Extension) (next : ℕ) → length installed ≤ next → AreLoadedSoFar known installed all next
+pub extensions_end : (known : Option Files) (installed : List Installed) (all : List NewExtension) (next : ℕ) → length installed ≤ next → AreLoadedSoFar known installed all next
     → IfSome known (λ files. AllZip (Reads files) (map installed_seen installed) all)
 extensions_end None installed all next end so_far = tt
 extensions_end (Some files) installed all next end so_far =
@@ -210,14 +210,14 @@ extensions_end (Some files) installed all next end so_far =
     subst (λ front. AllZip (Reads files) front all) (sym whole) so_far.same.read
 
 -- what ends one of them, behind those that were read, ends all
-ends_all : (files : Files) (E : words.Installed → Type 0) (installed : List Installed) (all : List Extension) (next : ℕ) (one : Installed)
+ends_all : (files : Files) (E : words.Installed → Type 0) (installed : List Installed) (all : List NewExtension) (next : ℕ) (one : Installed)
     → next < length installed → one ≡ get_or installed next one → IsReadTo (Reads files) (map installed_seen installed) all (map installed_seen (drop next installed)) → E (installed_seen one)
     → EndsAtOne (Reads files) E (map installed_seen installed)
 ends_all files E installed all next one inside is so_far ends =
     subst (EndsAtOne (Reads files) E) (sym (so_far.all ∙ ap (λ rest. so_far.front ++ rest) (rest_is installed next one inside is)))
     (ends_behind (Reads files) E so_far.front all (installed_seen one ∷ map installed_seen (drop (next + 1) installed)) so_far.read (inl ends))
 
-pub extensions_stop : (known : Option Files) (A B : Type 0) (installed : List Installed) (all : List Extension) (next : ℕ) (one : Installed) (s : Stop) → (A → B)
+pub extensions_stop : (known : Option Files) (A B : Type 0) (installed : List Installed) (all : List NewExtension) (next : ℕ) (one : Installed) (s : Stop) → (A → B)
     → next < length installed → one ≡ get_or installed next one → AreLoadedSoFar known installed all next → StopsInOne known A (installed_seen one) s
     → StopsInExtensions known B (map installed_seen installed) s
 extensions_stop None A B installed all next one s wider inside is so_far why = tt
@@ -253,7 +253,7 @@ serving_stopped_by_extensions (Some files) after rose serving rules installed s 
     (subst (λ (list : List words.Installed). StopsInExtensions (Some files) rose list s) these
     (subst (λ (k : Option Files). StopsInExtensions k rose installed s) same why))
 
-pub loads_serving : (known after : Option Files) (serving : Serving) (rules : List SuffixRule) (installed : List words.Installed) (all : List Extension) (loaded : Loaded)
+pub loads_serving : (known after : Option Files) (serving : Serving) (rules : List SuffixRule) (installed : List words.Installed) (all : List NewExtension) (loaded : Loaded)
     → after ≡ known → installed ≡ serving.installed → loaded ≡ record { suffixes = rules; extensions = all } → IfSome known (λ files. ReadsSuffixes files serving.suffixes rules)
     → IfSome after (λ files. AllZip (Reads files) installed all) → IfSome known (λ files. Loads files serving loaded)
 loads_serving None after serving rules installed all loaded same these is read extensions = tt

@@ -5,7 +5,7 @@ use Rattle.load_spec.specs.Extensions.{bad_rules_file, bad_manifest, manifest_na
 use Rattle.manifest_read.specs.declared.refusal.ManifestRefusal.{ManifestRefusal}
 use Rattle.manifest_read.specs.declared.refusal.ManifestRefusal.TheVariants.{ReadFault, FileTooLong, BadJson, BadManifest, RuleRefused, NoMemory}
 use Rattle.load_spec.specs.declared.manifest_path.ManifestPath.{ManifestPath}
-use Rattle.rule_spec.specs.State.{Extension}
+use Rattle.update_spec.specs.Update.{NewExtension}
 use Rattle.rule_spec.specs.declared.placed_refusal.PlacedRefusal.{PlacedRefusal}
 use Rattle.session_load.specs.Stops.{Prints}
 use Rattle.session_load.specs.declared.lists.CompiledList.{CompiledList}
@@ -35,6 +35,6 @@ StopsFor name (RuleRefused file refusal) s = Prints (bad_rule_line file refusal)
 StopsFor name NoMemory s = s ≡ stop.NoMemory
 
 -- the extension of this name whose one ruleset is the list
-abbrev pub extension_in : List ℕ → CompiledList → Extension
+abbrev pub extension_in : List ℕ → CompiledList → NewExtension
 extension_in name list =
-    extension_of name (record { id = codes "list"; enabled = true; rules = list.rules.items; origins = list.report.origins.items; disabled = [] } ∷ [])
+    extension_of name (record { id = codes "list"; enabled = true; rules = list.rules.items; origins = list.report.origins.items } ∷ [])

@@ -7,7 +7,7 @@ use Rattle.load_spec.specs.Extensions.{HoldsExtension}
 use Rattle.load_spec.specs.Files.{Files, HoldsFile, HoldsRules, HoldsSuffixes}
 use Rattle.rule_spec.specs.declared.rule_kind.RuleKind.{RuleKind}
 use Rattle.rule_spec.specs.Rule.{Rule}
-use Rattle.rule_spec.specs.State.{Extension}
+use Rattle.update_spec.specs.Update.{NewExtension}
 use Rattle.session_load.specs.Lists.{HoldsCompiled}
 use Rattle.session_load.specs.declared.lists.CompiledList.{CompiledList}
 use Rattle.session_spec.specs.Loading.{Loaded, Loads, Reads, ReadsSuffixes, HoldsListExtension}
@@ -35,19 +35,19 @@ abbrev pub TellsSuffixFile : Option Files → List ℕ → List SuffixRule → T
 TellsSuffixFile known name rules = IfSome known (λ files. HoldsSuffixes files name rules)
 
 -- the extension of a folder
-abbrev pub TellsFolder : Option Files → List ℕ → Extension → Type 0
+abbrev pub TellsFolder : Option Files → List ℕ → NewExtension → Type 0
 TellsFolder known name extension = IfSome known (λ files. HoldsExtension files name extension)
 
 -- the filter list of a file as an extension of this name
-abbrev pub TellsListAs : Option Files → List ℕ → List ℕ → Extension → Type 0
+abbrev pub TellsListAs : Option Files → List ℕ → List ℕ → NewExtension → Type 0
 TellsListAs known name file extension = IfSome known (λ files. HoldsListExtension files name file extension)
 
 -- either of the two
-abbrev pub TellsOne : Option Files → Installed → Extension → Type 0
+abbrev pub TellsOne : Option Files → Installed → NewExtension → Type 0
 TellsOne known installed extension = IfSome known (λ files. Reads files installed extension)
 
 -- all of them, in their order
-abbrev pub TellsAll : Option Files → List Installed → Vec Extension Global → Type 0
+abbrev pub TellsAll : Option Files → List Installed → Vec NewExtension Global → Type 0
 TellsAll known installed all = IfSome known (λ files. AllZip (Reads files) installed all.items)
 
 abbrev pub TellsServing : Option Files → Serving → Loaded → Type 0

@@ -145,9 +145,9 @@ fn extension_of(alloc: Global, name: &str, list: CompiledList) -> Result<Extensi
     let id = Text::build(String::from_str(alloc, "list")?);
     let CompiledList { rules, report } = list;
     let Report { origins, .. } = report;
-    let set = RuleSet::build(id, true, rules, origins, Vec::new(alloc));
+    let set = RuleSet::build(alloc, id, true, rules, origins)?;
     let mut sets = Vec::new(alloc);
     sets.push(set)?;
     let name = Text::build(String::from_str(alloc, name)?);
-    Ok(Extension::build(name, sets, Vec::new(alloc), Vec::new(alloc)))
+    Extension::build(alloc, name, sets, None)
 }

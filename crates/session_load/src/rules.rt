@@ -83,10 +83,10 @@ fn local(alloc: Global, rules: Vec<Rule>) -> Result<Loaded, NoMemory>
 {
     let id = Text::build(String::from_str(alloc, "rules")?);
     let mut sets = Vec::new(alloc);
-    sets.push(RuleSet::build(id, true, rules, Vec::new(alloc), Vec::new(alloc)))?;
+    sets.push(RuleSet::build(alloc, id, true, rules, Vec::new(alloc))?)?;
     let name = Text::build(String::from_str(alloc, "local")?);
     let mut extensions = Vec::new(alloc);
-    extensions.push(Extension::build(name, sets, Vec::new(alloc), Vec::new(alloc)))?;
+    extensions.push(Extension::build(alloc, name, sets, None)?)?;
     Ok(Loaded {
         suffixes: no_suffixes(alloc)?,
         extensions,

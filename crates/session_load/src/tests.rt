@@ -65,7 +65,10 @@ fn has_ids(rules: &[Rule], ids: &[u32]) -> bool {
 }
 
 fn is_set(set: &RuleSet, id: &str, enabled: bool, ids: &[u32]) -> bool {
-    set.id() == id && set.is_enabled() == enabled && has_ids(set.rules(), ids)
+    let rules = set.rules().shared().iter();
+    set.id() == id
+        && set.is_enabled() == enabled
+        && rules.map(|shared| shared.rule().id()).eq(ids.iter().copied())
 }
 
 #[test]
@@ -97,7 +100,7 @@ fn a_rules_file_is_the_extension_local(rt: HostRuntime) -> Result<(), Fail> {
         local
             .sets()
             .iter()
-            .all(|set| is_set(set, "rules", true, &[7, 3]))
+            .all(|set| is_set(set.set(), "rules", true, &[7, 3]))
     );
     Ok(())
 }
@@ -126,11 +129,11 @@ fn extensions_and_lists_stand_in_the_order_of_the_words(rt: HostRuntime) -> Resu
     assert!(rt;
         list.sets()
             .iter()
-            .all(|set| is_set(set, "list", true, &[1, 2]))
+            .all(|set| is_set(set.set(), "list", true, &[1, 2]))
     );
     let shop = extensions.last().ok_or("no extension")?;
     assert!(rt; shop.name() == "shop" && shop.sets().len() == 1);
-    assert!(rt; shop.sets().iter().all(|set| is_set(set, "s", false, &[5])));
+    assert!(rt; shop.sets().iter().all(|set| is_set(set.set(), "s", false, &[5])));
     Ok(())
 }
 

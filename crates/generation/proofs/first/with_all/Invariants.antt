@@ -1,6 +1,6 @@
 use Rattle.std.proofs.Common.{◌≡◌, length}
 use Rattle.std.specs.Vec.Iter.{into_iter_items, into_iter_len}
-use Rattle.load_spec.specs.Installing.{empty, install_all}
+use Rattle.update_spec.specs.Entries.{empty, install_all}
 use Rattle.generation.proofs.first.with_all.Given as goal
 
 abbrev pub invariant-loop-extension : goal.invariant-loop-extension

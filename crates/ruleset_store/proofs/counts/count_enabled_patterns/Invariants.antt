@@ -1,5 +1,5 @@
 use Rattle.std.proofs.Common.{◌≡◌, take}
-use Rattle.load_spec.specs.Installing.{count_patterns, enabled_sets}
+use Rattle.update_spec.specs.Judge.{count_patterns, enabled_sets}
 use Rattle.ruleset_store.proofs.counts.count_enabled_patterns.Given as goal
 
 abbrev pub invariant-loop-set : goal.invariant-loop-set

@@ -1,5 +1,5 @@
 use Rattle.std.proofs.Common.{◌≡◌, take}
-use Rattle.load_spec.specs.Installing.{count_rules, enabled_sets}
+use Rattle.update_spec.specs.Judge.{count_rules, enabled_sets}
 use Rattle.ruleset_store.proofs.counts.count_enabled_rules.Given as goal
 
 abbrev pub invariant-loop-set : goal.invariant-loop-set

@@ -1,5 +1,5 @@
 use Rattle.std.proofs.Common.{◌≡◌, take}
-use Rattle.load_spec.specs.Installing.{drawn}
+use Rattle.update_spec.specs.Judge.{drawn}
 use Rattle.ruleset_store.proofs.counts.drawn.Given as goal
 
 abbrev pub invariant-loop-extension : goal.invariant-loop-extension

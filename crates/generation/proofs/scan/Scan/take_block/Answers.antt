@@ -1,7 +1,7 @@
 use Rattle.std.proofs.Common.{◌+◌, ◌∙◌, arith, drop, List, option_to_list}
 use Rattle.std.specs.List.{filter_map}
 use Rattle.rule_spec.specs.State.{Live, with_lines}
-use Rattle.generation.specs.Block.{live_at, live_in, lives_in}
+use Rattle.generation.specs.Block.{ids_off, live_at, live_in, lives_in}
 use Rattle.generation.specs.Refused.{IsPattern}
 use Rattle.generation.proofs.Blocks.{block_step}
 use Rattle.generation.proofs.Walked.{cons_is, ends_on, some_is, walked_more, walked_pattern}
@@ -12,7 +12,7 @@ loop-place-preserved g c =
     let block = c.args.block.now in
     let place = c.loop-place.place in
     let live = live_in block place c.rule-item.result in
-    let test = live_at block.rank block.set.now block.disabled.now in
+    let test = live_at block.rank block.set.now (ids_off block.disabled) in
     let rest : List Live = filter_map test (with_lines (drop place block.rules.now) (drop place block.origins.now)) in
     let more : List Live = filter_map test (with_lines (drop (place + 1) block.rules.now) (drop (place + 1) block.origins.now)) in (
       walked_more c.args.self.now.suffixes c.args.self.now.request c.args.kept (lives_in block) (option_to_list live) rest more c.loop-place.kept c.take_at.new.kept c.loop-place.invariant.0
@@ -26,7 +26,7 @@ returns-in-Err-clause-ends g c =
     let block = c.args.block.now in
     let place = c.loop-place.place in
     let live = live_in block place c.rule-item.result in
-    let test = live_at block.rank block.set.now block.disabled.now in
+    let test = live_at block.rank block.set.now (ids_off block.disabled) in
     let rest : List Live = filter_map test (with_lines (drop place block.rules.now) (drop place block.origins.now)) in
     let more : List Live = filter_map test (with_lines (drop (place + 1) block.rules.now) (drop (place + 1) block.origins.now)) in
     ends_on (IsPattern c.loop-place.kept.name (option_to_list live)) (IsPattern c.args.kept.name (lives_in block)) (g.H.RegexHost.faults c.loop-place.host)

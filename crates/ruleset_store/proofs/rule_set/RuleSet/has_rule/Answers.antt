@@ -1,0 +1,12 @@
+use Rattle.std.proofs.Common.{◌∙◌, ap, pos}
+use Rattle.std.proofs.Math.Facts.{to_z-of_z}
+use Rattle.std.specs.List.{list_any}
+use Rattle.std.specs.Ordering.{int_eq}
+use Rattle.update_spec.specs.Update.{NewRuleSet}
+use Rattle.ruleset_store.proofs.rule_set.RuleSet.has_rule.Goals as goal
+
+pub returns : goal.returns
+returns c =
+    let has = simp (to_z-of_z c.ranges.id) at c.has_whole.ensures in
+    has ∙ c.self.invariant c.args.id
+    ∙ ap (λ (set : NewRuleSet). list_any (λ rule. int_eq c.args.id (pos rule.id)) set.rules) c.self.view_is
