@@ -1,5 +1,5 @@
 -- The table of tests, for an update whose extension is there and for one whose extension is not.
-use Rattle.std.proofs.Common.{◌≡◌, ◌≢◌, ℕ, ℤ, List, [], ◌∷◌, ◌++◌, Bool, true, false, cond, not, ◌||◌, length, map, Option, Some, None, refl, sym, ap, ◌∙◌, subst, tt}
+use Rattle.std.proofs.Common.{◌≡◌, ◌≢◌, ℕ, ℤ, List, [], ◌∷◌, ◌++◌, Bool, true, false, cond, not, ◌||◌, length, map, count_by, Option, Some, None, refl, sym, ap, ◌∙◌, subst}
 use Rattle.std.specs.Prelude.{find, Result, Ok, Err, IfOk, IfErr, OnOk}
 use Rattle.std.specs.declared.vec.Vec.{Vec}
 use Rattle.std.specs.declared.alloc.Global.{Global}
@@ -9,9 +9,9 @@ use Rattle.rule_spec.specs.State.{RuleSet, Extension, State}
 use Rattle.update_spec.specs.declared.refusal.Refusal.{Refusal}
 use Rattle.update_spec.specs.declared.refusal.Refusal.TheVariants as refusal
 use Rattle.update_spec.specs.Update as spec
-use Rattle.update_spec.specs.Judge.{judge_update, first_refusal, named}
+use Rattle.update_spec.specs.Judge.{judge_update, first_refusal, named, limited, refused_if, first_refused, first_duplicate, uses_regex, count_unsafe, count_rules, count_patterns, count_disabled, enabled_sets, drawn, lacks_set, lacks_rule, of_set}
 use Rattle.ruleset_store.specs.Seen.{IsRefusalOf, IsMadeIn, Places, judge_in, state_in, switched_among}
-use Rattle.ruleset_store.specs.Tests.{dynamic_tests, session_tests, ruleset_tests, static_tests, install_tests, count_test}
+use Rattle.ruleset_store.specs.Tests.{dynamic_tests, session_tests, ruleset_tests, static_tests, install_tests, both_test, count_test}
 
 -- ---- what is found
 
@@ -48,34 +48,79 @@ first_is p f x next (y ∷ ys) same e =
 
 -- ---- the order of tests
 
-keep : (test : Option Refusal) (ts us : List (Option Refusal)) → first_refusal ts ≡ first_refusal us → first_refusal (test ∷ ts) ≡ first_refusal (test ∷ us)
-keep None ts us same = same
-keep (Some refusal) ts us same = refl
+dynamic_order : (a b c d e : Option Refusal) → first_refusal (a ∷ None ∷ None ∷ None ∷ None ∷ None ∷ None ∷ None ∷ b ∷ c ∷ None ∷ d ∷ None ∷ e ∷ []) ≡ first_refusal (a ∷ b ∷ c ∷ d ∷ e ∷ [])
+dynamic_order (Some r) b c d e = refl
+dynamic_order None (Some r) c d e = refl
+dynamic_order None None (Some r) d e = refl
+dynamic_order None None None (Some r) e = refl
+dynamic_order None None None None e = refl
+
+session_order : (a b c d : Option Refusal) → first_refusal (a ∷ None ∷ None ∷ None ∷ None ∷ None ∷ None ∷ None ∷ None ∷ None ∷ b ∷ c ∷ None ∷ d ∷ []) ≡ first_refusal (a ∷ b ∷ c ∷ d ∷ [])
+session_order (Some r) b c d = refl
+session_order None (Some r) c d = refl
+session_order None None (Some r) d = refl
+session_order None None None d = refl
+
+static_order : (a b c d e : Option Refusal) → first_refusal (a ∷ None ∷ b ∷ c ∷ None ∷ None ∷ None ∷ None ∷ None ∷ None ∷ None ∷ None ∷ None ∷ d ∷ e ∷ []) ≡ first_refusal (a ∷ b ∷ c ∷ d ∷ e ∷ [])
+static_order (Some r) b c d e = refl
+static_order None (Some r) c d e = refl
+static_order None None (Some r) d e = refl
+static_order None None None (Some r) e = refl
+static_order None None None None e = refl
+
+ruleset_order : (a b c d e : Option Refusal) → first_refusal (a ∷ None ∷ None ∷ None ∷ None ∷ None ∷ None ∷ b ∷ c ∷ None ∷ None ∷ None ∷ d ∷ None ∷ e ∷ []) ≡ first_refusal (a ∷ b ∷ c ∷ d ∷ e ∷ [])
+ruleset_order (Some r) b c d e = refl
+ruleset_order None (Some r) c d e = refl
+ruleset_order None None (Some r) d e = refl
+ruleset_order None None None (Some r) e = refl
+ruleset_order None None None None e = refl
+
+install_order : (a b c d e f g h : Option Refusal) → first_refusal (a ∷ None ∷ None ∷ None ∷ None ∷ b ∷ c ∷ d ∷ e ∷ f ∷ None ∷ None ∷ None ∷ g ∷ None ∷ h ∷ []) ≡ first_refusal (a ∷ b ∷ c ∷ d ∷ e ∷ f ∷ g ∷ h ∷ [])
+install_order (Some r) b c d e f g h = refl
+install_order None (Some r) c d e f g h = refl
+install_order None None (Some r) d e f g h = refl
+install_order None None None (Some r) e f g h = refl
+install_order None None None None (Some r) f g h = refl
+install_order None None None None None (Some r) g h = refl
+install_order None None None None None None (Some r) h = refl
+install_order None None None None None None None h = refl
 
 pub dynamic_rows : (extensions : List Extension) (count : ℕ) (name remove : List ℕ) (add : List Rule) (e : Extension) → named name extensions ≡ Some e
     → judge_in extensions count (spec.dynamic name remove add) ≡ first_refusal (dynamic_tests count remove add e.dynamic)
 unfolding judge_update
 dynamic_rows extensions count name remove add e is =
-    rw (found_there (spec.has_name name) extensions e is, is) (keep _ _ _ (keep _ _ _ (keep _ _ _ (keep _ _ _ refl))))
+    let next = spec.replaced remove add e.dynamic in
+    rw (found_there (spec.has_name name) extensions e is, is)
+    (dynamic_order (first_duplicate remove add e.dynamic) (limited 30000 refusal.DynamicLimit (length next)) (limited 5000 refusal.UnsafeLimit (count_unsafe next))
+    (limited 1000 refusal.RegexLimit (count_by uses_regex next)) (count_test count))
 
 pub session_rows : (extensions : List Extension) (count : ℕ) (name remove : List ℕ) (add : List Rule) (e : Extension) → named name extensions ≡ Some e
     → judge_in extensions count (spec.session name remove add) ≡ first_refusal (session_tests count remove add e.session)
 unfolding judge_update
 session_rows extensions count name remove add e is =
-    rw (found_there (spec.has_name name) extensions e is, is) (keep _ _ _ (keep _ _ _ (keep _ _ _ refl)))
+    let next = spec.replaced remove add e.session in
+    rw (found_there (spec.has_name name) extensions e is, is)
+    (session_order (first_duplicate remove add e.session) (limited 5000 refusal.SessionLimit (length next)) (limited 1000 refusal.RegexLimit (count_by uses_regex next)) (count_test count))
 
-pub static_rows : (extensions : List Extension) (count : ℕ) (name set : List ℕ) (disable enable : List ℤ) (e : Extension) → named name extensions ≡ Some e
-    → judge_in extensions count (spec.static name set disable enable) ≡ first_refusal (static_tests count set disable enable e)
+pub static_rows : (extensions : List Extension) (count : ℕ) (name id : List ℕ) (disable enable : List ℤ) (e : Extension) → named name extensions ≡ Some e
+    → judge_in extensions count (spec.static name id disable enable) ≡ first_refusal (static_tests count id disable enable e)
 unfolding judge_update
-static_rows extensions count name set disable enable e is =
-    rw (found_there (spec.has_name name) extensions e is, is) (keep _ _ _ (keep _ _ _ (keep _ _ _ (keep _ _ _ refl))))
+static_rows extensions count name id disable enable e is =
+    let next = spec.with_first (spec.has_set_id id) (spec.with_rules_switched disable enable) e.sets in
+    rw (found_there (spec.has_name name) extensions e is, is)
+    (static_order (refused_if (lacks_set e id) (refusal.NoRuleset id)) (of_set id e (λ set. first_refused (lacks_rule set) refusal.NoStaticRule (disable ++ enable)))
+    (both_test disable enable) (limited 5000 refusal.DisabledLimit (count_disabled next)) (count_test count))
 
 pub ruleset_rows : (extensions : List Extension) (count : ℕ) (name : List ℕ) (disable enable : List (List ℕ)) (e : Extension) → named name extensions ≡ Some e
     → judge_in extensions count (spec.rulesets name disable enable)
     ≡ first_refusal (ruleset_tests count disable enable e (spec.extensions_after (spec.rulesets name disable enable) extensions))
 unfolding judge_update
 ruleset_rows extensions count name disable enable e is =
-    rw (found_there (spec.has_name name) extensions e is, is) (keep _ _ _ (keep _ _ _ (keep _ _ _ (keep _ _ _ refl))))
+    let next = map (spec.switched disable enable) e.sets in
+    rw (found_there (spec.has_name name) extensions e is, is)
+    (ruleset_order (first_refused (lacks_set e) refusal.NoRuleset (disable ++ enable)) (limited 50 refusal.EnabledLimit (length (enabled_sets next)))
+    (limited 300000 refusal.PoolLimit (drawn (spec.extensions_after (spec.rulesets name disable enable) extensions)))
+    (limited 1000 refusal.RegexLimit (count_patterns (enabled_sets next))) (count_test count))
 
 pub uninstall_rows : (extensions : List Extension) (count : ℕ) (name : List ℕ) (e : Extension) → named name extensions ≡ Some e
     → judge_in extensions count (spec.uninstall name) ≡ first_refusal (count_test count ∷ [])
@@ -86,7 +131,11 @@ pub install_rows : (extensions : List Extension) (count : ℕ) (new : spec.NewEx
     → judge_in extensions count (spec.install new) ≡ first_refusal (install_tests count new extensions)
 unfolding judge_update
 install_rows extensions count new =
-    keep _ _ _ (keep _ _ _ (keep _ _ _ (keep _ _ _ (keep _ _ _ (keep _ _ _ (keep _ _ _ (keep _ _ _ refl)))))))
+    let sets = (spec.installed new).sets in
+    let next = extensions ++ spec.installed new ∷ [] in
+    install_order (refused_if (list_any (spec.has_name new.name) extensions) (refusal.ExtensionThere new.name)) (limited 16 refusal.ExtensionLimit (length next))
+    (limited 100 refusal.RulesetLimit (length new.sets)) (limited 330000 refusal.RulesLimit (count_rules sets)) (limited 50 refusal.EnabledLimit (length (enabled_sets sets)))
+    (limited 300000 refusal.PoolLimit (drawn next)) (limited 1000 refusal.RegexLimit (count_patterns (enabled_sets sets))) (count_test count)
 
 -- ---- an extension that is not there
 

@@ -18,6 +18,10 @@ count_test count = refused_if (nat_le max_updates count) (TooManyUpdates max_upd
 abbrev pub id_test : List Rule → List Rule → Option Refusal
 id_test others add = first_refused (λ (rule : Rule). has_id others rule.id) (λ rule. DuplicateId rule.id) add
 
+-- the first of these rules whose id the set has
+abbrev pub taken_test : BTreeSet ℕ → List Rule → Option Refusal
+taken_test set add = first_refused (λ (rule : Rule). contains_by (nat_cmp rule.id) set) (λ rule. DuplicateId rule.id) add
+
 -- the rules whose ids the set has not
 abbrev pub kept_by : BTreeSet ℕ → List Rule → List Rule
 kept_by set rules = filter (λ rule. not (contains_by (nat_cmp rule.id) set)) rules

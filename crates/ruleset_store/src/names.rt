@@ -1,5 +1,7 @@
 ghost use Rattle.std.specs.Prelude.{◌≡◌, ◌++◌, find, not, IfOk, option_copied};
+ghost use Rattle.std.specs.BTreeSet.{contains_by};
 ghost use Rattle.std.specs.List.{list_any};
+ghost use Rattle.std.specs.Ordering.{nat_cmp};
 ghost use Rattle.update_spec.specs.declared.refusal.Refusal.TheVariants as refusal;
 ghost use Rattle.update_spec.specs.Judge as spec;
 ghost use Rattle.update_spec.specs.Update.{has_name, has_set_id};
@@ -7,9 +9,10 @@ ghost use Rattle.ruleset_store.specs.Seen.{Answers};
 ghost use Rattle.ruleset_store.specs.Tests as tests;
 
 use crate::ids::{has_id, has_whole, rule_ids, wholes_among};
-use crate::{InstalledExtension, InstalledSet, RuleList};
+use crate::{InstalledExtension, InstalledSet, RuleList, SharedRule};
 use dnr_base::{NoMemory, Text};
 use std::alloc::Global;
+use std::collections::BTreeSet;
 use update_spec::Refusal;
 
 // An own text for a refusal.
@@ -93,17 +96,27 @@ pub(crate) fn judge_both(alloc: Global, disable: &[i128], enable: &[i128]) -> Re
     }
 }
 
+// Whether the rule's id is taken.
+fn is_taken(taken: &BTreeSet<u32>, rule: &SharedRule) -> bool
+    ensures { result ≡ contains_by (nat_cmp rule.now.id) taken.now }
+{
+    has_id(taken, rule.rule().id())
+}
+
+// The first of the rules is refused whose id is taken.
+fn judge_taken(taken: &BTreeSet<u32>, add: &[SharedRule]) -> Result<(), Refusal>
+    ensures { Answers (tests.taken_test taken.now add.now) result }
+{
+    match add.iter().find(|rule| is_taken(taken, rule)) {
+        Some(rule) => Err(Refusal::DuplicateId(rule.rule().id())),
+        None => Ok(()),
+    }
+}
+
 // The first rule to add is refused whose id one of the others has.
 pub(crate) fn judge_ids(alloc: Global, others: &RuleList, add: &RuleList) -> Result<(), Refusal>
     ensures { Answers (tests.id_test others.now add.now) result }
 {
     let taken = rule_ids(alloc, others)?;
-    match add
-        .shared()
-        .iter()
-        .find(|rule| has_id(&taken, rule.rule().id()))
-    {
-        Some(rule) => Err(Refusal::DuplicateId(rule.rule().id())),
-        None => Ok(()),
-    }
+    judge_taken(&taken, add.shared())
 }
