@@ -1,0 +1,4 @@
+pub mod Beginnings
+pub mod Entering
+pub mod Next
+pub mod Coming

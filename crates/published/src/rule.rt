@@ -1,0 +1,34 @@
+use crate::Pair;
+use crate::copy::Shown;
+use crossbeam_utils::rule::{Outcome, Protocol};
+use ruleset_store::Update;
+use std::collections::LinkedList;
+use std::marker::PhantomData;
+
+// What a reader has seen: its entries. No value of the type is made.
+pub type Entries = LinkedList<Update>;
+
+// What each reader has seen begins what is published.
+pub struct Begins<P: Pair> {
+    of: PhantomData<P>,
+}
+
+impl<P: Pair> Protocol<Shown, Entries> for Begins<P> {
+    ghost use Rattle.std.specs.Prelude.{[]};
+    ghost use Rattle.published.specs.Shared.{Keeps};
+
+    ghost holds = { Keeps P.book P.opening };
+
+    ghost first = { [] };
+}
+
+// A publish, or a reader's entering.
+pub struct GoesOn<P: Pair> {
+    of: PhantomData<P>,
+}
+
+impl<P: Pair> Outcome<Shown, Entries> for GoesOn<P> {
+    ghost use Rattle.published.specs.Shared.{Sees};
+
+    ghost then = { Sees P.book P.opening };
+}
