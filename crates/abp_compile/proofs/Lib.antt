@@ -9,3 +9,4 @@ pub mod Stands
 pub mod Under
 pub mod Turned
 pub mod Taken
+pub mod Asking

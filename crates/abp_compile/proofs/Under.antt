@@ -9,9 +9,10 @@ use Rattle.domain_set.specs.Rests.{some_rest}
 use Rattle.std.specs.Prelude.{String}
 use Rattle.std.specs.BTreeSet.{BTreeSet, contains_text}
 use Rattle.std.specs.declared.alloc.Global.{Global}
-use Rattle.domain_set.specs.Table.{has_text, HasTexts}
+use Rattle.domain_set.specs.Table.{has_text}
 use Rattle.domain_set.proofs.Ends.{ends_with-dot, some_rest-same}
 use Rattle.compile_spec.specs.Initiators.{lies_under, lies_under_some}
+use Rattle.abp_compile.specs.Domains.{HasTexts}
 
 -- no text ends with a dot and itself
 never : (text : List ℕ) → ends_with nat_eq text (46 ∷ text) ≡ false

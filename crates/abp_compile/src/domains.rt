@@ -5,8 +5,7 @@ ghost use Rattle.std.specs.List.{ends_with};
 ghost use Rattle.std.specs.Str.{bytes_eq};
 ghost use Rattle.compile_spec.specs.Initiators as spec;
 ghost use Rattle.domain_set.specs.Rests.{some_rest};
-ghost use Rattle.domain_set.specs.Table.{HasTexts};
-ghost use Rattle.abp_compile.specs.Domains.{with_domain, with_entry, these_in};
+ghost use Rattle.abp_compile.specs.Domains.{with_domain, with_entry, these_in, HasTexts};
 
 use dnr_base::{NoMemory, Text};
 use dnr_spec::is_ip_host;

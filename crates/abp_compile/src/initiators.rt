@@ -1,6 +1,6 @@
 // For which initiators the rules of a filter are.
 ghost use Rattle.std.specs.Prelude.{◌≡◌, ◌++◌, [], ◌∷◌, false, length, All, IfOk, OnOk, if◌then◌else◌};
-ghost use Rattle.domain_set.specs.Table.{HasTexts};
+ghost use Rattle.abp_compile.specs.Domains.{HasTexts};
 ghost use Rattle.rule_spec.specs.IsRule.{AreDomains};
 ghost use Rattle.compile_spec.specs.Initiators as spec;
 ghost use Rattle.abp_compile.specs.Parted.{CanBeNamed};

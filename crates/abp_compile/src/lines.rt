@@ -11,7 +11,9 @@ ghost use Rattle.regex_host.specs.Answers as asked;
 ghost use Rattle.compile_spec.specs.Compiled.{compiled, rules_in, origins_in, max_compiled, placed_from, drafts_of};
 ghost use Rattle.compile_spec.specs.Report.{report, report_of, report_from};
 ghost use Rattle.abp_compile.specs.Answers.{CountsTooMany, StopsAt, IsCalm};
+ghost use Rattle.regex_host.specs.Asked.{AsksFor};
 ghost use Rattle.abp_compile.specs.Asked.{IsAsked, IsNotTooMany, StopsOnlyAt};
+ghost use Rattle.abp_compile.specs.Asked.{asked_by, asked_at, asked_about, AsksFirst};
 ghost use Rattle.abp_compile.specs.Groups.{told, standing_of, placed_in, AreFound, HasFilters, Takes};
 ghost use Rattle.abp_compile.specs.Work.{HasDrafts, GivesAllRules};
 
@@ -50,6 +52,8 @@ pub fn compile<H: RegexHost>(
     ensures few { OnOk result (length (compiled (lines_of lines.now)) ≤ max_compiled) }
     ensures too_many { IfErr result (CountsTooMany (compiled (lines_of lines.now))) }
     ensures stops { IfErr result (StopsAt (lines_of lines.now)) }
+    ensures asked { OnOk result (AsksFor H.asks host.old (asked_about (lines_of lines.now)) host.new) }
+    ensures tried { AsksFirst H.asks host.old (asked_about (lines_of lines.now)) host.new }
     ensures cause { (line : ℕ) → HasCauseOf (CompileRefusal.HostFault line) (H.faults host.old) (H.faults host.new) result }
     ensures calm { IsCalm (H.faults host.old) (H.faults host.new) result }
 {
@@ -112,6 +116,8 @@ fn take_lines<H: RegexHost>(
     ensures reported { IfOk result (λ taken. taken.reported.items ≡ report_from 1 (lines_of lines.now)) }
     ensures stops { IfErr result (StopsAt (lines_of lines.now)) }
     ensures few { IfErr result IsNotTooMany }
+    ensures asked { OnOk result (AsksFor H.asks host.old (asked_about (lines_of lines.now)) host.new) }
+    ensures tried { AsksFirst H.asks host.old (asked_about (lines_of lines.now)) host.new }
     ensures cause { (line : ℕ) → HasCauseOf (CompileRefusal.HostFault line) (H.faults host.old) (H.faults host.new) result }
     ensures calm { IsCalm (H.faults host.old) (H.faults host.new) result }
 {
@@ -165,6 +171,8 @@ fn take_line<H: RegexHost>(
     ensures takes { OnOk result (Takes (placed_in number (filter_in (line_of line.now))) taken.old.groups taken.new.groups) }
     ensures reported { OnOk result (taken.new.reported.items ≡ taken.old.reported.items ++ report_of number (reason_of (line_of line.now))) }
     ensures stops { IfErr result (StopsOnlyAt number (line_of line.now)) }
+    ensures asked { OnOk result (AsksFor H.asks host.old (asked_at (line_of line.now)) host.new) }
+    ensures tried { AsksFirst H.asks host.old (asked_at (line_of line.now)) host.new }
     ensures cause { HasCauseOf (CompileRefusal.HostFault number) (H.faults host.old) (H.faults host.new) result }
     ensures calm { IsCalm (H.faults host.old) (H.faults host.new) result }
 {
@@ -184,6 +192,7 @@ fn take_parsed<H: RegexHost>(
     ensures takes { OnOk result (Takes (placed_in number (filter_in (line_seen line))) taken.old.groups taken.new.groups) }
     ensures reported { OnOk result (taken.new.reported.items ≡ taken.old.reported.items ++ report_of number (reason_of (line_seen line))) }
     ensures stops { IfErr result (StopsOnlyAt number (line_seen line)) }
+    ensures asked { AsksFor H.asks host.old (asked_at (line_seen line)) host.new }
     ensures cause { HasCauseOf (CompileRefusal.HostFault number) (H.faults host.old) (H.faults host.new) result }
     ensures calm { IsCalm (H.faults host.old) (H.faults host.new) result }
 {
@@ -212,6 +221,7 @@ fn take_filter<H: RegexHost>(
     ensures takes { OnOk result (Takes (placed_in number (filter_in (filter_line (filter_seen filter)))) taken.old.groups taken.new.groups) }
     ensures reported { OnOk result (taken.new.reported.items ≡ taken.old.reported.items ++ report_of number (reason_of (filter_line (filter_seen filter)))) }
     ensures stops { IfErr result (StopsOnlyAt number (filter_line (filter_seen filter))) }
+    ensures asked { AsksFor H.asks host.old (asked_by (pattern_seen filter.pattern) filter.match_case) host.new }
     ensures cause { HasCauseOf (CompileRefusal.HostFault number) (H.faults host.old) (H.faults host.new) result }
     ensures calm { IsCalm (H.faults host.old) (H.faults host.new) result }
 {
@@ -232,7 +242,8 @@ fn take_filter<H: RegexHost>(
 // Whether the pattern of a filter can be used.
 fn is_usable<H: RegexHost>(filter: &FilterLine, host: &mut H) -> Result<bool, HostRefusal>
     ensures usable { IfOk result (λ usable. usable ≡ is_usable (pattern_seen filter.now.pattern)) }
-    ensures asked { IsErrOf result HostRefusal.HostFault → IsAsked (pattern_seen filter.now.pattern) }
+    ensures stops { IsErrOf result HostRefusal.HostFault → IsAsked (pattern_seen filter.now.pattern) }
+    ensures asked { AsksFor H.asks host.old (asked_by (pattern_seen filter.now.pattern) filter.now.match_case) host.new }
     ensures cause { HasCauseOf HostRefusal.HostFault (H.faults host.old) (H.faults host.new) result }
     ensures calm { asked.IsCalm (H.faults host.old) (H.faults host.new) result }
 {

@@ -1,5 +1,5 @@
 -- What is left of a list of which some first items were taken.
-use Rattle.std.proofs.Common.{◌≡◌, ℕ, List, ◌+◌, ◌++◌, take, drop, sym, ap, ◌∙◌, arith}
+use Rattle.std.proofs.Common.{◌≡◌, ℕ, List, ◌+◌, ◌++◌, take, drop, sym, ap, ◌∙◌}
 use Rattle.std.proofs.lemmas.List.{drop-drop, take-append-drop}
 
 pub taken : (bytes : List ℕ) (at count : ℕ) (front : List ℕ) → front ≡ take count (drop at bytes) → drop at bytes ≡ front ++ drop (at + count) bytes

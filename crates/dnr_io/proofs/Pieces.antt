@@ -5,7 +5,7 @@ use Rattle.std.specs.Prelude.{IfSome}
 use Rattle.std.specs.Io.KnownBytes.{Consumes, IsAtEnd, prepend_known}
 use Rattle.dnr_spec.specs.Lines.{max_line, line_of, max_lines, is_short, raw_lines_of}
 use Rattle.dnr_io.specs.Ahead.{HasNoLf, MovesPiece, OverflowsLine}
-use Rattle.dnr_io.specs.Lines.{GivesLine, IsBeyond, StartsTooLong, TakesRaw}
+use Rattle.dnr_io.specs.Lines.{StopsIn, GivesLine, IsBeyond, StartsTooLong, TakesRaw}
 use Rattle.dnr_io.proofs.RawLines.{raw_ended, raw_last, raw_begins}
 
 plain_append : (xs ys : List ℕ) → HasNoLf xs → HasNoLf ys → HasNoLf (xs ++ ys)
@@ -89,3 +89,18 @@ gives_line all rest bytes line ended first text short = record {
   text = text;
   short = short_is bytes ended short;
 }
+
+-- the source failed behind a part of a line
+pub stopped_within : (was left : Option (List ℕ)) (pending line : List ℕ) → pending ≡ [] → Consumes was (prepend_known pending left) line → HasNoLf line → StopsIn was left
+stopped_within None left pending line none taken plain = tt
+stopped_within (Some all) None pending line none taken plain = tt
+stopped_within (Some all) (Some left) pending line none taken plain = record { part = line; plain = plain; split = taken ∙ ap (λ p. line ++ (p ++ left)) none }
+
+nothing_plain : HasNoLf []
+nothing_plain i inside = absurd (omega (arith, inside))
+
+-- it failed before a line
+pub stopped_before : (was left : Option (List ℕ)) (pending : List ℕ) → pending ≡ [] → prepend_known pending left ≡ was → StopsIn was left
+stopped_before None left pending none same = tt
+stopped_before (Some all) None pending none same = tt
+stopped_before (Some all) (Some left) pending none same = record { part = []; plain = nothing_plain; split = cc (sym same, ap (λ p. p ++ left) none) }

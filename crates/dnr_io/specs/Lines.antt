@@ -1,7 +1,8 @@
 -- What a reader of lines gives, by what stands ahead of it: the bytes that it has read and not yet given,
 -- and after them those that its source has left.
-use Rattle.std.specs.Prelude.{◌≡◌, ◌≢◌, ◌⊎◌, ℕ, ◌<◌, ◌≤◌, List, [], ◌∷◌, length, Bool, true, Option, Some, None}
+use Rattle.std.specs.Prelude.{◌≡◌, ◌≢◌, ◌⊎◌, ℕ, ◌<◌, ◌≤◌, List, [], ◌∷◌, ◌++◌, length, Bool, true, Option, Some, None}
 use Rattle.std.specs.Io.KnownBytes.{prepend_known}
+use Rattle.dnr_io.specs.Ahead.{HasNoLf}
 use Rattle.dnr_spec.specs.Lines.{RawLine, raw_lines_of, line_of, is_short, max_line, max_lines}
 
 -- a reader of lines: the bytes that were read and not yet given, how many lines were given, and whether
@@ -38,3 +39,15 @@ pub record StartsTooLong (all : List ℕ) : Type 0 where
 -- after so many lines, the first line of `all` is too long or one too many
 abbrev pub IsBeyond : ℕ → List ℕ → Type 0
 IsBeyond count all = StartsTooLong all ⊎ ((all ≢ []) × (max_lines ≤ count))
+
+-- the bytes that are left stand behind a part of a line, which has not ended
+pub record StopsWithin (all left : List ℕ) : Type 0 where
+  pub part : List ℕ
+  pub plain : HasNoLf part
+  pub split : all ≡ part ++ left
+
+-- the same where both are told
+abbrev pub StopsIn : Option (List ℕ) → Option (List ℕ) → Type 0
+StopsIn None left = Unit {0}
+StopsIn (Some all) None = Unit {0}
+StopsIn (Some all) (Some left) = StopsWithin all left

@@ -49,6 +49,7 @@ impl Ahead {
         ensures found { IfOk result (λ found. IsTrue found → 0 < length self.new) }
         ensures end { IfOk result (λ found. IsFalse found →
             (self.old ≡ []) × (self.new ≡ []) × IsAtEnd (S.left source.new)) }
+        ensures stopped { OnErr result (self.new ≡ []) }
         ensures told { is_some (S.left source.new) ≡ is_some (S.left source.old) }
         ensures files { S.files source.new ≡ S.files source.old }
         ensures cause { HasCause (S.faults source.old) (S.faults source.new) result }

@@ -1,9 +1,9 @@
-ghost use Rattle.std.specs.Prelude.{◌≡◌, ◌+◌, ◌<◌, ◌≤◌, [], ◌↔◌, length, is_some, true, IfOk, OnOk};
+ghost use Rattle.std.specs.Prelude.{◌≡◌, ◌+◌, ◌<◌, ◌≤◌, [], ◌↔◌, length, is_some, true, IfOk, OnOk, OnErr};
 ghost use Rattle.std.specs.Prelude.{IfSome, IsErrOf, IsTrue, IsFalse};
 ghost use Rattle.std.specs.Io.KnownBytes.{IsAtEnd, prepend_known};
 ghost use Rattle.dnr_spec.specs.Lines.{max_line, max_lines, without_cr};
 ghost use Rattle.dnr_base.specs.Faults.{HasCauseOf};
-ghost use Rattle.dnr_io.specs.Lines.{ahead, GivesLine, IsBeyond, StartsTooLong, TakesRaw};
+ghost use Rattle.dnr_io.specs.Lines.{ahead, GivesLine, IsBeyond, StartsTooLong, StopsIn, TakesRaw};
 
 use crate::ahead::Ahead;
 use crate::{LineRefusal, NoMemory, Source};
@@ -56,9 +56,8 @@ impl Lines {
     }
 
     /// Puts the next line, without its LF and a CR before that, in place of what `line` has. `Ok(false)`
-    /// is the end, and leaves `line` empty.
-    ///
-    /// After a refusal `line` may have a part of the line.
+    /// is the end, and leaves `line` empty. So does a refusal, after which no line may be asked for any more. Where the
+    /// source fails, all lines that it gave whole were given.
     pub fn next<S: Source>(
         &mut self,
         source: &mut S,
@@ -71,11 +70,14 @@ impl Lines {
         ensures within { IfOk result (λ given. IsTrue given → length line.new.items ≤ max_line) }
         ensures counted { IfOk result (λ given. IsTrue given →
             (self.old.count < max_lines) × (self.new.count ≡ self.old.count + 1)) }
+        ensures refused { OnErr result (line.new.items ≡ []) }
         ensures end { IfOk result (λ given. IsFalse given →
             IsAtEnd (ahead self.old (S.left source.old)) × IsAtEnd (ahead self.new (S.left source.new))
             × (line.new.items ≡ [])) }
         ensures too_long { IsErrOf result LineRefusal.LineTooLong →
             IfSome (ahead self.old (S.left source.old)) (IsBeyond self.old.count) }
+        ensures stopped { IsErrOf result LineRefusal.ReadFault →
+            StopsIn (ahead self.old (S.left source.old)) (S.left source.new) }
         ensures live { IsTrue self.new.live ↔ (result ≡ Ok true) }
 
         ensures told { is_some (S.left source.new) ≡ is_some (S.left source.old) }
@@ -90,8 +92,13 @@ impl Lines {
         if self.count == MAX_LINES {
             return Err(LineRefusal::LineTooLong);
         }
-        if take_raw_line(&mut self.ahead, source, line)? {
-            drop_cr(line);
+        match take_raw_line(&mut self.ahead, source, line) {
+            Ok(true) => drop_cr(line),
+            Ok(false) => {}
+            Err(refusal) => {
+                line.clear();
+                return Err(refusal);
+            }
         }
         self.count += 1;
         self.live = true;
@@ -113,6 +120,8 @@ fn take_raw_line<S: Source>(
     ensures within { OnOk result (length line.new.items ≤ max_line) }
     ensures too_long { IsErrOf result LineRefusal.LineTooLong →
         IfSome (prepend_known ahead.old (S.left source.old)) StartsTooLong }
+    ensures stopped { IsErrOf result LineRefusal.ReadFault →
+        StopsIn (prepend_known ahead.old (S.left source.old)) (S.left source.new) }
     ensures told { is_some (S.left source.new) ≡ is_some (S.left source.old) }
     ensures files { S.files source.new ≡ S.files source.old }
     ensures cause { HasCauseOf LineRefusal.ReadFault (S.faults source.old) (S.faults source.new) result }

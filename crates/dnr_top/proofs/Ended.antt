@@ -1,25 +1,27 @@
 -- How a run may end, by what was read and written on the way.
-use Rattle.std.proofs.Common.{◌≡◌, ℕ, List, [], ◌++◌, Bool, Option, Some, None, refl, sym, inl, inr, append-nil, subst, string_bytes}
-use Rattle.std.specs.Prelude.{IfSome}
+use Rattle.std.proofs.Common.{◌≡◌, ◌⊎◌, ℕ, suc, List, [], ◌∷◌, ◌++◌, Bool, true, false, Option, Some, None, Result, Ok, Err, refl, sym, ap, ◌∙◌, inl, inr, append-nil, subst, string_bytes}
+use Rattle.std.specs.Prelude.{IfSome, slice_get, take}
 use Rattle.std.specs.Io.KnownBytes.{Appends}
 use Rattle.dnr_base.specs.Faults.{Rose, Count}
 use Rattle.dnr_io.specs.Sink.{AppendsPart}
 use Rattle.dnr_spec.specs.declared.status.Status.{Status}
 use Rattle.dnr_spec.specs.declared.status.Status.TheVariants as status
-use Rattle.dnr_spec.specs.Suffixes.{SuffixRule}
+use Rattle.dnr_spec.specs.Lines.{lines_of, is_within_limits}
 use Rattle.generation.specs.Basis.{Basis}
 use Rattle.load_spec.specs.Files.{Files}
 use Rattle.rule_spec.specs.State.{State}
 use Rattle.session_load.specs.declared.stop.Stop.{Stop}
 use Rattle.session_load.specs.declared.stop.Stop.TheVariants as stop
 use Rattle.session_load.specs.Stops.{StopsAs}
-use Rattle.session_load.proofs.Stopped.{stops_map}
-use Rattle.session_spec.specs.Answers.{Answers}
+use Rattle.session_spec.specs.Answers.{Setting, HostRisesBy}
+use Rattle.session_spec.specs.Answers as spec
 use Rattle.session_spec.specs.Loading.{Loaded}
-use Rattle.session_spec.specs.Out.{Counts, HostRose, HoldsLines, HoldsTooMuch, Session, LoadsFor, postpones, setting_for, IsServed, SaysAll, RefusesSession, SessionWrites, IsBeginning, SessionHasTooMuch, EndsBy}
-use Rattle.dnr_top.specs.Answers.{setting_by, WritesAnswersInPart}
-use Rattle.dnr_top.specs.Run.{IsRun, EndsText, EndsStop, EndsWith, EndsAnswers, IsOpened, PrintsInstall, SessionEnds, Serves}
-use Rattle.dnr_top.proofs.Answered.{answers_wider}
+use Rattle.session_spec.specs.Out.{Outside, Session, LoadsFor, takes_updates, workers_of, setting_of, Opens, HoldsScript, HoldsTooMuch, HoldsGiven, IsServed, ServesAll, ServesShort, ServesGiven, ServesToEnd, ServesSome, Conduct, in_rounds, RefusesSession, IsBeginning, EndsBy}
+use Rattle.session_spec.specs.Rounds.{rounds_of, whole_rounds_of, short_lines, ended_lines}
+use Rattle.session_serve.specs.Serving.{WritesRounds, WritesPart, WritesGiven, some_rounds, EndsUnread, EndsServing}
+use Rattle.session_serve.specs.declared.stop.ServeStop.{ServeStop}
+use Rattle.session_serve.specs.declared.stop.ServeStop.TheVariants as serve
+use Rattle.dnr_top.specs.Run.{IsRun, EndsText, EndsStop, EndsWith, IsOpened, PrintsInstall, SaysNoLess, Serves, status_of, told}
 
 -- ---- what was written
 
@@ -27,137 +29,146 @@ nothing_written : (taken : Option (List ℕ)) → Appends taken taken []
 nothing_written None = tt
 nothing_written (Some bytes) = sym (append-nil bytes)
 
-still_nothing : (before now : Option (List ℕ)) → now ≡ before → Appends before now []
+pub still_nothing : (before now : Option (List ℕ)) → now ≡ before → Appends before now []
 still_nothing before now same = subst (λ (taken : Option (List ℕ)). Appends before taken []) (sym same) (nothing_written before)
 
--- some first bytes were written of a text that says all
-begins : (Writes : Status → List ℕ → Type 0) (all : Status) (before now : Option (List ℕ)) (text : List ℕ)
-    → Writes all text → (part : AppendsPart before now text) → IsBeginning Writes part.sent
-begins Writes all before now text whole part =
-    record { rest = part.rest; ended = all; whole = subst (λ (l : List ℕ). Writes all l) part.split whole }
+begins : (May : List ℕ → Type 0) (before now : Option (List ℕ)) (text : List ℕ) → May text → (part : AppendsPart before now text) → IsBeginning May part.sent
+begins May before now text whole part = record { rest = part.rest; whole = subst (λ (l : List ℕ). May l) part.split whole }
 
--- ---- a text
+run_as : (o : Outside) (k : Conduct) (before now : Option (List ℕ)) (all ended : Status) → ended ≡ all → IsRun before now (EndsBy o k all) → IsRun before now (EndsBy o k ended)
+run_as o k before now all ended is run = subst (λ (s : Status). IsRun before now (EndsBy o k s)) (sym is) run
 
-done_ends : (counts : Counts) (Writes : Status → List ℕ → Type 0) (TooMuch : Type 0) (before now : Option (List ℕ)) (text : List ℕ) (ended : Status)
-    → Writes status.Done text → EndsText before now counts.sink text status.Done ended → IsRun before now (EndsBy counts Writes TooMuch ended)
-done_ends counts Writes TooMuch before now text ended whole (inl (is, taken)) =
-    subst (λ (s : Status). IsRun before now (EndsBy counts Writes TooMuch s)) (sym is) (text, taken, whole)
-done_ends counts Writes TooMuch before now text ended whole (inr (is, rose, part)) =
-    subst (λ (s : Status). IsRun before now (EndsBy counts Writes TooMuch s)) (sym is)
-    (part.sent, part.taken, (rose, begins Writes status.Done before now text whole part))
+done_ends : (o : Outside) (k : Conduct) (before now : Option (List ℕ)) (text : List ℕ) (ended : Status) → k.Done text → k.Meanwhile text
+    → EndsText before now o.sink text status.Done ended → IsRun before now (EndsBy o k ended)
+done_ends o k before now text ended whole meanwhile (inl (is, taken)) = run_as o k before now status.Done ended is (text, taken, whole)
+done_ends o k before now text ended whole meanwhile (inr (is, rose, part)) =
+    run_as o k before now status.WriteFault ended is (part.sent, part.taken, (rose, begins k.Meanwhile before now text meanwhile part))
 
-refused_ends : (counts : Counts) (Writes : Status → List ℕ → Type 0) (TooMuch : Type 0) (before now : Option (List ℕ)) (text : List ℕ) (ended : Status)
-    → Writes status.Refused text → EndsText before now counts.sink text status.Refused ended → IsRun before now (EndsBy counts Writes TooMuch ended)
-refused_ends counts Writes TooMuch before now text ended whole (inl (is, taken)) =
-    subst (λ (s : Status). IsRun before now (EndsBy counts Writes TooMuch s)) (sym is) (text, taken, whole)
-refused_ends counts Writes TooMuch before now text ended whole (inr (is, rose, part)) =
-    subst (λ (s : Status). IsRun before now (EndsBy counts Writes TooMuch s)) (sym is)
-    (part.sent, part.taken, (rose, begins Writes status.Refused before now text whole part))
+refused_ends : (o : Outside) (k : Conduct) (before now : Option (List ℕ)) (text : List ℕ) (ended : Status) → k.Refused text → k.Meanwhile text
+    → EndsText before now o.sink text status.Refused ended → IsRun before now (EndsBy o k ended)
+refused_ends o k before now text ended whole meanwhile (inl (is, taken)) = run_as o k before now status.Refused ended is (text, taken, whole)
+refused_ends o k before now text ended whole meanwhile (inr (is, rose, part)) =
+    run_as o k before now status.WriteFault ended is (part.sent, part.taken, (rose, begins k.Meanwhile before now text meanwhile part))
 
-silent_memory : (counts : Counts) (Writes : Status → List ℕ → Type 0) (TooMuch : Type 0) (before now : Option (List ℕ)) (ended : Status)
-    → ended ≡ status.NoMemory → now ≡ before → IsRun before now (EndsBy counts Writes TooMuch ended)
-silent_memory counts Writes TooMuch before now ended is same =
-    subst (λ (s : Status). IsRun before now (EndsBy counts Writes TooMuch s)) (sym is) ([], still_nothing before now same, inl refl)
+memory_ends : (o : Outside) (k : Conduct) (before now : Option (List ℕ)) (ended : Status) → ended ≡ status.NoMemory → now ≡ before → IsRun before now (EndsBy o k ended)
+memory_ends o k before now ended is same = run_as o k before now status.NoMemory ended is ([], still_nothing before now same, inl refl)
 
 -- the text is what the command writes to the last byte
-pub text_ends : (counts : Counts) (Writes : Status → List ℕ → Type 0) (TooMuch : Type 0) (before now : Option (List ℕ)) (text : List ℕ) (ended : Status)
-    → Writes status.Done text → EndsWith before now counts.sink text ended → IsRun before now (EndsBy counts Writes TooMuch ended)
-text_ends counts Writes TooMuch before now text ended whole (inl written) = done_ends counts Writes TooMuch before now text ended whole written
-text_ends counts Writes TooMuch before now text ended whole (inr (is, same)) = silent_memory counts Writes TooMuch before now ended is same
+pub text_ends : (o : Outside) (k : Conduct) (before now : Option (List ℕ)) (text : List ℕ) (ended : Status) → k.Done text → k.Meanwhile text
+    → EndsWith before now o.sink text ended → IsRun before now (EndsBy o k ended)
+text_ends o k before now text ended whole meanwhile (inl written) = done_ends o k before now text ended whole meanwhile written
+text_ends o k before now text ended whole meanwhile (inr (is, same)) = memory_ends o k before now ended is same
 
--- ---- a stop
-
-pub stop_ends : (counts : Counts) (Done Refused : List ℕ → Type 0) (TooMuch : Type 0) (before now : Option (List ℕ)) (s : Stop) (ended : Status)
-    → StopsAs Refused TooMuch s → (s ≡ stop.ReadFault → Rose counts.shelf.before counts.shelf.now) → EndsStop before now counts.sink s ended
-    → IsRun before now (EndsBy counts (SaysAll Done Refused) TooMuch ended)
-stop_ends counts Done Refused TooMuch before now (stop.Refused line) ended why fault ends =
-    refused_ends counts (SaysAll Done Refused) TooMuch before now (string_bytes line) ended why ends
-stop_ends counts Done Refused TooMuch before now stop.ReadFault ended why fault (is, same) =
-    subst (λ (e : Status). IsRun before now (EndsBy counts (SaysAll Done Refused) TooMuch e)) (sym is)
-    ([], still_nothing before now same, (fault refl, refl))
-stop_ends counts Done Refused TooMuch before now stop.FileTooLong ended why fault (is, same) =
-    subst (λ (e : Status). IsRun before now (EndsBy counts (SaysAll Done Refused) TooMuch e)) (sym is)
-    ([], still_nothing before now same, (why, refl))
-stop_ends counts Done Refused TooMuch before now stop.NoMemory ended why fault (is, same) =
-    silent_memory counts (SaysAll Done Refused) TooMuch before now ended is same
+-- a run stops before it answers
+pub stop_ends : (o : Outside) (k : Conduct) (TooLong : Type 0) (before now : Option (List ℕ)) (s : Stop) (ended : Status) → ((line : List ℕ) → k.Refused line → k.Meanwhile line) → (TooLong → k.TooLong []) → k.Unread []
+    → StopsAs k.Refused TooLong s → (s ≡ stop.ReadFault → Rose o.shelf.before o.shelf.now) → EndsStop before now o.sink s ended → IsRun before now (EndsBy o k ended)
+stop_ends o k TooLong before now (stop.Refused line) ended meanwhile long unread why fault ends = refused_ends o k before now (string_bytes line) ended why (meanwhile (string_bytes line) why) ends
+stop_ends o k TooLong before now stop.ReadFault ended meanwhile long unread why fault (is, same) =
+    run_as o k before now status.ReadFault ended is ([], still_nothing before now same, (fault refl, unread))
+stop_ends o k TooLong before now stop.FileTooLong ended meanwhile long unread why fault (is, same) =
+    run_as o k before now status.FileTooLong ended is ([], still_nothing before now same, long why)
+stop_ends o k TooLong before now stop.NoMemory ended meanwhile long unread why fault (is, same) = memory_ends o k before now ended is same
 
 -- ---- a session
 
-sink_of : (before now : Option (List ℕ)) (s : Stop) (ended : Status) (a b : Count) → a ≡ b → EndsStop before now b s ended → EndsStop before now a s ended
-sink_of before now s ended a b same ends = subst (λ (sink : Count). EndsStop before now sink s ended) (sym same) ends
+more_hosts : (whole part : Outside) (setting : Setting) (first : State) (rounds : List (List (List ℕ))) (written : List ℕ) → SaysNoLess whole part
+    → spec.Serves part.hosts setting first rounds written → spec.Serves whole.hosts setting first rounds written
+more_hosts whole part setting first rounds written less serves = record {
+  said = serves.said;
+  last = serves.last;
+  says = serves.says;
+  order = serves.order;
+  text = serves.text;
+  finders = λ seat. less.hosts (suc seat) _ (serves.finders seat);
+  checker = less.hosts 0 _ serves.checker;
+}
 
--- an extension is not installed
-pub not_installed : (known : Option Files) (loaded : Loaded) (postponed : Bool) (script : List ℕ) (before now : Option (List ℕ)) (shelf sink : Count) (rose : Type 0) (s : Stop) (ended : Status)
-    → StopsAs (PrintsInstall loaded) ⊥ s → (s ≡ stop.ReadFault → ⊥) → EndsStop before now sink s ended
-    → IfSome known (λ files. Serves files loaded postponed script before now shelf sink rose ended)
-not_installed None loaded postponed script before now shelf sink rose s ended why no_fault ends = tt
-not_installed (Some files) loaded postponed script before now shelf sink rose s ended why no_fault ends = λ session counts loads post less.
-    stop_ends counts (IsServed files counts session script) (RefusesSession files counts session) (SessionHasTooMuch files session script) before now s ended
-    (stops_map (PrintsInstall loaded) (RefusesSession files counts session) ⊥ (SessionHasTooMuch files session script) s
-    (λ line install. inr (record { loaded = loaded; read = loads; refused = install.refused; judged = install.judged; output = install.same })) (λ none. absurd none) why)
-    (λ is. absurd (no_fault is)) (sink_of before now s ended counts.sink sink less.same_sink ends)
+setting_is : (session : Session) (loaded : Loaded) (basis : Basis) (updates : Bool) (workers : ℕ) → takes_updates session ≡ updates → workers_of session ≡ workers → basis.suffixes ≡ loaded.suffixes
+    → record { suffixes = basis.suffixes; workers = workers; updates = updates } ≡ setting_of session loaded.suffixes
+setting_is session loaded basis updates workers takes works suffixes =
+    ap (λ s. record { suffixes = s; workers = workers; updates = updates }) suffixes
+    ∙ ap (λ (n : ℕ). record { suffixes = loaded.suffixes; workers = n; updates = updates }) (sym works)
+    ∙ ap (λ (u : Bool). record { suffixes = loaded.suffixes; workers = workers_of session; updates = u }) (sym takes)
 
--- the script is not read
-pub not_started : (known : Option Files) (loaded : Loaded) (basis : Basis) (postponed : Bool) (script : List ℕ) (before now : Option (List ℕ)) (shelf sink : Count) (rose : Type 0) (s : Stop) (ended : Status)
-    → IsOpened loaded basis → IfSome known (λ files. StopsAs (λ line. ⊥) (HoldsTooMuch files script) s) → (s ≡ stop.ReadFault → Rose shelf.before shelf.now) → EndsStop before now sink s ended
-    → IfSome known (λ files. Serves files loaded postponed script before now shelf sink rose ended)
-not_started None loaded basis postponed script before now shelf sink rose s ended opened why fault ends = tt
-not_started (Some files) loaded basis postponed script before now shelf sink rose s ended opened why fault ends = λ session counts loads post less.
-    stop_ends counts (IsServed files counts session script) (RefusesSession files counts session) (SessionHasTooMuch files session script) before now s ended
-    (stops_map (λ line. ⊥) (RefusesSession files counts session) (HoldsTooMuch files script) (SessionHasTooMuch files session script) s
-    (λ line none. absurd none)
-    (λ long. inr (record { loaded = loaded; first = basis.state; opens = record { read = loads; installed = opened.installed }; script = long })) why)
-    (λ is. less.shelf_rose (fault is)) (sink_of before now s ended counts.sink sink less.same_sink ends)
+-- all that is known of a session that was opened
+pub record IsSession (files : Files) (session : Session) (whole part : Outside) (loaded : Loaded) (basis : Basis) (updates : Bool) (workers : ℕ) : Type 0 where
+  pub read : LoadsFor files session loaded
+  pub opened : IsOpened loaded basis
+  pub takes : takes_updates session ≡ updates
+  pub works : workers_of session ≡ workers
+  pub less : SaysNoLess whole part
 
--- answers by what was seen are answers by what the counts of the run say
-answers_for : (counts : Counts) (session : Session) (loaded : Loaded) (basis : Basis) (postponed : Bool) (rose : Type 0) (first : State) (lines : List (List ℕ)) (written : List ℕ) (last : State)
-    → IsOpened loaded basis → postpones session ≡ postponed → (rose → HostRose counts 1) → Answers (setting_by basis rose postponed) first 1 lines written last
-    → Answers (setting_for counts session loaded.suffixes) first 1 lines written last
-answers_for counts session loaded basis postponed rose first lines written last opened post host answers =
-    subst (λ (updates : Bool). Answers (record { suffixes = loaded.suffixes; rose = HostRose counts 1; postpones = updates }) first 1 lines written last) (sym post)
-    (subst (λ (suffixes : List SuffixRule). Answers (record { suffixes = suffixes; rose = HostRose counts 1; postpones = postponed }) first 1 lines written last) opened.suffixes
-    (answers_wider basis.suffixes postponed rose (HostRose counts 1) host first 1 lines written last answers))
-
-served : (files : Files) (counts : Counts) (session : Session) (loaded : Loaded) (basis : Basis) (postponed : Bool) (rose : Type 0) (script : List ℕ) (lines : List (List ℕ)) (written : List ℕ) (last : State)
-    → LoadsFor files session loaded → IsOpened loaded basis → HoldsLines files script lines → postpones session ≡ postponed → (rose → HostRose counts 1)
-    → Answers (setting_by basis rose postponed) basis.state 1 lines written last → IsServed files counts session script written
-served files counts session loaded basis postponed rose script lines written last loads opened held post host answers = record {
+served : (files : Files) (session : Session) (whole part : Outside) (loaded : Loaded) (basis : Basis) (updates : Bool) (workers : ℕ) (Script : List ℕ → Type 0) (rounds_in : List ℕ → List (List (List ℕ))) (script written : List ℕ)
+    → IsSession files session whole part loaded basis updates workers → Script script
+    → spec.Serves part.hosts (record { suffixes = basis.suffixes; workers = workers; updates = updates }) basis.state (rounds_in script) written
+    → IsServed files whole session Script rounds_in written
+served files session whole part loaded basis updates workers Script rounds_in script written is holds serves = record {
   loaded = loaded;
   first = basis.state;
-  opens = record { read = loads; installed = opened.installed };
-  lines = lines;
-  script = held;
-  last = last;
-  output = answers_for counts session loaded basis postponed rose basis.state lines written last opened post host answers;
+  opens = record { read = is.read; installed = is.opened.installed };
+  script = script;
+  holds = holds;
+  serves = more_hosts whole part (setting_of session loaded.suffixes) basis.state (rounds_in script) written is.less
+      (subst (λ (s : Setting). spec.Serves part.hosts s basis.state (rounds_in script) written) (setting_is session loaded basis updates workers is.takes is.works is.opened.suffixes) serves);
 }
 
-begun : (files : Files) (counts : Counts) (session : Session) (loaded : Loaded) (basis : Basis) (postponed : Bool) (rose : Type 0) (script : List ℕ) (lines : List (List ℕ)) (before now : Option (List ℕ))
-    → LoadsFor files session loaded → IsOpened loaded basis → HoldsLines files script lines → postpones session ≡ postponed → (rose → HostRose counts 1)
-    → (part : WritesAnswersInPart before now (setting_by basis rose postponed) basis.state lines) → IsBeginning (SessionWrites files counts session script) part.sent
-begun files counts session loaded basis postponed rose script lines before now loads opened held post host part = record {
-  rest = part.rest;
-  ended = status.Done;
-  whole = served files counts session loaded basis postponed rose script lines (part.sent ++ part.rest) part.last loads opened held post host part.answers;
+unread_ends : (files : Files) (session : Session) (whole part : Outside) (loaded : Loaded) (basis : Basis) (updates : Bool) (workers : ℕ) (name script : List ℕ) (before now : Option (List ℕ)) (left : Option (List ℕ))
+    → IsSession files session whole part loaded basis updates workers → files name ≡ Some script → left ≡ Some whole.left
+    → IfSome left (λ rest. EndsUnread before now part.hosts (record { suffixes = basis.suffixes; workers = workers; updates = updates }) basis.state script rest)
+    → IsRun before now ((in_rounds files whole session name).Unread)
+unread_ends files session whole part loaded basis updates workers name script before now None is held known ends = absurd (cc known)
+unread_ends files session whole part loaded basis updates workers name script before now (Some left) is held known (inl gave) =
+    let same : left ≡ whole.left = cc known in (
+      gave.writes.written,
+      gave.writes.taken,
+      inr (inl (served files session whole part loaded basis updates workers (λ given. HoldsGiven files name given whole.left) (λ given. whole_rounds_of (ended_lines given)) gave.given gave.writes.written is
+          (record { script = script; held = held; split = subst (λ (l : List ℕ). script ≡ gave.given ++ l) same gave.split }) gave.writes.serves)),
+    )
+unread_ends files session whole part loaded basis updates workers name script before now (Some left) is held known (inr all) =
+    let same : left ≡ whole.left = cc known in (
+      all.1.written,
+      all.1.taken,
+      inr (inr (served files session whole part loaded basis updates workers (λ s. (files name ≡ Some s) × (whole.left ≡ [])) (λ s. whole_rounds_of (short_lines s)) script all.1.written is
+          (held, sym same ∙ all.0) all.1.serves)),
+    )
+
+some_served : (files : Files) (session : Session) (whole part : Outside) (loaded : Loaded) (basis : Basis) (updates : Bool) (workers : ℕ) (name script : List ℕ) (written : List ℕ) (count : ℕ)
+    → IsSession files session whole part loaded basis updates workers → files name ≡ Some script
+    → spec.Serves part.hosts (record { suffixes = basis.suffixes; workers = workers; updates = updates }) basis.state (some_rounds count script) written → ServesSome files whole session name written
+some_served files session whole part loaded basis updates workers name script written count is held serves = record {
+  count = count;
+  served = served files session whole part loaded basis updates workers (λ s. files name ≡ Some s) (λ s. take count (whole_rounds_of (short_lines s))) script written is held serves;
 }
 
--- the lines were answered, or some of them
-answered_ends : (files : Files) (counts : Counts) (session : Session) (loaded : Loaded) (basis : Basis) (postponed : Bool) (rose : Type 0) (script : List ℕ) (lines : List (List ℕ)) (before now : Option (List ℕ)) (ended : Status)
-    → LoadsFor files session loaded → IsOpened loaded basis → HoldsLines files script lines → postpones session ≡ postponed → (rose → HostRose counts 1)
-    → EndsAnswers before now counts.sink (setting_by basis rose postponed) basis.state lines ended → IsRun before now (SessionEnds files counts session script ended)
-answered_ends files counts session loaded basis postponed rose script lines before now ended loads opened held post host (inl (is, all)) =
-    subst (λ (e : Status). IsRun before now (SessionEnds files counts session script e)) (sym is)
-    (all.written, all.taken, served files counts session loaded basis postponed rose script lines all.written all.last loads opened held post host all.answers)
-answered_ends files counts session loaded basis postponed rose script lines before now ended loads opened held post host (inr (inl (is, fault, part))) =
-    subst (λ (e : Status). IsRun before now (SessionEnds files counts session script e)) (sym is)
-    (part.sent, part.taken, (fault, begun files counts session loaded basis postponed rose script lines before now loads opened held post host part))
-answered_ends files counts session loaded basis postponed rose script lines before now ended loads opened held post host (inr (inr (is, part))) =
-    subst (λ (e : Status). IsRun before now (SessionEnds files counts session script e)) (sym is)
-    (part.sent, part.taken, inr (begun files counts session loaded basis postponed rose script lines before now loads opened held post host part))
+all_served : (files : Files) (session : Session) (whole part : Outside) (loaded : Loaded) (basis : Basis) (updates : Bool) (workers : ℕ) (name script : List ℕ) (written : List ℕ)
+    → IsSession files session whole part loaded basis updates workers → files name ≡ Some script → is_within_limits script ≡ true
+    → spec.Serves part.hosts (record { suffixes = basis.suffixes; workers = workers; updates = updates }) basis.state (rounds_of (lines_of script)) written → ServesAll files whole session name written
+all_served files session whole part loaded basis updates workers name script written is held within serves =
+    served files session whole part loaded basis updates workers (HoldsScript files name) (λ s. rounds_of (lines_of s)) script written is (record { held = held; within = within }) serves
 
-pub session_ends : (known : Option Files) (loaded : Loaded) (basis : Basis) (postponed : Bool) (script : List ℕ) (lines : List (List ℕ)) (before now : Option (List ℕ)) (shelf sink : Count) (rose : Type 0) (ended : Status)
-    → IsOpened loaded basis → IfSome known (λ files. HoldsLines files script lines) → EndsAnswers before now sink (setting_by basis rose postponed) basis.state lines ended
-    → IfSome known (λ files. Serves files loaded postponed script before now shelf sink rose ended)
-session_ends None loaded basis postponed script lines before now shelf sink rose ended opened held ends = tt
-session_ends (Some files) loaded basis postponed script lines before now shelf sink rose ended opened held ends = λ session counts loads post less.
-    answered_ends files counts session loaded basis postponed rose script lines before now ended loads opened held post less.host
-    (subst (λ (s : Count). EndsAnswers before now s (setting_by basis rose postponed) basis.state lines ended) (sym less.same_sink) ends)
+-- the script was served, and the run ends so
+pub served_ends : (files : Files) (session : Session) (whole part : Outside) (loaded : Loaded) (basis : Basis) (updates : Bool) (workers : ℕ) (name script : List ℕ) (before now : Option (List ℕ)) (left : Option (List ℕ)) (result : Result (Unit {0}) ServeStop)
+    → IsSession files session whole part loaded basis updates workers → files name ≡ Some script → left ≡ Some whole.left
+    → (result ≡ Err serve.ReadFault → Rose whole.shelf.before whole.shelf.now) → (result ≡ Err serve.WriteFault → Rose whole.sink.before whole.sink.now)
+    → EndsServing before now part.hosts (record { suffixes = basis.suffixes; workers = workers; updates = updates }) basis.state script left result
+    → IsRun before now (EndsBy whole (in_rounds files whole session name) (status_of result))
+served_ends files session whole part loaded basis updates workers name script before now left (Ok done) is held known fault wrote (within, writes) =
+    (writes.written, writes.taken, all_served files session whole part loaded basis updates workers name script writes.written is held within writes.serves)
+served_ends files session whole part loaded basis updates workers name script before now left (Err serve.ReadFault) is held known fault wrote ends =
+    let run = unread_ends files session whole part loaded basis updates workers name script before now left is held known ends in
+    (run.0, run.1, (fault refl, run.2))
+served_ends files session whole part loaded basis updates workers name script before now left (Err serve.WriteFault) is held known fault wrote (inl (count, part_written)) =
+    (part_written.sent, part_written.taken, (wrote refl, record { rest = part_written.rest; whole = inr (inl (some_served files session whole part loaded basis updates workers name script (part_written.sent ++ part_written.rest) count is held part_written.serves)) }))
+served_ends files session whole part loaded basis updates workers name script before now left (Err serve.WriteFault) is held known fault wrote (inr (within, part_written)) =
+    (part_written.sent, part_written.taken, (wrote refl, record { rest = part_written.rest; whole = inl (all_served files session whole part loaded basis updates workers name script (part_written.sent ++ part_written.rest) is held within part_written.serves) }))
+served_ends files session whole part loaded basis updates workers name script before now left (Err serve.TooLong) is held known fault wrote (beyond, writes) =
+    (writes.written, writes.taken, inr (served files session whole part loaded basis updates workers (HoldsTooMuch files name) (λ s. whole_rounds_of (short_lines s)) script writes.written is (record { held = held; beyond = beyond }) writes.serves))
+served_ends files session whole part loaded basis updates workers name script before now left (Err serve.NoMemory) is held known fault wrote (count, writes) = (
+  writes.written,
+  writes.taken,
+  inr (record {
+    rest = [];
+    whole = inr (inl (some_served files session whole part loaded basis updates workers name script (writes.written ++ []) count is held
+        (subst (λ (t : List ℕ). spec.Serves part.hosts (record { suffixes = basis.suffixes; workers = workers; updates = updates }) basis.state (some_rounds count script) t) (sym (append-nil writes.written)) writes.serves)));
+  }),
+)

@@ -1,6 +1,4 @@
-pub mod Answered
-pub mod LaterCommands
 pub mod Ended
-pub mod Hosts
 pub mod Tasks
+pub mod Hosts
 pub mod Listed

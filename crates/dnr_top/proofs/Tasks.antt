@@ -1,9 +1,12 @@
 -- How each command ends, for a shelf that may tell what its files hold.
-use Rattle.std.proofs.Common.{◌≡◌, ℕ, List, [], ◌∷◌, ◌++◌, length, codes, true, false, Option, Some, None, refl, sym, ap, ◌∙◌, inl, subst, arith}
-use Rattle.std.specs.Prelude.{IfSome}
+use Rattle.std.proofs.Common.{◌≡◌, ℕ, ◌<◌, ◌≤◌, List, [], ◌∷◌, ◌++◌, length, codes, true, false, Bool, Option, Some, None, Result, Ok, Err, refl, sym, ap, ◌∙◌, inl, inr, subst, arith}
+use Rattle.std.specs.Prelude.{IfSome, IsSome, is_some, unwrap_or}
 use Rattle.std.specs.Io.KnownBytes.{Appends}
 use Rattle.dnr_base.specs.Faults.{Rose, Count}
+use Rattle.dnr_io.specs.Shelf.{IsStarted}
 use Rattle.dnr_spec.specs.declared.status.Status.{Status}
+use Rattle.dnr_spec.specs.declared.status.Status.TheVariants as status
+use Rattle.generation.specs.Basis.{Basis}
 use Rattle.generation.specs.declared.first.FirstRefusal.{FirstRefusal}
 use Rattle.generation.specs.declared.first.FirstRefusal.TheVariants.{Refused}
 use Rattle.generation.specs.First.{IsFirstRefusal}
@@ -20,8 +23,11 @@ use Rattle.session_load.specs.Lists.{HoldsCompiled}
 use Rattle.session_load.specs.Loads.{StopsInRules, StopsInList, StopsInServing}
 use Rattle.session_load.specs.Stops.{Prints, StopsAs}
 use Rattle.session_load.proofs.Stopped.{printed, stops_map}
+use Rattle.session_serve.specs.Serving.{EndsServing}
+use Rattle.session_serve.specs.declared.stop.ServeStop.{ServeStop}
+use Rattle.session_serve.specs.declared.stop.ServeStop.TheVariants as serve
 use Rattle.session_spec.specs.Loading.{PrintsRefusedRules, PrintsRefusedList, RefusesFile, HasLongFileIn, Loaded, Loads}
-use Rattle.session_spec.specs.Out.{Counts, HostRose, of_rules, of_words, LoadsFor, IsCounted, IsCompiled, IsServed, RefusesSession, SessionHasTooMuch, Writes, HasTooMuch, Ends, EndsFor, Out}
+use Rattle.session_spec.specs.Out.{Outside, HostRose, Session, of_rules, of_words, LoadsFor, takes_updates, workers_of, IsCounted, IsCompiled, RefusesSession, HasLongFileOf, in_rounds, conduct_of, EndsBy, EndsFor, Out}
 use Rattle.session_spec.specs.Refusals.{install_line, count_line, unsupported_lines}
 use Rattle.session_spec.specs.Words.{Serving, Task, task_of, match_files, check_file, compile_file, serve_script}
 use Rattle.compile_spec.specs.Compiled.{CompiledRule, rules_in}
@@ -29,34 +35,23 @@ use Rattle.compile_spec.specs.Report.{report}
 use Rattle.compile_spec.specs.declared.reported.Reported.{Reported}
 use Rattle.json_spec.specs.Written.{written as json_text}
 use Rattle.list_spec.specs.LineKind as list
-use Rattle.dnr_top.specs.Run.{IsRun, EndsStop, EndsWith, PrintsInstall, SaysNoLess, Serves, MayEnd, among, text_of, with_hosts}
-use Rattle.dnr_top.proofs.Ended.{stop_ends, text_ends}
-
--- ---- a command among others
-
--- how a command ends is said for each list of hosts that it did not have
-pub may_end : (known : Option Files) (task : Task) (used : Counts) (before now : Option (List ℕ)) (ended : Status)
-    → ((others : List Count) → IfSome known (λ files. IsRun before now (Ends files (among used others) task ended)))
-    → MayEnd known task used before now ended
-may_end None task used before now ended each = tt
-may_end (Some files) task used before now ended each = each
+use Rattle.dnr_top.specs.Run.{IsRun, EndsStop, EndsWith, IsOpened, PrintsInstall, SaysNoLess, Serves, MayServe, MayEnd, status_of, text_of}
+use Rattle.dnr_top.proofs.Ended.{stop_ends, text_ends, served_ends, still_nothing}
 
 -- ---- `check`
 
-pub check_ends : (known : Option Files) (counts : Counts) (kind : RuleKind) (name : List ℕ) (rules : List Rule) (before now : Option (List ℕ)) (n : ℕ) (ended : Status)
-    → IfSome known (λ files. HoldsRules files kind name rules) → n ≡ length rules → EndsWith before now counts.sink (count_line n) ended
-    → IfSome known (λ files. IsRun before now (Ends files counts (check_file kind name) ended))
-check_ends None counts kind name rules before now n ended held same ends = tt
-check_ends (Some files) counts kind name rules before now n ended held same ends =
-    text_ends counts (Writes files counts (check_file kind name)) (HasTooMuch files (check_file kind name)) before now (count_line n) ended
-    (record { rules = rules; loaded = held; output = ap count_line same }) ends
+pub check_ends : (known : Option Files) (o : Outside) (kind : RuleKind) (name : List ℕ) (rules : List Rule) (before now : Option (List ℕ)) (n : ℕ) (ended : Status)
+    → IfSome known (λ files. HoldsRules files kind name rules) → n ≡ length rules → EndsWith before now o.sink (count_line n) ended → MayEnd known (check_file kind name) o before now ended
+check_ends None o kind name rules before now n ended held same ends = tt
+check_ends (Some files) o kind name rules before now n ended held same ends =
+    text_ends o (conduct_of files o (check_file kind name)) before now (count_line n) ended
+    (record { rules = rules; loaded = held; output = ap count_line same }) (inl (record { rules = rules; loaded = held; output = ap count_line same })) ends
 
-pub check_stops : (known : Option Files) (counts : Counts) (kind : RuleKind) (name : List ℕ) (before now : Option (List ℕ)) (s : Stop) (ended : Status)
-    → StopsInRules known (HostRose counts 0) kind name s → (s ≡ stop.ReadFault → Rose counts.shelf.before counts.shelf.now) → EndsStop before now counts.sink s ended
-    → IfSome known (λ files. IsRun before now (Ends files counts (check_file kind name) ended))
-check_stops None counts kind name before now s ended why fault ends = tt
-check_stops (Some files) counts kind name before now s ended why fault ends =
-    stop_ends counts (IsCounted files kind name) (PrintsRefusedRules files (HostRose counts 0) kind name) (HoldsLongFile files name) before now s ended why fault ends
+pub check_stops : (known : Option Files) (o : Outside) (kind : RuleKind) (name : List ℕ) (before now : Option (List ℕ)) (s : Stop) (ended : Status)
+    → StopsInRules known (HostRose o 0) kind name s → (s ≡ stop.ReadFault → Rose o.shelf.before o.shelf.now) → EndsStop before now o.sink s ended → MayEnd known (check_file kind name) o before now ended
+check_stops None o kind name before now s ended why fault ends = tt
+check_stops (Some files) o kind name before now s ended why fault ends =
+    stop_ends o (conduct_of files o (check_file kind name)) (HoldsLongFile files name) before now s ended (λ line refused. inr refused) (λ long. (long, refl)) refl why fault ends
 
 -- ---- `compile`
 
@@ -80,59 +75,92 @@ compiled files name l held = record {
       ∙ ap (λ n. unsupported_lines (report (list.lines_of held.bytes)) ++ count_line n ++ json_text (rules_in held.compiled.all) ++ codes "\n") (count_in held.compiled.all);
 }
 
-pub compile_ends : (known : Option Files) (counts : Counts) (name : List ℕ) (l : CompiledList) (before now : Option (List ℕ)) (ended : Status)
-    → IfSome known (λ files. HoldsCompiled files name l) → EndsWith before now counts.sink (text_of l) ended
-    → IfSome known (λ files. IsRun before now (Ends files counts (compile_file name) ended))
-compile_ends None counts name l before now ended held ends = tt
-compile_ends (Some files) counts name l before now ended held ends =
-    text_ends counts (Writes files counts (compile_file name)) (HasTooMuch files (compile_file name)) before now (text_of l) ended (compiled files name l held) ends
+pub compile_ends : (known : Option Files) (o : Outside) (name : List ℕ) (l : CompiledList) (before now : Option (List ℕ)) (ended : Status)
+    → IfSome known (λ files. HoldsCompiled files name l) → EndsWith before now o.sink (text_of l) ended → MayEnd known (compile_file name) o before now ended
+compile_ends None o name l before now ended held ends = tt
+compile_ends (Some files) o name l before now ended held ends =
+    text_ends o (conduct_of files o (compile_file name)) before now (text_of l) ended (compiled files name l held) (inl (compiled files name l held)) ends
 
-pub compile_stops : (known : Option Files) (counts : Counts) (name : List ℕ) (before now : Option (List ℕ)) (s : Stop) (ended : Status)
-    → StopsInList known (HostRose counts 0) name s → (s ≡ stop.ReadFault → Rose counts.shelf.before counts.shelf.now) → EndsStop before now counts.sink s ended
-    → IfSome known (λ files. IsRun before now (Ends files counts (compile_file name) ended))
-compile_stops None counts name before now s ended why fault ends = tt
-compile_stops (Some files) counts name before now s ended why fault ends =
-    stop_ends counts (IsCompiled files name) (PrintsRefusedList files (HostRose counts 0) name) (HoldsLongFile files name) before now s ended why fault ends
+pub compile_stops : (known : Option Files) (o : Outside) (name : List ℕ) (before now : Option (List ℕ)) (s : Stop) (ended : Status)
+    → StopsInList known (HostRose o 0) name s → (s ≡ stop.ReadFault → Rose o.shelf.before o.shelf.now) → EndsStop before now o.sink s ended → MayEnd known (compile_file name) o before now ended
+compile_stops None o name before now s ended why fault ends = tt
+compile_stops (Some files) o name before now s ended why fault ends =
+    stop_ends o (conduct_of files o (compile_file name)) (HoldsLongFile files name) before now s ended (λ line refused. inr refused) (λ long. (long, refl)) refl why fault ends
 
--- ---- `match`
+-- ---- sessions
 
-pub match_stops : (known : Option Files) (counts : Counts) (rules script : List ℕ) (before now : Option (List ℕ)) (s : Stop) (ended : Status)
-    → StopsInRules known (HostRose counts 0) Static rules s → (s ≡ stop.ReadFault → Rose counts.shelf.before counts.shelf.now) → EndsStop before now counts.sink s ended
-    → IfSome known (λ files. IsRun before now (Ends files counts (match_files rules script) ended))
-match_stops None counts rules script before now s ended why fault ends = tt
-match_stops (Some files) counts rules script before now s ended why fault ends =
-    stop_ends counts (IsServed files counts (of_rules rules) script) (RefusesSession files counts (of_rules rules)) (SessionHasTooMuch files (of_rules rules) script) before now s ended
-    (stops_map (PrintsRefusedRules files (HostRose counts 0) Static rules) (RefusesSession files counts (of_rules rules)) (HoldsLongFile files rules) (SessionHasTooMuch files (of_rules rules) script) s
-    (λ line refused. inl refused) (λ long. inl long) why) fault ends
+session_stops : (files : Files) (o : Outside) (session : Session) (script : List ℕ) (before now : Option (List ℕ)) (s : Stop) (ended : Status)
+    → StopsAs (RefusesSession files o session) (HasLongFileOf files session) s → (s ≡ stop.ReadFault → Rose o.shelf.before o.shelf.now) → EndsStop before now o.sink s ended
+    → IsRun before now (EndsBy o (in_rounds files o session script) ended)
+session_stops files o session script before now s ended why fault ends =
+    stop_ends o (in_rounds files o session script) (HasLongFileOf files session) before now s ended (λ line refused. inr (inr refused)) (λ long. inl (long, refl)) (inl refl) why fault ends
+
+pub match_stops : (known : Option Files) (o : Outside) (rules script : List ℕ) (before now : Option (List ℕ)) (s : Stop) (ended : Status)
+    → StopsInRules known (HostRose o 0) Static rules s → (s ≡ stop.ReadFault → Rose o.shelf.before o.shelf.now) → EndsStop before now o.sink s ended → MayEnd known (match_files rules script) o before now ended
+match_stops None o rules script before now s ended why fault ends = tt
+match_stops (Some files) o rules script before now s ended why fault ends =
+    session_stops files o (of_rules rules) script before now s ended
+    (stops_map (PrintsRefusedRules files (HostRose o 0) Static rules) (RefusesSession files o (of_rules rules)) (HoldsLongFile files rules) (HasLongFileOf files (of_rules rules)) s
+    (λ line refused. inl refused) (λ long. long) why) fault ends
+
+pub serve_stops : (known : Option Files) (o : Outside) (serving : Serving) (before now : Option (List ℕ)) (s : Stop) (ended : Status)
+    → StopsInServing known (HostRose o 0) serving s → (s ≡ stop.ReadFault → Rose o.shelf.before o.shelf.now) → EndsStop before now o.sink s ended → MayEnd known (serve_script serving) o before now ended
+serve_stops None o serving before now s ended why fault ends = tt
+serve_stops (Some files) o serving before now s ended why fault ends =
+    session_stops files o (of_words serving) serving.script before now s ended
+    (stops_map (RefusesFile files (HostRose o 0) serving) (RefusesSession files o (of_words serving)) (HasLongFileIn files serving) (HasLongFileOf files (of_words serving)) s
+    (λ line refused. inl refused) (λ long. long) why) fault ends
 
 -- the shelf told `after` what it tells, `known`
-pub match_serves : (known after : Option Files) (counts : Counts) (rules script : List ℕ) (loaded : Loaded) (before now : Option (List ℕ)) (shelf sink : Count) (rose : Type 0) (ended : Status)
-    → after ≡ known → IfSome known (λ files. LoadsFor files (of_rules rules) loaded) → IfSome after (λ files. Serves files loaded false script before now shelf sink rose ended) → SaysNoLess counts shelf sink rose
-    → IfSome known (λ files. IsRun before now (Ends files counts (match_files rules script) ended))
-match_serves None after counts rules script loaded before now shelf sink rose ended same loads serves less = tt
-match_serves (Some files) after counts rules script loaded before now shelf sink rose ended same loads serves less =
-    let serves_here = subst (λ (k : Option Files). IfSome k (λ f. Serves f loaded false script before now shelf sink rose ended)) same serves in
-    serves_here (of_rules rules) counts loads refl less
+pub match_serves : (known after : Option Files) (whole part : Outside) (rules script : List ℕ) (loaded : Loaded) (before now : Option (List ℕ)) (ended : Status)
+    → after ≡ known → IfSome known (λ files. LoadsFor files (of_rules rules) loaded) → MayServe after loaded false 1 script before now part ended → SaysNoLess whole part
+    → MayEnd known (match_files rules script) whole before now ended
+match_serves None after whole part rules script loaded before now ended same loads serves less = tt
+match_serves (Some files) after whole part rules script loaded before now ended same loads serves less =
+    (subst (λ (k : Option Files). MayServe k loaded false 1 script before now part ended) same serves) (of_rules rules) whole loads refl refl less
 
--- ---- `serve`
+pub serve_serves : (known after : Option Files) (whole part : Outside) (serving : Serving) (script : List ℕ) (workers : ℕ) (loaded : Loaded) (before now : Option (List ℕ)) (ended : Status)
+    → after ≡ known → script ≡ serving.script → workers ≡ serving.workers → IfSome known (λ files. Loads files serving loaded) → MayServe after loaded true workers script before now part ended → SaysNoLess whole part
+    → MayEnd known (serve_script serving) whole before now ended
+serve_serves None after whole part serving script workers loaded before now ended same named works loads serves less = tt
+serve_serves (Some files) after whole part serving script workers loaded before now ended same named works loads serves less =
+    (subst (λ (text : List ℕ). MayServe (Some files) loaded true workers text before now part ended) named (subst (λ (k : Option Files). MayServe k loaded true workers script before now part ended) same serves))
+    (of_words serving) whole loads refl (sym works) less
 
-pub serve_stops : (known : Option Files) (counts : Counts) (serving : Serving) (before now : Option (List ℕ)) (s : Stop) (ended : Status)
-    → StopsInServing known (HostRose counts 0) serving s → (s ≡ stop.ReadFault → Rose counts.shelf.before counts.shelf.now) → EndsStop before now counts.sink s ended
-    → IfSome known (λ files. IsRun before now (Ends files counts (serve_script serving) ended))
-serve_stops None counts serving before now s ended why fault ends = tt
-serve_stops (Some files) counts serving before now s ended why fault ends =
-    stop_ends counts (IsServed files counts (of_words serving) serving.script) (RefusesSession files counts (of_words serving)) (SessionHasTooMuch files (of_words serving) serving.script) before now s ended
-    (stops_map (RefusesFile files (HostRose counts 0) serving) (RefusesSession files counts (of_words serving)) (HasLongFileIn files serving) (SessionHasTooMuch files (of_words serving) serving.script) s
-    (λ line refused. inl refused) (λ long. inl long) why) fault ends
+-- an extension is not installed
+pub not_installed : (known : Option Files) (loaded : Loaded) (updates : Bool) (workers : ℕ) (script : List ℕ) (before now : Option (List ℕ)) (part : Outside) (s : Stop) (ended : Status)
+    → StopsAs (PrintsInstall loaded) ⊥ s → (s ≡ stop.ReadFault → ⊥) → EndsStop before now part.sink s ended → MayServe known loaded updates workers script before now part ended
+not_installed None loaded updates workers script before now part s ended why no_fault ends = tt
+not_installed (Some files) loaded updates workers script before now part s ended why no_fault ends = λ session whole loads takes works less.
+    session_stops files whole session script before now s ended
+    (stops_map (PrintsInstall loaded) (RefusesSession files whole session) ⊥ (HasLongFileOf files session) s
+    (λ line install. inr (record { loaded = loaded; read = loads; refused = install.refused; judged = install.judged; output = install.same })) (λ none. absurd none) why)
+    (λ is. absurd (no_fault is)) (subst (λ (sink : Count). EndsStop before now sink s ended) (sym less.same_sink) ends)
 
-pub serve_serves : (known after : Option Files) (counts : Counts) (serving : Serving) (script : List ℕ) (loaded : Loaded) (before now : Option (List ℕ)) (shelf sink : Count) (rose : Type 0) (ended : Status)
-    → after ≡ known → script ≡ serving.script → IfSome known (λ files. Loads files serving loaded) → IfSome after (λ files. Serves files loaded true script before now shelf sink rose ended) → SaysNoLess counts shelf sink rose
-    → IfSome known (λ files. IsRun before now (Ends files counts (serve_script serving) ended))
-serve_serves None after counts serving script loaded before now shelf sink rose ended same named loads serves less = tt
-serve_serves (Some files) after counts serving script loaded before now shelf sink rose ended same named loads serves less =
-    let serves_here = subst (λ (k : Option Files). IfSome k (λ f. Serves f loaded true script before now shelf sink rose ended)) same serves in
-    let serves_script = subst (λ (text : List ℕ). Serves files loaded true text before now shelf sink rose ended) named serves_here in
-    serves_script (of_words serving) counts loads refl less
+-- the script is not opened
+pub not_started : (known : Option Files) (loaded : Loaded) (updates : Bool) (workers : ℕ) (script : List ℕ) (before : Option (List ℕ)) (part : Outside)
+    → Rose part.shelf.before part.shelf.now → MayServe known loaded updates workers script before before part status.ReadFault
+not_started None loaded updates workers script before part rose = tt
+not_started (Some files) loaded updates workers script before part rose = λ session whole loads takes works less.
+    ([], still_nothing before before refl, (less.shelf_rose rose, inl refl))
+
+left_told : (left : Option (List ℕ)) (told : List ℕ) → is_some left ≡ true → told ≡ unwrap_or left [] → left ≡ Some told
+left_told None told some same = absurd (cc some)
+left_told (Some l) told some same = ap Some (sym same)
+
+-- the script was served
+pub script_served : (known : Option Files) (loaded : Loaded) (basis : Basis) (updates : Bool) (workers : ℕ) (name : List ℕ) (before now started left : Option (List ℕ)) (part : Outside) (result : Result (Unit {0}) ServeStop) (ended : Status)
+    → IsOpened loaded basis → IsStarted known name started → is_some left ≡ is_some started → part.left ≡ unwrap_or left []
+    → (result ≡ Err serve.ReadFault → Rose part.shelf.before part.shelf.now) → (result ≡ Err serve.WriteFault → Rose part.sink.before part.sink.now)
+    → IfSome started (λ script. EndsServing before now part.hosts (record { suffixes = basis.suffixes; workers = workers; updates = updates }) basis.state script left result) → ended ≡ status_of result
+    → MayServe known loaded updates workers name before now part ended
+script_served None loaded basis updates workers name before now started left part result ended opened start some same fault wrote ends is = tt
+script_served (Some files) loaded basis updates workers name before now None left part result ended opened start some same fault wrote ends is = absurd (cc (start.0))
+script_served (Some files) loaded basis updates workers name before now (Some script) left part result ended opened start some same fault wrote ends is = λ session whole loads takes works less.
+    subst (λ (e : Status). IsRun before now (EndsBy whole (in_rounds files whole session name) e)) (sym is)
+    (served_ends files session whole part loaded basis updates workers name script before now left result
+    (record { read = loads; opened = opened; takes = takes; works = works; less = less }) (sym start.1) (left_told left whole.left some (less.same_left ∙ same))
+    (λ r. less.shelf_rose (fault r)) (λ r. subst (λ (c : Count). Rose c.before c.now) (sym less.same_sink) (wrote r)) ends)
 
 -- ---- installations
 
@@ -145,21 +173,10 @@ install_refused loaded r name refusal s is why prints =
 
 -- ---- a run
 
--- what a command did, of a run with these hosts, of which the command had the first
-out_among : (files : Files) (used : Counts) (others hosts : List Count) (words : List (List ℕ)) (task : Task) (before now : Option (List ℕ)) (ended : Status)
-    → task_of words ≡ Some task → hosts ≡ used.hosts ++ others → IsRun before now (Ends files (among used others) task ended)
-    → IsRun before now (Out words files (with_hosts used hosts) ended)
-out_among files used others hosts words task before now ended is first (written, taken, ends) = (
-  written,
-  taken,
-  subst (λ (h : List Count). Out words files (with_hosts used h) ended written) (sym first)
-      (subst (λ (t : Option Task). EndsFor files (among used others) t ended written) (sym is) ends),
-)
-
 -- what a command may do, for the words that say it
-pub out_of : (known : Option Files) (used : Counts) (others hosts : List Count) (words : List (List ℕ)) (task : Task) (before now : Option (List ℕ)) (ended : Status)
-    → task_of words ≡ Some task → hosts ≡ used.hosts ++ others → MayEnd known task used before now ended
-    → IfSome known (λ files. (written : List ℕ) × Appends before now written × Out words files (with_hosts used hosts) ended written)
-out_of None used others hosts words task before now ended is first ends = tt
-out_of (Some files) used others hosts words task before now ended is first ends =
-    out_among files used others hosts words task before now ended is first (ends others)
+pub out_of : (known : Option Files) (o : Outside) (words : List (List ℕ)) (task : Task) (before now : Option (List ℕ)) (ended : Status)
+    → task_of words ≡ Some task → MayEnd known task o before now ended
+    → IfSome known (λ files. (written : List ℕ) × Appends before now written × Out words files o ended written)
+out_of None o words task before now ended is ends = tt
+out_of (Some files) o words task before now ended is (written, taken, ends) =
+    (written, taken, subst (λ (t : Option Task). EndsFor files o t ended written) (sym is) ends)

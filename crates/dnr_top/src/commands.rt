@@ -1,12 +1,14 @@
 //! The commands: what is read, answered and written, in order.
-ghost use Rattle.std.specs.Prelude.{◌≡◌, ◌≢◌, ◌<◌, ◌↔◌, ℕ, List, [], ◌∷◌, None, map, length, IfSome, string_bytes};
+ghost use Rattle.std.specs.Prelude.{◌≡◌, ◌≢◌, ◌<◌, ◌≤◌, ◌↔◌, ℕ, List, [], ◌∷◌, None, map, length, IfSome, string_bytes};
+ghost use Rattle.std.specs.List.{AllZip};
 ghost use Rattle.std.specs.Io.KnownBytes.{Appends};
 ghost use Rattle.dnr_base.specs.Faults.{Rose};
-ghost use Rattle.session_spec.specs.Out.{Out, IsSilent};
+ghost use Rattle.session_laws.specs.Turns.{NoneFell};
+ghost use Rattle.session_spec.specs.Out.{Out, hosts_needed};
 ghost use Rattle.session_spec.specs.Words.{match_files, check_file, compile_file, serve_script, task_of};
 ghost use Rattle.session_spec.specs.Refusals.{count_line};
 ghost use Rattle.dnr_top.specs.Run as run;
-ghost use Rattle.dnr_top.specs.Run.{EndsWith, MayEnd, count, counts, host_counts};
+ghost use Rattle.dnr_top.specs.Run.{EndsWith, MayEnd, count, outside};
 
 use crate::compiling::text_of;
 use crate::ending::{stop_with, write_to_end};
@@ -21,17 +23,18 @@ use session_load::{CompiledList, load_list, load_local, load_rules, load_serving
 use std::alloc::Global;
 
 /// Runs the command that the words after the program's name say, over the files of the shelf, and writes
-/// its output to `out`. The first host checks the patterns of files, and the second finds their matches.
+/// its output to `out`. The first host checks the patterns of files and of updates, and each other finds the matches of
+/// patterns for one worker.
 ///
 /// - `match RULES REQUESTS` reads the rules of the file RULES, and answers each request line of the file
 ///   REQUESTS.
 /// - `check KIND RULES` reads the rules of the file RULES, which are of this kind, and counts them.
 /// - `compile LIST` reads the filter list LIST and prints the rules that say what it says.
-/// - `serve [--psl F] [--ext NAME].. [--list NAME=F].. SCRIPT` installs extensions and filter lists, and answers each
-///   request line of the file SCRIPT.
+/// - `serve [--workers N] [--psl F] [--ext NAME].. [--list NAME=F].. SCRIPT` installs extensions and filter lists, and
+///   serves the file SCRIPT: its requests are answered, its updates applied, round by round.
 ///
-/// With `Done` and `Refused` all of the output was written. A run that can't go on has written a beginning
-/// of it, and nothing where a file is too long.
+/// With `Done` and `Refused` all of the output was written. A session that can't go on has written the rounds before
+/// that, or a beginning of what it may write.
 pub fn run<F: Shelf, O: Sink, H: RegexHost>(
     alloc: Global,
     words: &[String],
@@ -39,30 +42,37 @@ pub fn run<F: Shelf, O: Sink, H: RegexHost>(
     out: &mut O,
     hosts: &mut Vec<H>,
 ) -> Status
-    requires { 1 < length hosts.old.items }
+    requires { hosts_needed (task_of (map string_bytes words.now)) ≤ length hosts.old.items }
     ensures usage { (result ≡ Status.Usage) ↔ (task_of (map string_bytes words.now) ≡ None) }
-    ensures silent { IsSilent result → O.taken out.new ≡ O.taken out.old }
+    ensures silent { result ≡ Status.Usage → O.taken out.new ≡ O.taken out.old }
+
+    // No host is lost, and no count of faults falls.
+    ensures hosts { AllZip (λ old now. H.faults old ≤ H.faults now) hosts.old.items hosts.new.items }
 
     // Where the shelf tells what its files hold, the status and what was written are allowed.
     ensures allowed { IfSome (F.Source.files shelf.old) (λ files. (written : List ℕ)
         × Appends (O.taken out.old) (O.taken out.new) written
         × Out (map string_bytes words.now) files
-        (counts (F.Source.faults shelf.old) (F.Source.faults shelf.new) (O.faults out.old) (O.faults out.new)
-        (host_counts H.faults hosts.old.items hosts.new.items)) result written) }
+        (outside (count (F.Source.faults shelf.old) (F.Source.faults shelf.new)) (count (O.faults out.old) (O.faults out.new))
+        (map H.faults hosts.old.items) (map H.faults hosts.new.items) (F.Source.left shelf.new)) result written) }
 
     // A fault is told only where it was counted, whatever the shelf tells.
     ensures read_fault { result ≡ Status.ReadFault → Rose (F.Source.faults shelf.old) (F.Source.faults shelf.new) }
     ensures write_fault { result ≡ Status.WriteFault → Rose (O.faults out.old) (O.faults out.new) }
 {
     let (checkers, finders) = hosts.split_at_mut(1);
-    let (checker, finder) = (&mut checkers[0], &mut finders[0]);
+    let checker = &mut checkers[0];
     match read_words(words) {
         Some(Task::Match(rules, script)) => {
-            match_requests(alloc, rules, script, shelf, out, checker, finder)
+            match_requests(alloc, rules, script, shelf, out, checker, finders)
         }
-        Some(Task::Check(kind, rules)) => check_rules(alloc, kind, rules, shelf, out, checker),
-        Some(Task::Compile(list)) => compile_list(alloc, list, shelf, out, checker),
-        Some(Task::Serve(serving)) => serve_script(alloc, &serving, shelf, out, checker, finder),
+        Some(Task::Check(kind, rules)) => {
+            check_rules(alloc, kind, rules, shelf, out, checker, finders)
+        }
+        Some(Task::Compile(list)) => compile_list(alloc, list, shelf, out, checker, finders),
+        Some(Task::Serve(serving)) => {
+            serve_script(alloc, &serving, shelf, out, checker, finders)
+        }
         None => Status::Usage,
     }
 }
@@ -74,20 +84,23 @@ fn match_requests<F: Shelf, O: Sink, H: RegexHost>(
     shelf: &mut F,
     out: &mut O,
     checker: &mut H,
-    finder: &mut H,
+    finders: &mut [H],
 ) -> Status
+    requires { 0 < length finders.old }
     ensures no_usage { result ≢ Status.Usage }
-    ensures silent { IsSilent result → O.taken out.new ≡ O.taken out.old }
     ensures allowed { MayEnd (F.Source.files shelf.old) (match_files rules.now script.now)
-        (counts (F.Source.faults shelf.old) (F.Source.faults shelf.new) (O.faults out.old) (O.faults out.new)
-        (count (H.faults checker.old) (H.faults checker.new)
-        ∷ count (H.faults finder.old) (H.faults finder.new) ∷ []))
+        (outside (count (F.Source.faults shelf.old) (F.Source.faults shelf.new)) (count (O.faults out.old) (O.faults out.new))
+        (H.faults checker.old ∷ map H.faults finders.old) (H.faults checker.new ∷ map H.faults finders.new)
+        (F.Source.left shelf.new))
         (O.taken out.old) (O.taken out.new) result }
+    ensures later { NoneFell (H.faults checker.old ∷ map H.faults finders.old) (H.faults checker.new ∷ map H.faults finders.new) }
     ensures read_fault { result ≡ Status.ReadFault → Rose (F.Source.faults shelf.old) (F.Source.faults shelf.new) }
     ensures write_fault { result ≡ Status.WriteFault → Rose (O.faults out.old) (O.faults out.new) }
 {
     match load_local(alloc, rules, shelf, checker) {
-        Ok(loaded) => serve(alloc, loaded, script, false, shelf, out, finder),
+        Ok(loaded) => serve(
+            alloc, loaded, script, false, 1, shelf, out, checker, finders,
+        ),
         Err(stop) => stop_with(&stop, out),
     }
 }
@@ -98,20 +111,36 @@ fn serve_script<F: Shelf, O: Sink, H: RegexHost>(
     shelf: &mut F,
     out: &mut O,
     checker: &mut H,
-    finder: &mut H,
+    finders: &mut [H],
 ) -> Status
+    requires { serving.now.workers ≤ length finders.old }
     ensures no_usage { result ≢ Status.Usage }
-    ensures silent { IsSilent result → O.taken out.new ≡ O.taken out.old }
     ensures allowed { MayEnd (F.Source.files shelf.old) (serve_script serving.now)
-        (counts (F.Source.faults shelf.old) (F.Source.faults shelf.new) (O.faults out.old) (O.faults out.new)
-        (count (H.faults checker.old) (H.faults checker.new)
-        ∷ count (H.faults finder.old) (H.faults finder.new) ∷ []))
+        (outside (count (F.Source.faults shelf.old) (F.Source.faults shelf.new)) (count (O.faults out.old) (O.faults out.new))
+        (H.faults checker.old ∷ map H.faults finders.old) (H.faults checker.new ∷ map H.faults finders.new)
+        (F.Source.left shelf.new))
         (O.taken out.old) (O.taken out.new) result }
+    ensures later { NoneFell (H.faults checker.old ∷ map H.faults finders.old) (H.faults checker.new ∷ map H.faults finders.new) }
     ensures read_fault { result ≡ Status.ReadFault → Rose (F.Source.faults shelf.old) (F.Source.faults shelf.new) }
     ensures write_fault { result ≡ Status.WriteFault → Rose (O.faults out.old) (O.faults out.new) }
 {
+    let workers = serving.workers() as usize;
+    if workers == 0 {
+        // No words say so.
+        return Status::NoMemory;
+    }
     match load_serving(alloc, serving, shelf, checker) {
-        Ok(loaded) => serve(alloc, loaded, serving.script(), true, shelf, out, finder),
+        Ok(loaded) => serve(
+            alloc,
+            loaded,
+            serving.script(),
+            true,
+            workers,
+            shelf,
+            out,
+            checker,
+            finders,
+        ),
         Err(stop) => stop_with(&stop, out),
     }
 }
@@ -123,13 +152,15 @@ fn check_rules<F: Shelf, O: Sink, H: RegexHost>(
     shelf: &mut F,
     out: &mut O,
     checker: &mut H,
+    _finders: &mut [H],
 ) -> Status
     ensures no_usage { result ≢ Status.Usage }
-    ensures silent { IsSilent result → O.taken out.new ≡ O.taken out.old }
     ensures allowed { MayEnd (F.Source.files shelf.old) (check_file kind name.now)
-        (counts (F.Source.faults shelf.old) (F.Source.faults shelf.new) (O.faults out.old) (O.faults out.new)
-        (count (H.faults checker.old) (H.faults checker.new) ∷ []))
+        (outside (count (F.Source.faults shelf.old) (F.Source.faults shelf.new)) (count (O.faults out.old) (O.faults out.new))
+        (H.faults checker.old ∷ map H.faults _finders.old) (H.faults checker.new ∷ map H.faults _finders.new)
+        (F.Source.left shelf.new))
         (O.taken out.old) (O.taken out.new) result }
+    ensures later { NoneFell (H.faults checker.old ∷ map H.faults _finders.old) (H.faults checker.new ∷ map H.faults _finders.new) }
     ensures read_fault { result ≡ Status.ReadFault → Rose (F.Source.faults shelf.old) (F.Source.faults shelf.new) }
     ensures write_fault { result ≡ Status.WriteFault → Rose (O.faults out.old) (O.faults out.new) }
 {
@@ -145,13 +176,15 @@ fn compile_list<F: Shelf, O: Sink, H: RegexHost>(
     shelf: &mut F,
     out: &mut O,
     checker: &mut H,
+    _finders: &mut [H],
 ) -> Status
     ensures no_usage { result ≢ Status.Usage }
-    ensures silent { IsSilent result → O.taken out.new ≡ O.taken out.old }
     ensures allowed { MayEnd (F.Source.files shelf.old) (compile_file name.now)
-        (counts (F.Source.faults shelf.old) (F.Source.faults shelf.new) (O.faults out.old) (O.faults out.new)
-        (count (H.faults checker.old) (H.faults checker.new) ∷ []))
+        (outside (count (F.Source.faults shelf.old) (F.Source.faults shelf.new)) (count (O.faults out.old) (O.faults out.new))
+        (H.faults checker.old ∷ map H.faults _finders.old) (H.faults checker.new ∷ map H.faults _finders.new)
+        (F.Source.left shelf.new))
         (O.taken out.old) (O.taken out.new) result }
+    ensures later { NoneFell (H.faults checker.old ∷ map H.faults _finders.old) (H.faults checker.new ∷ map H.faults _finders.new) }
     ensures read_fault { result ≡ Status.ReadFault → Rose (F.Source.faults shelf.old) (F.Source.faults shelf.new) }
     ensures write_fault { result ≡ Status.WriteFault → Rose (O.faults out.old) (O.faults out.new) }
 {
@@ -167,7 +200,7 @@ fn count_rules<O: Sink>(alloc: Global, rules: usize, out: &mut O) -> Status
         (count (O.faults out.old) (O.faults out.new)) (count_line rules) result }
 {
     let mut text = String::new(alloc);
-    match write_count(rules, &mut text) {
+    match write_count(alloc, rules, &mut text) {
         Ok(()) => write_to_end(text.as_bytes(), Status::Done, out),
         Err(NoMemory) => Status::NoMemory,
     }

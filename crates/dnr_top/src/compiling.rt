@@ -33,6 +33,6 @@ fn head_of(alloc: Global, reported: &[Reported], rules: usize) -> Result<String,
     for one in reported {
         write_unsupported(alloc, one, &mut head)?;
     }
-    write_count(rules, &mut head)?;
+    write_count(alloc, rules, &mut head)?;
     Ok(head)
 }

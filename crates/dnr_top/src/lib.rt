@@ -1,11 +1,9 @@
 //! The engine from the words of the command line to the bytes that are written. Its one call is `run`.
 #![tactic(auto)]
 
-mod answers;
 mod commands;
 mod compiling;
 mod ending;
-mod postponed;
 mod session;
 
 pub use commands::run;

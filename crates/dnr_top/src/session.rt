@@ -1,42 +1,46 @@
-//! A session: what was loaded is installed, and the lines of a script are answered.
-ghost use Rattle.std.specs.Prelude.{◌≡◌, ◌≢◌, ◌≤◌, length, Err, IfOk, IfErr, IsErrOf};
-ghost use Rattle.dnr_base.specs.Faults.{Rose, HasCauseOf};
-ghost use Rattle.dnr_spec.specs.Lines.{max_lines};
+//! A session: what was loaded is installed, and the script is served.
+ghost use Rattle.std.specs.Prelude.{◌≡◌, ◌≢◌, ◌≤◌, ◌<◌, ◌∷◌, length, map, is_some, Err, IfOk, IfErr, IfSome};
+ghost use Rattle.dnr_base.specs.Faults.{Rose, HasCause, HasCauseOf};
 ghost use Rattle.session_load.specs.Stops.{Prints, StopsAs};
-ghost use Rattle.session_spec.specs.Out.{IsSilent};
+ghost use Rattle.session_laws.specs.Turns.{NoneFell, counts_between};
+ghost use Rattle.session_serve.specs.Round.{setting_with};
+ghost use Rattle.session_serve.specs.Serving.{EndsServing};
 ghost use Rattle.session_spec.specs.Refusals.{install_line};
-ghost use Rattle.dnr_top.specs.Answers.{lines_seen, setting_of};
-ghost use Rattle.dnr_top.specs.Run.{EndsAnswers, IsOpened, MayServe, PrintsInstall, StopsInScript, TellsLines, TellsTooMuch, count};
+ghost use Rattle.dnr_top.specs.Run.{IsOpened, MayServe, PrintsInstall, count, outside, status_of};
 
-use crate::answers::{WriteRefusal, answer_lines};
 use crate::ending::stop_with;
 use dnr_base::NoMemory;
-use dnr_io::{LineRefusal, Shelf, Sink, Status, read_lines};
+use dnr_io::{Shelf, Sink, Source, Status};
 use explain_report::write_install_refusal;
 use generation::{FirstRefusal, Generation};
 use regex_host::RegexHost;
 use session_load::{Loaded, Stop};
+use session_serve::{ServeStop, Session, serve_lines};
 use std::alloc::Global;
 use update_spec::Refusal;
 
-/// Installs what was loaded, reads the script and answers its lines. Where the session postpones them, lines that ask for
-/// updates are answered as what is not there yet. `finder` finds the matches of patterns.
+/// Installs what was loaded, and serves the script with so many of the finders. Without updates it knows requests alone.
 pub fn serve<F: Shelf, O: Sink, H: RegexHost>(
     alloc: Global,
     loaded: Loaded,
     script: &str,
-    postponed: bool,
+    updates: bool,
+    workers: usize,
     shelf: &mut F,
     out: &mut O,
-    finder: &mut H,
+    checker: &mut H,
+    finders: &mut [H],
 ) -> Status
+    requires some { 0 < workers }
+    requires enough { workers ≤ length finders.old }
     ensures no_usage { result ≢ Status.Usage }
-    ensures silent { IsSilent result → O.taken out.new ≡ O.taken out.old }
-    ensures allowed { MayServe (F.Source.files shelf.old) loaded postponed script.now
+    ensures allowed { MayServe (F.Source.files shelf.old) loaded updates workers script.now
         (O.taken out.old) (O.taken out.new)
-        (count (F.Source.faults shelf.old) (F.Source.faults shelf.new)) (count (O.faults out.old) (O.faults out.new))
-        (Rose (H.faults finder.old) (H.faults finder.new)) result }
-    ensures later { F.Source.faults shelf.old ≤ F.Source.faults shelf.new }
+        (outside (count (F.Source.faults shelf.old) (F.Source.faults shelf.new)) (count (O.faults out.old) (O.faults out.new))
+        (H.faults checker.old ∷ map H.faults finders.old) (H.faults checker.new ∷ map H.faults finders.new)
+        (F.Source.left shelf.new)) result }
+    ensures later { NoneFell (H.faults checker.old ∷ map H.faults finders.old) (H.faults checker.new ∷ map H.faults finders.new) }
+    ensures shelf_later { F.Source.faults shelf.old ≤ F.Source.faults shelf.new }
     ensures read_fault { result ≡ Status.ReadFault → Rose (F.Source.faults shelf.old) (F.Source.faults shelf.new) }
     ensures write_fault { result ≡ Status.WriteFault → Rose (O.faults out.old) (O.faults out.new) }
 {
@@ -44,9 +48,51 @@ pub fn serve<F: Shelf, O: Sink, H: RegexHost>(
         Ok(generation) => generation,
         Err(stop) => return stop_with(&stop, out),
     };
-    match load_script(alloc, script, shelf) {
-        Ok(lines) => answer(alloc, &generation, postponed, &lines, out, finder),
-        Err(stop) => stop_with(&stop, out),
+    match shelf.start(script) {
+        Ok(()) => ended(serve_started(
+            alloc, generation, updates, workers, shelf, out, checker, finders,
+        )),
+        Err(_) => Status::ReadFault,
+    }
+}
+
+// Serves what the source has left with so many of the finders.
+fn serve_started<S: Source, O: Sink, H: RegexHost>(
+    alloc: Global,
+    generation: Generation,
+    updates: bool,
+    workers: usize,
+    source: &mut S,
+    out: &mut O,
+    checker: &mut H,
+    finders: &mut [H],
+) -> Result<(), ServeStop>
+    requires some { 0 < workers }
+    requires enough { workers ≤ length finders.old }
+    ensures served { IfSome (S.left source.old) (λ script. EndsServing (O.taken out.old) (O.taken out.new)
+        (counts_between (H.faults checker.old ∷ map H.faults finders.old) (H.faults checker.new ∷ map H.faults finders.new))
+        (record { suffixes = generation.suffixes; workers = workers; updates = updates }) generation.state script (S.left source.new) result) }
+    ensures later { NoneFell (H.faults checker.old ∷ map H.faults finders.old) (H.faults checker.new ∷ map H.faults finders.new) }
+    ensures told { is_some (S.left source.new) ≡ is_some (S.left source.old) }
+    ensures read_fault { HasCauseOf ServeStop.ReadFault (S.faults source.old) (S.faults source.new) result }
+    ensures write_fault { HasCauseOf ServeStop.WriteFault (O.faults out.old) (O.faults out.new) result }
+{
+    let session = Session::new(alloc, generation, updates);
+    let (seats, _) = finders.split_at_mut(workers);
+    serve_lines(alloc, session, source, out, checker, seats)
+}
+
+// The status that the serving of a script ends with.
+fn ended(served: Result<(), ServeStop>) -> Status
+    ensures status { result ≡ status_of served }
+    ensures no_usage { result ≢ Status.Usage }
+{
+    match served {
+        Ok(()) => Status::Done,
+        Err(ServeStop::ReadFault) => Status::ReadFault,
+        Err(ServeStop::WriteFault) => Status::WriteFault,
+        Err(ServeStop::TooLong) => Status::FileTooLong,
+        Err(ServeStop::NoMemory) => Status::NoMemory,
     }
 }
 
@@ -71,51 +117,5 @@ fn refused(alloc: Global, extension: &str, refusal: &Refusal) -> Stop
     match write_install_refusal(alloc, extension, refusal, &mut line) {
         Ok(()) => Stop::Refused(line),
         Err(NoMemory) => Stop::NoMemory,
-    }
-}
-
-// Reads the lines of a script, all before the first is answered.
-fn load_script<F: Shelf>(alloc: Global, name: &str, shelf: &mut F) -> Result<Vec<Vec<u8>>, Stop>
-    ensures lines { IfOk result (λ lines. TellsLines (F.Source.files shelf.old) name.now lines.items) }
-    ensures count { IfOk result (λ lines. length lines.items ≤ max_lines) }
-    ensures stops { IfErr result (StopsInScript (F.Source.files shelf.old) name.now) }
-    ensures cause { HasCauseOf Stop.ReadFault (F.Source.faults shelf.old) (F.Source.faults shelf.new) result }
-{
-    match lines_of(alloc, name, shelf) {
-        Ok(lines) => Ok(lines),
-        Err(LineRefusal::ReadFault) => Err(Stop::ReadFault),
-        Err(LineRefusal::LineTooLong) => Err(Stop::FileTooLong),
-        Err(LineRefusal::NoMemory) => Err(Stop::NoMemory),
-    }
-}
-
-fn lines_of<F: Shelf>(alloc: Global, name: &str, shelf: &mut F) -> Result<Vec<Vec<u8>>, LineRefusal>
-    ensures lines { IfOk result (λ lines. TellsLines (F.Source.files shelf.old) name.now lines.items) }
-    ensures count { IfOk result (λ lines. length lines.items ≤ max_lines) }
-    ensures too_long { IsErrOf result LineRefusal.LineTooLong → TellsTooMuch (F.Source.files shelf.old) name.now }
-    ensures cause { HasCauseOf LineRefusal.ReadFault (F.Source.faults shelf.old) (F.Source.faults shelf.new) result }
-{
-    shelf.start(name)?;
-    read_lines(alloc, shelf)
-}
-
-// Answers the lines. `finder` finds the matches of patterns.
-fn answer<O: Sink, H: RegexHost>(
-    alloc: Global,
-    generation: &Generation,
-    postponed: bool,
-    lines: &[Vec<u8>],
-    out: &mut O,
-    finder: &mut H,
-) -> Status
-    requires { length lines.now ≤ max_lines }
-    ensures { EndsAnswers (O.taken out.old) (O.taken out.new) (count (O.faults out.old) (O.faults out.new))
-        (setting_of generation.now (H.faults finder.old) (H.faults finder.new) postponed)
-        generation.now.state (lines_seen lines.now) result }
-{
-    match answer_lines(alloc, generation, postponed, lines, out, finder) {
-        Ok(()) => Status::Done,
-        Err(WriteRefusal::Failed) => Status::WriteFault,
-        Err(WriteRefusal::NoMemory) => Status::NoMemory,
     }
 }

@@ -1,3 +1,4 @@
 pub mod Splitting
 pub mod ServeOptions
 pub mod Pairs
+pub mod Numerals

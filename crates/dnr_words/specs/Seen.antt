@@ -1,25 +1,35 @@
 -- What the words that are read stand for.
+use Rattle.std.specs.Prelude.{ℕ, List, Option}
 use Rattle.std.specs.Option.{option_copied}
 use Rattle.session_spec.specs.Words as spec
 use Rattle.dnr_words.specs.Reading as reading
 use Rattle.dnr_words.specs.declared.options.Installed.{Installed}
-use Rattle.dnr_words.specs.declared.options.Installed.TheVariants.{Folder, List}
+use Rattle.dnr_words.specs.declared.options.Installed.TheVariants as what
 use Rattle.dnr_words.specs.declared.options.Choice.{Choice}
-use Rattle.dnr_words.specs.declared.options.Choice.TheVariants.{Suffixes, Install}
+use Rattle.dnr_words.specs.declared.options.Choice.TheVariants.{Workers, Suffixes, Install}
+use Rattle.dnr_words.specs.declared.sample.Sample.{Sample}
+use Rattle.dnr_words.specs.declared.serving.Once.{Once}
 use Rattle.dnr_words.specs.declared.serving.Chosen.{Chosen}
 use Rattle.dnr_words.specs.declared.task.Task.{Task}
 use Rattle.dnr_words.specs.declared.task.Task.TheVariants.{Match, Check, Compile, Serve}
 
 abbrev pub installed_seen : Installed → spec.Installed
-installed_seen (Folder name) = spec.folder name.now
-installed_seen (List name file) = spec.list name.now file.now
+installed_seen (what.Folder name) = spec.folder name.now
+installed_seen (what.List name file) = spec.list name.now file.now
 
 abbrev pub choice_seen : Choice → spec.Choice
+choice_seen (Workers count) = spec.workers_of count
 choice_seen (Suffixes file) = spec.suffixes_in file.now
 choice_seen (Install one) = spec.install (installed_seen one)
 
+abbrev pub once_seen : Once → Option ℕ × Option (List ℕ)
+once_seen once = (once.workers, option_copied once.suffixes)
+
 abbrev pub chosen_seen : Chosen → reading.Chosen
-chosen_seen c = record { suffixes = option_copied c.suffixes; script = c.script.now }
+chosen_seen c = record { workers = c.once.workers; suffixes = option_copied c.once.suffixes; script = c.script.now }
+
+abbrev pub sample_seen : Sample → spec.Sample
+sample_seen s = record { seed = s.seed; rules = s.rules; requests = s.requests; updates = s.updates }
 
 abbrev pub task_seen : Task → spec.Task
 task_seen (Match rules script) = spec.match_files rules.now script.now

@@ -5,10 +5,13 @@
 #![tactic(auto)]
 
 mod names;
+mod numbers;
 mod options;
+mod sample;
 mod serving;
 mod task;
 
 pub use options::Installed;
+pub use sample::{Sample, read_sample};
 pub use serving::Serving;
 pub use task::{Task, read_words};

@@ -4,6 +4,9 @@ ghost use Rattle.session_spec.specs.Words as spec;
 ghost use Rattle.dnr_words.specs.Seen.{choice_seen};
 
 use crate::names::{is_extension_name, is_file_name};
+use crate::numbers::small_number_up_to;
+
+const MOST_WORKERS: u32 = 8;
 
 /// What is installed before the script.
 #[derive(Clone, Copy, Debug)]
@@ -17,6 +20,7 @@ pub enum Installed<'a> {
 // What an option chooses.
 #[derive(Clone, Copy)]
 pub(crate) enum Choice<'a> {
+    Workers(u32),
     Suffixes(&'a str),
     Install(Installed<'a>),
 }
@@ -26,10 +30,23 @@ pub(crate) fn choice_of<'a>(option: &str, value: &'a str) -> Option<Choice<'a>>
     ensures { option_map choice_seen result ≡ spec.choice_of option.now value.now }
 {
     match option {
+        "--workers" => workers_named(value),
         "--psl" if is_file_name(value) => Some(Choice::Suffixes(value)),
         "--ext" if is_extension_name(value) => Some(Choice::Install(Installed::Folder(value))),
         "--list" => list_named(value),
         _ => None,
+    }
+}
+
+// One to eight answer requests.
+fn workers_named(value: &str) -> Option<Choice<'_>>
+    ensures { option_map choice_seen result ≡ spec.workers_named value.now }
+{
+    let count = small_number_up_to(MOST_WORKERS, value)?;
+    if count > 0 {
+        Some(Choice::Workers(count))
+    } else {
+        None
     }
 }
 

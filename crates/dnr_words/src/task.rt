@@ -16,7 +16,7 @@ pub enum Task<'a> {
     Check(RuleKind, &'a str),
     /// `compile LIST`: the file of the filter list.
     Compile(&'a str),
-    /// `serve [--psl F] [--ext NAME].. [--list NAME=F].. SCRIPT`: a session.
+    /// `serve [--workers N] [--psl F] [--ext NAME].. [--list NAME=F].. SCRIPT`: a session.
     Serve(Serving<'a>),
 }
 

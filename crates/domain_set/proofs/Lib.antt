@@ -1,5 +1,5 @@
 pub mod Labels
 pub mod Ends
-pub mod Tables
+pub mod Found
 pub mod Covered
 pub mod Lowered

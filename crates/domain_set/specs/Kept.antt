@@ -1,4 +1,4 @@
--- What a set keeps: its list, of domains in lower case, and where the list is long a table of the same texts.
+-- What a set keeps: its list, of domains in lower case, and where the list is long the order of its texts.
 use Rattle.std.specs.Prelude.{◌≡◌, ℕ, List, [], Option, Some, None, Ok, Box}
 use Rattle.std.specs.declared.alloc.Global.{Global}
 use Rattle.dnr_spec.specs.Domains.{domains_of}
@@ -12,4 +12,4 @@ entries_of (Some kept) = kept.value.entries.items
 abbrev pub IsKept : Option (Box Kept Global) → Type 0
 IsKept None = Unit {0}
 IsKept (Some kept) =
-    IsTable kept.value.entries.items kept.value.table × (domains_of kept.value.entries.items ≡ Ok kept.value.entries.items)
+    IsTable kept.value.entries.items kept.value.order × (domains_of kept.value.entries.items ≡ Ok kept.value.entries.items)

@@ -5,13 +5,13 @@ ghost use Rattle.domain_set.specs.Refused.{IsRefused};
 ghost use Rattle.domain_set.specs.Table.{IsTable};
 
 use crate::domain::{is_covered, is_domain};
-use crate::table::{Table, covers, table_of};
+use crate::table::{covers, order_of};
 use dnr_base::{Copied, NoMemory, Text};
 use dnr_spec::DomainRefusal;
 use std::alloc::Global;
 use std::marker::Model;
 
-// A list of at most this many entries is walked. The walk is shorter than the look-ups, and no table is kept.
+// A list of at most this many entries is walked. The walk is shorter than the look-ups, and no order is kept.
 const FEW: usize = 8;
 
 /// Domains of a rule's condition, as `RuleCondition.initiatorDomains` of Chrome's reference. A clause sees
@@ -24,7 +24,8 @@ pub struct DomainSet {
 #[derive(Debug, Drop)]
 struct Kept {
     entries: Vec<Text>,
-    table: Option<Box<Table>>,
+    // the places of the entries in the order of their texts, where they are many
+    order: Option<Box<Vec<u32>>>,
 }
 
 impl Model for DomainSet {
@@ -75,7 +76,7 @@ impl DomainSet {
         DomainSet::of_entries(alloc, entries)
     }
 
-    // The set of these entries, with a table where they are many.
+    // The set of these entries, with their order where they are many.
     fn of_entries(alloc: Global, entries: Vec<Text>) -> Result<DomainSet, NoMemory>
         requires { domains_of entries.items ≡ Ok entries.items }
         ensures { IfOk result (λ set. set ≡ entries.items) }
@@ -83,8 +84,8 @@ impl DomainSet {
         if entries.is_empty() {
             return Ok(DomainSet::empty());
         }
-        let table = table_if_many(alloc, entries.as_slice())?;
-        let kept = Box::new(alloc, Kept { entries, table })?;
+        let order = order_if_many(alloc, entries.as_slice())?;
+        let kept = Box::new(alloc, Kept { entries, order })?;
         Ok(DomainSet { kept: Some(kept) })
     }
 
@@ -96,12 +97,12 @@ impl DomainSet {
     {
         match &self.kept {
             None => false,
-            Some(kept) => match &kept.table {
+            Some(kept) => match &kept.order {
                 None => kept
                     .entries
                     .iter()
                     .any(|entry| is_covered(entry.as_str(), host)),
-                Some(table) => covers(table, host),
+                Some(order) => covers(kept.entries.as_slice(), order.as_slice(), host),
             },
         }
     }
@@ -143,14 +144,14 @@ fn bad_place(list: &[Text]) -> Option<usize>
         .position(|entry| !is_domain(entry.as_str().as_bytes()))
 }
 
-fn table_if_many(alloc: Global, entries: &[Text]) -> Result<Option<Box<Table>>, NoMemory>
+fn order_if_many(alloc: Global, entries: &[Text]) -> Result<Option<Box<Vec<u32>>>, NoMemory>
     ensures { IfOk result (IsTable entries.now) }
 {
     if entries.len() <= FEW {
         return Ok(None);
     }
-    let table = table_of(alloc, entries)?;
-    Ok(Some(Box::new(alloc, table)?))
+    let order = order_of(alloc, entries)?;
+    Ok(Some(Box::new(alloc, order)?))
 }
 
 impl Copied for DomainSet {

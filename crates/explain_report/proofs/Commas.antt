@@ -29,17 +29,3 @@ nothing_yet text_of xs before = sym (append-nil before)
 pub all_written : {X : Type 0} (text_of : X → List ℕ) (xs : List X) (next : ℕ) (before now : List ℕ)
     → length xs ≤ next → now ≡ before ++ behind_commas (map text_of (take next xs)) → now ≡ before ++ behind_commas (map text_of xs)
 all_written text_of xs next before now end so_far = so_far ∙ ap (λ l. before ++ behind_commas (map text_of l)) (take_all next xs end)
-
--- eight pieces that were appended one after another
-pub pieces_are_one : (t0 t1 t2 t3 t4 t5 t6 t7 t8 a b c d e f g h : List ℕ)
-    → t1 ≡ t0 ++ a → t2 ≡ t1 ++ b → t3 ≡ t2 ++ c → t4 ≡ t3 ++ d → t5 ≡ t4 ++ e → t6 ≡ t5 ++ f → t7 ≡ t6 ++ g → t8 ≡ t7 ++ h
-    → t8 ≡ t0 ++ (a ++ (b ++ (c ++ (d ++ (e ++ (f ++ (g ++ h)))))))
-pieces_are_one t0 t1 t2 t3 t4 t5 t6 t7 t8 a b c d e f g h p1 p2 p3 p4 p5 p6 p7 p8 =
-    p8
-    ∙ ap (λ t. t ++ h) p7 ∙ append_assoc t6 g h
-    ∙ ap (λ t. t ++ (g ++ h)) p6 ∙ append_assoc t5 f (g ++ h)
-    ∙ ap (λ t. t ++ (f ++ (g ++ h))) p5 ∙ append_assoc t4 e (f ++ (g ++ h))
-    ∙ ap (λ t. t ++ (e ++ (f ++ (g ++ h)))) p4 ∙ append_assoc t3 d (e ++ (f ++ (g ++ h)))
-    ∙ ap (λ t. t ++ (d ++ (e ++ (f ++ (g ++ h))))) p3 ∙ append_assoc t2 c (d ++ (e ++ (f ++ (g ++ h))))
-    ∙ ap (λ t. t ++ (c ++ (d ++ (e ++ (f ++ (g ++ h)))))) p2 ∙ append_assoc t1 b (c ++ (d ++ (e ++ (f ++ (g ++ h)))))
-    ∙ ap (λ t. t ++ (b ++ (c ++ (d ++ (e ++ (f ++ (g ++ h))))))) p1 ∙ append_assoc t0 a (b ++ (c ++ (d ++ (e ++ (f ++ (g ++ h))))))

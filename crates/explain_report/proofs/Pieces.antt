@@ -1,45 +1,46 @@
--- Lines that are written in three pieces: how they begin, what they say, and how they end.
-use Rattle.std.proofs.Common.{◌≡◌, ℕ, List, ◌++◌, codes, decimal, ap, ◌∙◌, append_assoc}
-use Rattle.json.specs.Print.{quoted}
-use Rattle.compile_spec.specs.declared.reported.Reported.{Reported}
-use Rattle.update_spec.specs.Entries.{RefusedInstall}
-use Rattle.session_spec.specs.Refusals.{file_line, install_line, update_code, update_count, count_field, unsupported_line, reason_code, option_at_fault, name_field}
+-- Pieces that are appended one after another, the last where memory is left.
+use Rattle.std.proofs.Common.{◌≡◌, ℕ, List, [], ◌++◌, Result, Ok, Err, OnOk, ap, ◌∙◌, append_assoc}
 
--- what was appended one after another was appended as one
-behind_three : (t a b c d e : List ℕ) → ((((t ++ a) ++ b) ++ c) ++ d) ++ e ≡ t ++ ((((a ++ b) ++ c) ++ d) ++ e)
-behind_three t a b c d e = simp append_assoc
+pub two : {U E : Type 0} (r : Result U E) (t0 t1 t2 a b : List ℕ) → t1 ≡ t0 ++ a → OnOk r (t2 ≡ t1 ++ b) → OnOk r (t2 ≡ t0 ++ (a ++ b))
+two (Ok u) t0 t1 t2 a b before now = now ∙ ap (λ t. t ++ b) before ∙ append_assoc t0 a b
+two (Err e) t0 t1 t2 a b before now = tt
 
-behind_five : (t a b c d e f g : List ℕ)
-    → ((t ++ (a ++ (b ++ (c ++ (d ++ e))))) ++ f) ++ g ≡ t ++ ((((((a ++ b) ++ c) ++ d) ++ e) ++ f) ++ g)
-behind_five t a b c d e f g = simp append_assoc
+pub three : {U E : Type 0} (r : Result U E) (t0 t1 t2 t3 a b c : List ℕ)
+    → t1 ≡ t0 ++ a → t2 ≡ t1 ++ b → OnOk r (t3 ≡ t2 ++ c) → OnOk r (t3 ≡ t0 ++ (a ++ (b ++ c)))
+three r t0 t1 t2 t3 a b c p1 p2 p3 = two r t0 t1 t3 a (b ++ c) p1 (two r t1 t2 t3 b c p2 p3)
 
-three : (begun now after a b c : List ℕ) → begun ≡ a → now ≡ begun ++ b → after ≡ now ++ c → after ≡ (a ++ b) ++ c
-three begun now after a b c first second third = third ∙ ap (λ t. t ++ c) (second ∙ ap (λ t. t ++ b) first)
+pub four : {U E : Type 0} (r : Result U E) (t0 t1 t2 t3 t4 a b c d : List ℕ)
+    → t1 ≡ t0 ++ a → t2 ≡ t1 ++ b → t3 ≡ t2 ++ c → OnOk r (t4 ≡ t3 ++ d) → OnOk r (t4 ≡ t0 ++ (a ++ (b ++ (c ++ d))))
+four r t0 t1 t2 t3 t4 a b c d p1 p2 p3 p4 = two r t0 t1 t4 a (b ++ (c ++ d)) p1 (three r t1 t2 t3 t4 b c d p2 p3 p4)
 
--- the line of a refused file
-pub file_line_written : (before begun now after file fields : List ℕ)
-    → begun ≡ ((before ++ codes "{\"file\":") ++ quoted file) ++ codes ",\"refused\":" → now ≡ begun ++ fields → after ≡ now ++ codes "}\n"
-    → after ≡ before ++ file_line file fields
-file_line_written before begun now after file fields first second third =
-    three begun now after _ fields (codes "}\n") first second third
-    ∙ behind_three before (codes "{\"file\":") (quoted file) (codes ",\"refused\":") fields (codes "}\n")
+pub five : {U E : Type 0} (r : Result U E) (t0 t1 t2 t3 t4 t5 a b c d e : List ℕ)
+    → t1 ≡ t0 ++ a → t2 ≡ t1 ++ b → t3 ≡ t2 ++ c → t4 ≡ t3 ++ d → OnOk r (t5 ≡ t4 ++ e) → OnOk r (t5 ≡ t0 ++ (a ++ (b ++ (c ++ (d ++ e)))))
+five r t0 t1 t2 t3 t4 t5 a b c d e p1 p2 p3 p4 p5 = two r t0 t1 t5 a (b ++ (c ++ (d ++ e))) p1 (four r t1 t2 t3 t4 t5 b c d e p2 p3 p4 p5)
 
--- the line of a refused installation
-pub install_line_written : (before begun now after : List ℕ) (refused : RefusedInstall)
-    → begun ≡ before ++ (codes "{\"extension\":" ++ (quoted refused.extension ++ (codes ",\"refused\":\"" ++ (update_code refused.cause ++ codes "\""))))
-    → now ≡ begun ++ count_field (update_count refused.cause) → after ≡ now ++ codes "}\n"
-    → after ≡ before ++ install_line refused
-install_line_written before begun now after refused first second third =
-    let count = count_field (update_count refused.cause) in
-    three begun now after _ count (codes "}\n") first second third
-    ∙ behind_five before (codes "{\"extension\":") (quoted refused.extension) (codes ",\"refused\":\"") (update_code refused.cause) (codes "\"") count (codes "}\n")
+pub six : {U E : Type 0} (r : Result U E) (t0 t1 t2 t3 t4 t5 t6 a b c d e f : List ℕ)
+    → t1 ≡ t0 ++ a → t2 ≡ t1 ++ b → t3 ≡ t2 ++ c → t4 ≡ t3 ++ d → t5 ≡ t4 ++ e → OnOk r (t6 ≡ t5 ++ f)
+    → OnOk r (t6 ≡ t0 ++ (a ++ (b ++ (c ++ (d ++ (e ++ f))))))
+six r t0 t1 t2 t3 t4 t5 t6 a b c d e f p1 p2 p3 p4 p5 p6 =
+    two r t0 t1 t6 a (b ++ (c ++ (d ++ (e ++ f)))) p1 (five r t1 t2 t3 t4 t5 t6 b c d e f p2 p3 p4 p5 p6)
 
--- the line of a filter line that gives nothing
-pub unsupported_line_written : (before begun now after : List ℕ) (one : Reported)
-    → begun ≡ before ++ (codes "{\"line\":" ++ (decimal one.line ++ (codes ",\"unsupported\":\"" ++ (reason_code one.reason ++ codes "\""))))
-    → now ≡ begun ++ name_field (option_at_fault one.reason) → after ≡ now ++ codes "}\n"
-    → after ≡ before ++ unsupported_line one
-unsupported_line_written before begun now after one first second third =
-    let name = name_field (option_at_fault one.reason) in
-    three begun now after _ name (codes "}\n") first second third
-    ∙ behind_five before (codes "{\"line\":") (decimal one.line) (codes ",\"unsupported\":\"") (reason_code one.reason) (codes "\"") name (codes "}\n")
+pub seven : {U E : Type 0} (r : Result U E) (t0 t1 t2 t3 t4 t5 t6 t7 a b c d e f g : List ℕ)
+    → t1 ≡ t0 ++ a → t2 ≡ t1 ++ b → t3 ≡ t2 ++ c → t4 ≡ t3 ++ d → t5 ≡ t4 ++ e → t6 ≡ t5 ++ f → OnOk r (t7 ≡ t6 ++ g)
+    → OnOk r (t7 ≡ t0 ++ (a ++ (b ++ (c ++ (d ++ (e ++ (f ++ g)))))))
+seven r t0 t1 t2 t3 t4 t5 t6 t7 a b c d e f g p1 p2 p3 p4 p5 p6 p7 =
+    two r t0 t1 t7 a (b ++ (c ++ (d ++ (e ++ (f ++ g))))) p1 (six r t1 t2 t3 t4 t5 t6 t7 b c d e f g p2 p3 p4 p5 p6 p7)
+
+-- A line of so many pieces, made in a text of its own and then appended.
+pub line_of_three : {U E : Type 0} (r : Result U E) (old now t0 t1 t2 t3 a b c : List ℕ)
+    → t0 ≡ [] → t1 ≡ t0 ++ a → t2 ≡ t1 ++ b → t3 ≡ t2 ++ c → OnOk r (now ≡ old ++ t3) → OnOk r (now ≡ old ++ (a ++ (b ++ c)))
+line_of_three (Ok u) old now t0 t1 t2 t3 a b c p0 p1 p2 p3 appended =
+    let line : t3 ≡ (a ++ b) ++ c = p3 ∙ ap (λ t. t ++ c) (p2 ∙ ap (λ t. t ++ b) (p1 ∙ ap (λ t. t ++ a) p0)) in
+    appended ∙ ap (λ t. old ++ t) (line ∙ append_assoc a b c)
+line_of_three (Err e) old now t0 t1 t2 t3 a b c p0 p1 p2 p3 appended = tt
+
+pub line_of_five : {U E : Type 0} (r : Result U E) (old now t0 t1 t2 t3 t4 t5 a b c d e : List ℕ)
+    → t0 ≡ [] → t1 ≡ t0 ++ a → t2 ≡ t1 ++ b → t3 ≡ t2 ++ c → t4 ≡ t3 ++ d → t5 ≡ t4 ++ e → OnOk r (now ≡ old ++ t5)
+    → OnOk r (now ≡ old ++ (a ++ (b ++ (c ++ (d ++ e)))))
+line_of_five r old now t0 t1 t2 t3 t4 t5 a b c d e p0 p1 p2 p3 p4 p5 appended =
+    let tail : t5 ≡ t2 ++ (c ++ (d ++ e)) =
+    p5 ∙ ap (λ t. t ++ e) p4 ∙ append_assoc t3 d e ∙ ap (λ t. t ++ (d ++ e)) p3 ∙ append_assoc t2 c (d ++ e) in
+    line_of_three r old now t0 t1 t2 t5 a b (c ++ (d ++ e)) p0 p1 p2 tail appended

@@ -1,9 +1,9 @@
 -- Texts of which nothing is escaped, and texts that are appended in pieces.
-use Rattle.std.proofs.Common.{◌≡◌, ℕ, ◌+◌, ◌≤◌, List, [], ◌∷◌, ◌++◌, Bool, true, false, not, ◌&&◌, ◌||◌, ◌==◌, nat_le, nat_lt, cond, refl, sym, ap, ap₂, ◌∙◌, append_assoc, arith}
+use Rattle.std.proofs.Common.{◌≡◌, ℕ, List, [], ◌∷◌, ◌++◌, true, false, not, ◌&&◌, ◌==◌, nat_le, nat_lt, refl, ap, ap₂, ◌∙◌, append_assoc, arith}
 use Rattle.std.specs.List.{list_all}
 use Rattle.std.proofs.lemmas.Bool.{and_parts}
 use Rattle.std.proofs.lemmas.Bool.Decides.{nat_tests}
-use Rattle.json.specs.Print.{escape_letter, escape_byte, escape, quoted}
+use Rattle.json.specs.Print.{escape_byte, escape}
 use Rattle.explain_report.specs.Plain.{is_plain}
 
 byte_plain : (b : ℕ) → is_plain b ≡ true → escape_byte b ≡ b ∷ []
@@ -31,7 +31,3 @@ text_plain (b ∷ text) h =
 pub three_pieces : (t0 t1 t2 t3 a b c : List ℕ) → t1 ≡ t0 ++ a → t2 ≡ t1 ++ b → t3 ≡ t2 ++ c → t3 ≡ t0 ++ (a ++ (b ++ c))
 three_pieces t0 t1 t2 t3 a b c p1 p2 p3 =
     p3 ∙ ap (λ t. t ++ c) p2 ∙ append_assoc t1 b c ∙ ap (λ t. t ++ (b ++ c)) p1 ∙ append_assoc t0 a (b ++ c)
-
-pub four_pieces : (t0 t1 t2 t3 t4 a b c d : List ℕ) → t1 ≡ t0 ++ a → t2 ≡ t1 ++ b → t3 ≡ t2 ++ c → t4 ≡ t3 ++ d → t4 ≡ t0 ++ (a ++ (b ++ (c ++ d)))
-four_pieces t0 t1 t2 t3 t4 a b c d p1 p2 p3 p4 =
-    p4 ∙ ap (λ t. t ++ d) p3 ∙ append_assoc t2 c d ∙ three_pieces t0 t1 t2 (t2 ++ (c ++ d)) a b (c ++ d) p1 p2 refl

@@ -1,26 +1,32 @@
-//! The lines that a session prints: verdicts, faults of a pattern host, lines that are none, files and installations
-//! that are refused, and reports of what was read.
+//! The lines that a session prints: verdicts and explanations, replies to updates, lines that can't be read, files and
+//! installations that are refused, and reports of what was read. A line is appended whole or not at all.
 //!
 //! What each is, byte for byte, stands in `session_spec`: `specs/Output.antt` for the answers to a script,
 //! `specs/Refusals.antt` for the others. Texts are written as JSON by `serde_json`.
 #![tactic(auto)]
 
 mod bad;
+mod explanation;
 mod files;
-mod installation;
-mod lists;
 mod names;
+mod reply;
 mod report;
 mod rules;
+mod text;
+mod updates;
 mod verdict;
+mod written;
 
-pub use bad::{write_bad, write_not_yet};
-pub use dnr_verdict::{NamedOp, Verdict};
+pub use bad::write_bad;
+pub use dnr_verdict::{Explanation, NamedOp, Verdict, Why, WhyRule};
+pub use explanation::write_explain;
 pub use files::{
     write_bad_json, write_bad_manifest, write_list_fault, write_refused_rule, write_suffix_refusal,
     write_too_many_rules,
 };
-pub use installation::write_install_refusal;
-pub use names::quoted_text;
+pub use reply::write_reply;
 pub use report::{write_count, write_unsupported};
+pub use session_spec::Reply;
+pub use text::quoted_text;
+pub use updates::write_install_refusal;
 pub use verdict::{write_fault, write_verdict};

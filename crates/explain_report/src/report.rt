@@ -1,9 +1,9 @@
 // What `check` and `compile` print of what they read.
-ghost use Rattle.std.specs.Prelude.{◌≡◌, ◌++◌, codes, decimal, OnOk, string_bytes};
+ghost use Rattle.std.specs.Prelude.{◌≡◌, ◌++◌, codes, decimal, OnOk, OnErr, string_bytes};
 ghost use Rattle.std.specs.Option.{option_copied};
 ghost use Rattle.session_spec.specs.Refusals as spec;
 
-use crate::names::quoted_text;
+use crate::text::{append, new_line, push_number_field, push_text_field, push_word};
 use compile_spec::Reported;
 use dnr_base::NoMemory;
 use list_spec::Reason;
@@ -11,48 +11,53 @@ use std::alloc::Global;
 
 /// Appends what `check` prints of a file of so many rules, and `compile` of a list that gives so many.
 ///
-/// `NoMemory`: no memory is left for it.
-pub fn write_count(count: usize, into: &mut String) -> Result<(), NoMemory>
-    ensures { OnOk result (string_bytes into.new ≡ string_bytes into.old ++ spec.count_line count) }
+/// `NoMemory`: no memory is left for it, and nothing is appended.
+pub fn write_count(alloc: Global, count: usize, into: &mut String) -> Result<(), NoMemory>
+    ensures appended { OnOk result (string_bytes into.new ≡ string_bytes into.old ++ spec.count_line count) }
+    ensures kept { OnErr result (string_bytes into.new ≡ string_bytes into.old) }
 {
-    write!(into, "{{\"rules\":{count}}}\n")?;
-    Ok(())
+    let mut text = new_line(alloc)?;
+    push_number_field("{\"rules\":", count, &mut text)?;
+    push_word("}\n", &mut text)?;
+    append(&text, into)
 }
 
 /// Appends what `compile` prints of a line that gives no rule.
 ///
-/// `NoMemory`: no memory is left for it.
+/// `NoMemory`: no memory is left for it, and nothing is appended.
 pub fn write_unsupported(
     alloc: Global,
     reported: &Reported,
     into: &mut String,
 ) -> Result<(), NoMemory>
-    ensures { OnOk result (string_bytes into.new ≡ string_bytes into.old ++ spec.unsupported_line reported.now) }
+    ensures appended { OnOk result (string_bytes into.new ≡ string_bytes into.old ++ spec.unsupported_line reported.now) }
+    ensures kept { OnErr result (string_bytes into.new ≡ string_bytes into.old) }
 {
-    write_start(reported.line, reason_code(&reported.reason), into)?;
-    write_name_field(alloc, option_at_fault(&reported.reason), into)?;
-    into.push_str("}\n")?;
-    Ok(())
+    let mut text = new_line(alloc)?;
+    push_start(reported.line, reason_code(&reported.reason), &mut text)?;
+    push_name_field(alloc, option_at_fault(&reported.reason), &mut text)?;
+    push_word("}\n", &mut text)?;
+    append(&text, into)
 }
 
-fn write_start(line: u32, code: &str, into: &mut String) -> Result<(), NoMemory>
+fn push_start(line: u32, code: &str, into: &mut String) -> Result<(), NoMemory>
     ensures { OnOk result (string_bytes into.new
         ≡ string_bytes into.old ++ (codes "{\"line\":" ++ (decimal line
         ++ (codes ",\"unsupported\":\"" ++ (code.now ++ codes "\""))))) }
 {
-    write!(into, "{{\"line\":{line},\"unsupported\":\"{code}\"")?;
-    Ok(())
+    push_number_field("{\"line\":", line, into)?;
+    push_word(",\"unsupported\":\"", into)?;
+    push_word(code, into)?;
+    push_word("\"", into)
 }
 
-fn write_name_field(alloc: Global, name: Option<&str>, into: &mut String) -> Result<(), NoMemory>
+fn push_name_field(alloc: Global, name: Option<&str>, into: &mut String) -> Result<(), NoMemory>
     ensures { OnOk result (string_bytes into.new ≡ string_bytes into.old ++ spec.name_field (option_copied name.entry)) }
 {
     let Some(name) = name else {
         return Ok(());
     };
-    let name = quoted_text(alloc, name)?;
-    write!(into, ",\"name\":{name}")?;
-    Ok(())
+    push_text_field(alloc, ",\"name\":", name, into)
 }
 
 // The option that is at fault, if one is.

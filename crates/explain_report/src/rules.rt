@@ -3,20 +3,37 @@ ghost use Rattle.std.specs.Prelude.{◌≡◌, ◌++◌, codes, decimal, OnOk, s
 ghost use Rattle.session_spec.specs.Refusals as spec;
 ghost use Rattle.explain_report.specs.Detail.{detail_seen};
 
-use dnr_base::NoMemory;
+use crate::text::push_text_field;
+use dnr_base::{NoMemory, Text};
 use dnr_spec::{HeaderRefusal, PatternRefusal};
 use rule_spec::{HeaderCause, PlacedRefusal, RulePath, RuleRefusal};
+use std::alloc::Global;
 
 // Appends the code of a refused rule of a list, and its fields.
-pub(crate) fn write_rule_fields(refusal: &PlacedRefusal, into: &mut String) -> Result<(), NoMemory>
+pub(crate) fn push_rule_fields(
+    alloc: Global,
+    refusal: &PlacedRefusal,
+    into: &mut String,
+) -> Result<(), NoMemory>
     ensures { OnOk result (string_bytes into.new ≡ string_bytes into.old ++ spec.rule_fields refusal.now) }
 {
-    write_place(rule_code(refusal.cause), refusal.place, into)?;
-    write_id(refusal.id, into)?;
-    write_detail(detail_of(refusal.cause), into)
+    push_place(rule_code(refusal.cause), refusal.place, into)?;
+    push_id(refusal.id, into)?;
+    push_detail(detail_of(refusal.cause), into)?;
+    push_ruleset(alloc, &refusal.set, into)
 }
 
-fn write_place(code: &str, place: u32, into: &mut String) -> Result<(), NoMemory>
+// Appends the ruleset that the list belongs to, where several are read at once.
+fn push_ruleset(alloc: Global, set: &Option<Text>, into: &mut String) -> Result<(), NoMemory>
+    ensures { OnOk result (string_bytes into.new ≡ string_bytes into.old ++ spec.ruleset_field set.now) }
+{
+    let Some(id) = set else {
+        return Ok(());
+    };
+    push_text_field(alloc, ",\"ruleset\":", id.as_str(), into)
+}
+
+fn push_place(code: &str, place: u32, into: &mut String) -> Result<(), NoMemory>
     ensures { OnOk result (string_bytes into.new
         ≡ string_bytes into.old ++ codes "\"" ++ code.now ++ codes "\",\"place\":" ++ decimal place ++ codes ",\"id\":") }
 {
@@ -24,7 +41,7 @@ fn write_place(code: &str, place: u32, into: &mut String) -> Result<(), NoMemory
     Ok(())
 }
 
-fn write_id(id: Option<u32>, into: &mut String) -> Result<(), NoMemory>
+fn push_id(id: Option<u32>, into: &mut String) -> Result<(), NoMemory>
     ensures { OnOk result (string_bytes into.new ≡ string_bytes into.old ++ spec.id_text id) }
 {
     match id {
@@ -41,24 +58,24 @@ enum Detail {
     Why(&'static str),
 }
 
-fn write_detail(detail: Detail, into: &mut String) -> Result<(), NoMemory>
+fn push_detail(detail: Detail, into: &mut String) -> Result<(), NoMemory>
     ensures { OnOk result (string_bytes into.new ≡ string_bytes into.old ++ spec.detail_field (detail_seen detail)) }
 {
     match detail {
         Detail::Nothing => Ok(()),
-        Detail::Path(path) => write_path(path.name(), into),
-        Detail::Why(why) => write_why(why, into),
+        Detail::Path(path) => push_path(path.name(), into),
+        Detail::Why(why) => push_why(why, into),
     }
 }
 
-fn write_path(path: &str, into: &mut String) -> Result<(), NoMemory>
+fn push_path(path: &str, into: &mut String) -> Result<(), NoMemory>
     ensures { OnOk result (string_bytes into.new ≡ string_bytes into.old ++ codes ",\"path\":\"" ++ path.now ++ codes "\"") }
 {
     write!(into, ",\"path\":\"{path}\"")?;
     Ok(())
 }
 
-fn write_why(why: &str, into: &mut String) -> Result<(), NoMemory>
+fn push_why(why: &str, into: &mut String) -> Result<(), NoMemory>
     ensures { OnOk result (string_bytes into.new ≡ string_bytes into.old ++ codes ",\"why\":\"" ++ why.now ++ codes "\"") }
 {
     write!(into, ",\"why\":\"{why}\"")?;

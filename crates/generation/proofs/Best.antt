@@ -3,15 +3,16 @@ use Rattle.std.proofs.Common.{◌≡◌, ℕ, List, [], ◌∷◌, ◌++◌, len
 use Rattle.std.specs.Prelude.{if◌then◌else◌}
 use Rattle.std.specs.List.{list_any, find, AllByRecursion}
 use Rattle.std.proofs.lemmas.Bool.{cases_Bool, cond-true, cond-false, true≢false}
+use Rattle.dnr_base.specs.declared.candidate.Candidate.{Candidate}
 use Rattle.dnr_base.specs.declared.winner.Winner.{Winner}
-use Rattle.dnr_spec.specs.Order.{across, prevails}
+use Rattle.dnr_spec.specs.Order.{across, beats, prevails}
 use Rattle.precedence.specs.Best.{IsBest}
 use Rattle.precedence.specs.Laws.{IsOrder, with_one_more}
 use Rattle.precedence.proofs.Orders.{beats_is_order, prevails_is_order}
 use Rattle.precedence.proofs.Unbeaten.{best_first, best_stays, best_changes, best_is, is_kept}
 use Rattle.rule_spec.specs.Scan.{unbeaten_of, winner_seen}
 use Rattle.generation.specs.Choice.{goes_before}
-use Rattle.generation.specs.Kept.{better_of, is_stronger}
+use Rattle.generation.specs.Kept.{better_of}
 
 or_right : (a b : Bool) → b ≡ true → (a || b) ≡ true
 or_right true b h = refl
@@ -78,8 +79,8 @@ module _ {X : Type 0} (order_of : X → X → Bool) (order : IsOrder order_of) w
   unfolding KeepsOf
   unbeaten_is list = kept_found list _ (all_kept [] None refl list)
 
-pub stronger_is_order : IsOrder is_stronger
-stronger_is_order = record {
+pub candidates_are_ordered : {X : Type 0} → IsOrder (λ (a b : X × Candidate). beats a.1 b.1)
+candidates_are_ordered = record {
   one_way = λ a b. beats_is_order.one_way a.1 b.1;
   between = λ a b c. beats_is_order.between a.1 b.1 c.1;
 }

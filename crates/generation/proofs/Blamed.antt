@@ -3,7 +3,6 @@ use Rattle.std.proofs.Common.{◌≡◌, ℕ, zero, suc, ◌+◌, ◌<◌, List,
 use Rattle.std.specs.Prelude.{IfSome, option_map, slice_index_or}
 use Rattle.std.specs.List.{AllByRecursion, Contains, filter_map, cons_option}
 use Rattle.std.proofs.lemmas.List.Elements.{recursion_from_All, All-contains_itself}
-use Rattle.dnr_base.specs.declared.candidate.Candidate.{Candidate}
 use Rattle.dnr_base.specs.declared.request.Request.{Request}
 use Rattle.dnr_base.specs.declared.rule_name.RuleName.{RuleName}
 use Rattle.dnr_base.specs.declared.verb.Verb.{Verb}
@@ -11,9 +10,9 @@ use Rattle.dnr_spec.specs.Suffixes.{SuffixRule}
 use Rattle.rule_spec.specs.Access.{has_access}
 use Rattle.rule_spec.specs.Rule.{verb_of}
 use Rattle.rule_spec.specs.State.{Extension, Live, State, live_rules}
-use Rattle.rule_spec.specs.Scan.{Decision, candidate_of, decision_of, is_candidate, name_of}
-use Rattle.generation.specs.Choice.{IsDecidingPattern, decision_in, deciding_in, goes_before}
-use Rattle.generation.specs.Kept.{Kept, better_of, is_stronger, kept_from, kept_of, nothing_of, with_candidate, with_live, with_lives, with_verb}
+use Rattle.rule_spec.specs.Scan.{Decision, is_candidate, name_of}
+use Rattle.generation.specs.Choice.{IsDecidingPattern, decision_by, decision_in, deciding_in, goes_before}
+use Rattle.generation.specs.Kept.{Found, Kept, better_of, found_by, frame_by, is_stronger, kept_from, kept_of, nothing_of, with_candidate, with_live, with_lives, with_verb}
 use Rattle.generation.specs.Refused.{IsPatternOf}
 use Rattle.rule_spec.specs.PatternRule.{NamesPattern}
 use Rattle.generation.proofs.Walked.{lives_name}
@@ -36,18 +35,19 @@ module _ {X : Type 0} (P : X → Type 0) (order_of : X → X → Bool) where
 -- ---- what is kept of an extension
 
 module _ (Q : Live → Type 0) (suffixes : List SuffixRule) (request : Request) where
-  verb_has : (o : Option Verb) (kept : Kept) (live : Live) → IfSome kept.best (λ b. Q b.0) → Q live → IfSome (with_verb o kept live).best (λ b. Q b.0)
-  verb_has None kept live h g = h
-  verb_has (Some verb) kept live h g = better_has (λ (b : Live × Candidate). Q b.0) is_stronger kept.best (live, candidate_of live verb) h g
+  verb_has : (o : Option Verb) (kept : Kept) (live : Live) (frame : Option ℕ) → IfSome kept.best (λ b. Q b.live) → Q live → IfSome (with_verb o kept live frame).best (λ b. Q b.live)
+  verb_has None kept live frame h g = h
+  verb_has (Some verb) kept live frame h g = better_has (λ (b : Found). Q b.live) is_stronger kept.best (found_by live verb frame) h g
 
-  case_has : (b : Bool) (kept : Kept) (live : Live) → IfSome kept.best (λ b. Q b.0) → Q live → IfSome (cond b (with_candidate kept live) kept).best (λ b. Q b.0)
-  case_has true kept live h g = verb_has (verb_of live.rule.action) kept live h g
-  case_has false kept live h g = h
+  case_has : (b : Bool) (kept : Kept) (live : Live) (frame : Option ℕ) → IfSome kept.best (λ b. Q b.live) → Q live
+      → IfSome (cond b (with_candidate kept live frame) kept).best (λ b. Q b.live)
+  case_has true kept live frame h g = verb_has (verb_of live.rule.action) kept live frame h g
+  case_has false kept live frame h g = h
 
-  pub lives_have : (lives : List Live) (kept : Kept) → IfSome kept.best (λ b. Q b.0) → AllByRecursion Q lives → IfSome (with_lives suffixes request kept lives).best (λ b. Q b.0)
+  pub lives_have : (lives : List Live) (kept : Kept) → IfSome kept.best (λ b. Q b.live) → AllByRecursion Q lives → IfSome (with_lives suffixes request kept lives).best (λ b. Q b.live)
   lives_have [] kept h all = h
   lives_have (live ∷ lives) kept h all =
-      lives_have lives (with_live suffixes request kept live) (case_has (is_candidate suffixes kept.name kept.access request live.rule) kept live h all.0) all.1
+      lives_have lives (with_live suffixes request kept live) (case_has (is_candidate suffixes kept.name kept.access request live.rule) kept live (frame_by suffixes request live) h all.0) all.1
 
 -- ---- what extensions say
 
@@ -58,8 +58,8 @@ pub record IsIn (extensions : List Extension) (decision : Decision) : Type 0 whe
   pub name : decision.extension ≡ extension.name
   pub in_force : Contains (live_rules extension) decision.live
 
-said_in : (extensions : List Extension) (extension : Extension) (name : List ℕ) (age : ℕ) (best : Option (Live × Candidate))
-    → Contains extensions extension → name ≡ extension.name → IfSome best (λ b. Contains (live_rules extension) b.0) → IfSome (option_map (decision_of name age) best) (IsIn extensions)
+said_in : (extensions : List Extension) (extension : Extension) (name : List ℕ) (age : ℕ) (best : Option Found)
+    → Contains extensions extension → name ≡ extension.name → IfSome best (λ b. Contains (live_rules extension) b.live) → IfSome (option_map (decision_by name age) best) (IsIn extensions)
 said_in extensions extension name age None there same h = tt
 said_in extensions extension name age (Some best) there same h = record { extension = extension; installed = there; name = same; in_force = h }
 

@@ -7,3 +7,7 @@ mod Scanned
 mod Rest
 mod Blamed
 mod Taken
+mod Outdone
+mod Sorts
+mod Ordered
+mod Reasons

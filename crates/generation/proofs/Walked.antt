@@ -13,7 +13,7 @@ use Rattle.rule_spec.specs.State.{Live}
 use Rattle.rule_spec.specs.Scan.{is_candidate, name_of}
 use Rattle.generation.specs.declared.refusal.DecideRefusal.{DecideRefusal}
 use Rattle.generation.specs.declared.refusal.DecideRefusal.TheVariants.{HostFault, NoMemory}
-use Rattle.generation.specs.Kept.{Kept, with_verb, with_candidate, with_live, with_lives, with_some}
+use Rattle.generation.specs.Kept.{Kept, frame_by, with_verb, with_candidate, with_live, with_lives, with_some}
 use Rattle.generation.specs.Refused.{Ends, IsPattern, Refuses}
 
 -- ---- what is kept
@@ -51,25 +51,26 @@ walked_end suffixes request start lives rest kept h none =
 
 -- ---- its name
 
-verb_name : (o : Option Verb) (kept : Kept) (live : Live) → (with_verb o kept live).name ≡ kept.name
-verb_name None kept live = refl
-verb_name (Some verb) kept live = refl
+verb_name : (o : Option Verb) (kept : Kept) (live : Live) (frame : Option ℕ) → (with_verb o kept live frame).name ≡ kept.name
+verb_name None kept live frame = refl
+verb_name (Some verb) kept live frame = refl
 
-pub candidate_name : (kept : Kept) (live : Live) → (with_candidate kept live).name ≡ kept.name
-candidate_name kept live = verb_name (verb_of live.rule.action) kept live
+pub candidate_name : (kept : Kept) (live : Live) (frame : Option ℕ) → (with_candidate kept live frame).name ≡ kept.name
+candidate_name kept live frame = verb_name (verb_of live.rule.action) kept live frame
 
-verb_access : (o : Option Verb) (kept : Kept) (live : Live) → (with_verb o kept live).access ≡ kept.access
-verb_access None kept live = refl
-verb_access (Some verb) kept live = refl
+verb_access : (o : Option Verb) (kept : Kept) (live : Live) (frame : Option ℕ) → (with_verb o kept live frame).access ≡ kept.access
+verb_access None kept live frame = refl
+verb_access (Some verb) kept live frame = refl
 
-pub candidate_access : (kept : Kept) (live : Live) → (with_candidate kept live).access ≡ kept.access
-candidate_access kept live = verb_access (verb_of live.rule.action) kept live
+pub candidate_access : (kept : Kept) (live : Live) (frame : Option ℕ) → (with_candidate kept live frame).access ≡ kept.access
+candidate_access kept live frame = verb_access (verb_of live.rule.action) kept live frame
 
 live_name : (suffixes : List SuffixRule) (request : Request) (kept : Kept) (live : Live) → (with_live suffixes request kept live).name ≡ kept.name
 live_name suffixes request kept live =
     ⊎_elim
-    (λ yes. ap (λ k. k.name) (cond-true (is_candidate suffixes kept.name kept.access request live.rule) (with_candidate kept live) kept yes) ∙ candidate_name kept live)
-    (λ no. ap (λ k. k.name) (cond-false (is_candidate suffixes kept.name kept.access request live.rule) (with_candidate kept live) kept no))
+    (λ yes. ap (λ k. k.name) (cond-true (is_candidate suffixes kept.name kept.access request live.rule) (with_candidate kept live (frame_by suffixes request live)) kept yes)
+    ∙ candidate_name kept live (frame_by suffixes request live))
+    (λ no. ap (λ k. k.name) (cond-false (is_candidate suffixes kept.name kept.access request live.rule) (with_candidate kept live (frame_by suffixes request live)) kept no))
     (cases_Bool (is_candidate suffixes kept.name kept.access request live.rule))
 
 pub lives_name : (suffixes : List SuffixRule) (request : Request) (kept : Kept) (lives : List Live) → (with_lives suffixes request kept lives).name ≡ kept.name

@@ -11,15 +11,18 @@ use Rattle.dnr_spec.specs.Order.{prevails}
 use Rattle.dnr_base.specs.declared.rule_name.RuleName.{RuleName}
 use Rattle.rule_spec.specs.declared.outcome.Outcome.{Outcome}
 use Rattle.rule_spec.specs.declared.outcome.Outcome.TheVariants as outcome
-use Rattle.rule_spec.specs.Scan.{Decision, NamedOp, Offer, Verdict, decided_target, decision_of, in_order, into_order, is_on, name_of, named_op, offers_in, plain_verdict, taking_effect, winner_seen, with_ops}
+use Rattle.rule_spec.specs.Scan.{Decision, NamedOp, Offer, Verdict, decided_target, decision_of, in_order, is_on, name_of, named_op, offers_in, plain_verdict, taking_effect, winner_seen, with_ops}
 use Rattle.rule_spec.specs.State.{Live}
-use Rattle.generation.specs.Kept.{Kept, better_of}
+use Rattle.generation.specs.Kept.{Found, Kept, better_of}
 use Rattle.generation.specs.Refused.{IsPattern}
 
 -- ---- which rule decides
 
+abbrev pub decision_by : List ℕ → ℕ → Found → Decision
+decision_by name age found = decision_of name age (found.live, found.candidate)
+
 abbrev pub decision_in : Kept → Option Decision
-decision_in kept = option_map (decision_of kept.name kept.age) kept.best
+decision_in kept = option_map (decision_by kept.name kept.age) kept.best
 
 abbrev pub goes_before : Decision → Decision → Bool
 goes_before a b = prevails (winner_seen a) (winner_seen b)
@@ -38,9 +41,9 @@ deciding_in kepts = fold (better_of goes_before) None (filter_map decision_in ke
 abbrev pub changing_in : Kept → List Live
 changing_in kept = in_order (filter (λ live. nat_le kept.allowed live.rule.priority) kept.changing)
 
--- one more of them, unless an `allow` outdoes it
-abbrev pub in_order_with : ℕ → Live → List Live → List Live
-in_order_with allowed live lives = if nat_le allowed live.rule.priority then into_order live lives else lives
+-- the rule, unless an `allow` outdoes it
+abbrev pub unless_outdone : ℕ → Live → List Live
+unless_outdone allowed live = if nat_le allowed live.rule.priority then live ∷ [] else []
 
 abbrev pub offers_by_live : Kept → Live → List Offer
 offers_by_live kept live = offers_in kept.age (name_of kept.name live) live.rule.action

@@ -6,9 +6,17 @@ use Rattle.dnr_base.specs.declared.verb.Verb.{Verb}
 use Rattle.dnr_spec.specs.Order.{beats}
 use Rattle.dnr_spec.specs.Suffixes.{SuffixRule}
 use Rattle.rule_spec.specs.Access.{has_access}
+use Rattle.explain_spec.specs.Explanation.{frame_of}
+use Rattle.rule_spec.specs.Reaches.{reach_of}
 use Rattle.rule_spec.specs.Rule.{verb_of}
 use Rattle.rule_spec.specs.Scan.{allowed_priority, candidate_of, is_candidate}
 use Rattle.rule_spec.specs.State.{Extension, Live, live_rules}
+
+-- a candidate that may decide, with the place of the frame by which it reaches the request, if it is by one
+pub record Found : Type 0 where
+  pub live : Live
+  pub candidate : Candidate
+  pub frame : Option ℕ
 
 -- Of its candidates: the one that decides so far, those that change headers, and the greatest priority of those that
 -- allow. `age` is the extension's place in the order of installation, and `access` whether it has access to the request.
@@ -16,7 +24,7 @@ pub record Kept : Type 0 where
   pub name : List ℕ
   pub age : ℕ
   pub access : Bool
-  pub best : Option (Live × Candidate)
+  pub best : Option Found
   pub changing : List Live
   pub allowed : ℕ
 
@@ -29,30 +37,39 @@ abbrev pub better_of : {X : Type 0} → (X → X → Bool) → Option X → X �
 better_of goes_before None next = Some next
 better_of goes_before (Some best) next = if goes_before next best then Some next else Some best
 
-abbrev pub is_stronger : Live × Candidate → Live × Candidate → Bool
-is_stronger a b = beats a.1 b.1
+abbrev pub is_stronger : Found → Found → Bool
+is_stronger a b = beats a.candidate b.candidate
 
-abbrev pub with_deciding : Kept → Live → Verb → Kept
-with_deciding kept live verb = record kept {
-  best = better_of is_stronger kept.best (live, candidate_of live verb);
+abbrev pub found_by : Live → Verb → Option ℕ → Found
+found_by live verb frame = record { live = live; candidate = candidate_of live verb; frame = frame }
+
+abbrev pub with_deciding : Kept → Live → Verb → Option ℕ → Kept
+with_deciding kept live verb frame = record kept {
+  best = better_of is_stronger kept.best (found_by live verb frame);
   allowed = max (allowed_priority live.rule.action live.rule.priority) kept.allowed;
 }
 
 abbrev pub with_changing : Kept → Live → Kept
 with_changing kept live = record kept { changing = kept.changing ++ live ∷ [] }
 
-abbrev pub with_verb : Option Verb → Kept → Live → Kept
-with_verb None kept live = with_changing kept live
-with_verb (Some verb) kept live = with_deciding kept live verb
+abbrev pub with_verb : Option Verb → Kept → Live → Option ℕ → Kept
+with_verb None kept live frame = with_changing kept live
+with_verb (Some verb) kept live frame = with_deciding kept live verb frame
 
--- one more candidate
-abbrev pub with_candidate : Kept → Live → Kept
-with_candidate kept live = with_verb (verb_of live.rule.action) kept live
+-- one more candidate, which reaches the request by this frame, if by one
+abbrev pub with_candidate : Kept → Live → Option ℕ → Kept
+with_candidate kept live frame = with_verb (verb_of live.rule.action) kept live frame
+
+-- the frame by which the rule reaches the request, if it is by one
+abbrev pub frame_by : List SuffixRule → Request → Live → Option ℕ
+frame_by suffixes request live = frame_of (reach_of suffixes live.rule request)
 
 -- one more rule in force
 abbrev pub with_live : List SuffixRule → Request → Kept → Live → Kept
 with_live suffixes request kept live =
-    if is_candidate suffixes kept.name kept.access request live.rule then with_candidate kept live else kept
+    if is_candidate suffixes kept.name kept.access request live.rule then
+    with_candidate kept live (frame_by suffixes request live)
+    else kept
 
 abbrev pub with_lives : List SuffixRule → Request → Kept → List Live → Kept
 with_lives suffixes request kept lives = fold (with_live suffixes request) kept lives

@@ -5,3 +5,4 @@ pub mod Targets
 pub mod Block
 pub mod Kept
 pub mod Choice
+pub mod Explained

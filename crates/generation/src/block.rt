@@ -1,21 +1,21 @@
 ghost use Rattle.std.specs.Prelude.{◌≡◌, codes, true};
 ghost use Rattle.dnr_base.specs.declared.rank.Rank.TheVariants as rank;
 ghost use Rattle.rule_spec.specs.State as spec;
-ghost use Rattle.generation.specs.Block.{lines_at, lives_in};
+ghost use Rattle.generation.specs.Block.{lines_at, lives_in, switched_off};
 
 use crate::live::Live;
 use dnr_base::{Items, Rank};
 use dnr_rules::Rule;
-use ruleset_store::{Installed, InstalledSet};
+use ruleset_store::{DisabledIds, InstalledExtension, InstalledSet, RuleList, SharedRule};
 
 // Rules that stand together, with the lines that each comes from, if any, and the ids of those that are switched off.
 #[derive(Drop)]
 pub(crate) struct Block<'a> {
     rank: Rank,
     set: &'a str,
-    pub rules: &'a [Rule],
+    pub rules: &'a [SharedRule],
     origins: &'a [Items<u32>],
-    disabled: &'a [u32],
+    disabled: Option<&'a DisabledIds>,
 }
 
 // The lines of the rule at a place.
@@ -28,36 +28,29 @@ fn lines_at(origins: &[Items<u32>], place: usize) -> &[u32]
     }
 }
 
-// Whether the id is one of those that are switched off.
-fn is_off(disabled: &[u32], id: u32) -> bool
-    ensures { result ≡ spec.has_number disabled.now id }
-{
-    disabled.iter().any(|other| id == *other)
-}
-
 impl<'a> Block<'a> {
     // Rules that were added to an extension.
-    fn added(rank: Rank, set: &'a str, rules: &'a [Rule]) -> Block<'a>
+    fn added(rank: Rank, set: &'a str, rules: &'a RuleList) -> Block<'a>
         ensures { lives_in result ≡ spec.live_with rank set.now rules.now }
     {
         Block {
             rank,
             set,
-            rules,
+            rules: rules.shared(),
             origins: &[],
-            disabled: &[],
+            disabled: None,
         }
     }
 
     // The session rules of an extension.
-    pub(crate) fn session(extension: &'a Installed) -> Block<'a>
+    pub(crate) fn session(extension: &'a InstalledExtension) -> Block<'a>
         ensures { lives_in result ≡ spec.live_with rank.Session (codes "_session") extension.now.session }
     {
         Block::added(Rank::Session, "_session", extension.session())
     }
 
     // The dynamic rules of an extension.
-    pub(crate) fn dynamic(extension: &'a Installed) -> Block<'a>
+    pub(crate) fn dynamic(extension: &'a InstalledExtension) -> Block<'a>
         ensures { lives_in result ≡ spec.live_with rank.Dynamic (codes "_dynamic") extension.now.dynamic }
     {
         Block::added(Rank::Dynamic, "_dynamic", extension.dynamic())
@@ -72,17 +65,20 @@ impl<'a> Block<'a> {
         Block {
             rank: Rank::Static(place),
             set: set.id(),
-            rules: set.rules(),
+            rules: set.rules().shared(),
             origins: set.origins(),
-            disabled: set.disabled(),
+            disabled: Some(set.disabled()),
         }
     }
 
     // Whether the rule is switched off.
     pub(crate) fn is_off(&self, rule: &Rule) -> bool
-        ensures { result ≡ spec.has_number self.now.disabled.now rule.now.id }
+        ensures { result ≡ spec.has_number (switched_off self.now) rule.now.id }
     {
-        is_off(self.disabled, rule.id())
+        match self.disabled {
+            Some(ids) => ids.has(rule.id()),
+            None => false,
+        }
     }
 
     // The rule, which stands at this place and is in force.

@@ -42,11 +42,11 @@ impl<'a> Decision<'a> {
         ensures { result ≡ choice.decision_in kept.now }
     {
         match &kept.best {
-            Some((live, candidate)) => Some(Decision {
+            Some(found) => Some(Decision {
                 extension: kept.name,
                 age: kept.age,
-                live: live.again(),
-                verb: candidate.action,
+                live: found.live.again(),
+                verb: found.candidate.action,
             }),
             None => None,
         }

@@ -40,7 +40,7 @@ fn with(alloc: Global, store: Store, extension: Extension) -> Result<Store, Firs
     ensures installed { IfOk result (λ next. spec.install_all store (extension ∷ []) ≡ Ok next) }
     ensures refused { IfErr result (IsFirstRefusal (spec.install_all store (extension ∷ []))) }
 {
-    let name = Text::build(String::from_str(alloc, extension.name.as_str())?);
+    let name = Text::build(String::from_str(alloc, extension.name())?);
     match store.install(alloc, extension) {
         Ok(store) => Ok(store),
         Err(refusal) => Err(refused(name, refusal)),

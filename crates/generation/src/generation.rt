@@ -1,23 +1,29 @@
-ghost use Rattle.std.specs.Prelude.{◌≡◌, ◌≤◌, length, Ok, IfOk, IfErr};
+ghost use Rattle.std.specs.Prelude.{◌≡◌, ◌<◌, ◌≤◌, length, None, Ok, IfOk, IfErr, OnOk};
 ghost use Rattle.dnr_base.specs.Request.{max_frames};
+ghost use Rattle.explain_spec.specs.Explanation.{explanation_of};
 ghost use Rattle.generation.specs.First.{IsFirstRefusal};
 ghost use Rattle.generation.specs.Kept.{kept_from};
 ghost use Rattle.generation.specs.Refused.{Ends};
+ghost use Rattle.ruleset_store.specs.Seen.{IsBatchRefusal, IsRefusalOf, update_seen, updates_seen};
+ghost use Rattle.update_spec.specs.Entries as entries;
 ghost use Rattle.update_spec.specs.Entries.{opening};
+ghost use Rattle.update_spec.specs.Judge.{judge_update};
 ghost use Rattle.rule_spec.specs.PatternRule.{NamesPattern};
 ghost use Rattle.rule_spec.specs.Scan.{scan};
 
 use crate::conclusion::conclude;
+use crate::explanation::newest_first;
 use crate::first::first_store;
 use crate::kept::Kept;
 use crate::scan::Scan;
-use crate::{DecideRefusal, FirstRefusal};
-use dnr_base::{Request, Steps};
-use dnr_verdict::Verdict;
+use crate::{BatchRefusal, DecideRefusal, FirstRefusal, Refusal, Update};
+use dnr_base::{Items, Request, Steps};
+use dnr_verdict::{Explanation, Verdict};
 use regex_host::RegexHost;
-use ruleset_store::{Extension, Installed, Store};
+use ruleset_store::{Extension, InstalledExtension, Store};
 use std::alloc::Global;
 use std::marker::Model;
+use std::sync::Arc;
 use std::sync::ledger::Ledger;
 use suffix_list::SuffixList;
 
@@ -25,16 +31,17 @@ use suffix_list::SuffixList;
 /// are told. A clause sees the suffix rules, and the state of `rule_spec`.
 #[derive(Drop)]
 pub struct Generation {
-    list: SuffixList,
+    list: Arc<SuffixList>,
     store: Store,
 }
 
 impl Model for Generation {
+    ghost use Rattle.std.specs.Arc.{arc_value};
     ghost use Rattle.generation.specs.Basis.{Basis};
 
     ghost Value = { Basis };
 
-    ghost view = { λ g. record { suffixes = g.list; state = g.store } };
+    ghost view = { λ g. record { suffixes = arc_value g.list; state = g.store } };
 }
 
 impl Generation {
@@ -54,7 +61,53 @@ impl Generation {
         ensures refused { IfErr result (IsFirstRefusal (opening extensions.items)) }
     {
         let store = first_store(alloc, extensions)?;
-        Ok(Generation { list, store })
+        match Arc::new(alloc, list) {
+            Ok(list) => Ok(Generation { list, store }),
+            Err(_) => Err(FirstRefusal::NoMemory),
+        }
+    }
+
+    /// The generation after an update. It shares with this one all that the update leaves, and the suffix list.
+    ///
+    /// # Errors
+    ///
+    /// The first refusal, in the order in which they stand in `Refusal`; `NoMemory`, if memory ran out. The limits are
+    /// this engine's own.
+    pub fn next(&self, alloc: Global, update: &Update) -> Result<Generation, Refusal>
+        ensures suffixes { IfOk result (λ next. next.suffixes ≡ self.now.suffixes) }
+        ensures judged { OnOk result (judge_update self.now.state (update_seen update.now) ≡ None) }
+        ensures applied { IfOk result (λ next. next.state ≡ entries.after self.now.state (entries.one (update_seen update.now))) }
+        ensures refused { IfErr result (IsRefusalOf (judge_update self.now.state (update_seen update.now))) }
+    {
+        let store = self.store.apply(alloc, update)?;
+        match Arc::try_clone(&self.list) {
+            Ok(list) => Ok(Generation { list, store }),
+            Err(_) => Err(Refusal::NoMemory),
+        }
+    }
+
+    /// The generation after these updates, of which there is one at least and 256 at most: they are made together, and
+    /// count once.
+    ///
+    /// # Errors
+    ///
+    /// The first update that is refused on what the earlier ones leave, and why; `NoMemory`, if memory ran out.
+    pub fn next_batch(&self, alloc: Global, updates: &[Update]) -> Result<Generation, BatchRefusal>
+        requires some { 0 < length updates.now }
+        requires few { length updates.now ≤ 256 }
+        ensures suffixes { IfOk result (λ next. next.suffixes ≡ self.now.suffixes) }
+        ensures judged { OnOk result (entries.judge self.now.state (entries.batch (updates_seen updates.now)) ≡ None) }
+        ensures applied { IfOk result (λ next. next.state ≡ entries.after self.now.state (entries.batch (updates_seen updates.now))) }
+        ensures refused { IfErr result (IsBatchRefusal (entries.judge self.now.state (entries.batch (updates_seen updates.now)))) }
+    {
+        let store = self.store.apply_batch(alloc, updates)?;
+        match Arc::try_clone(&self.list) {
+            Ok(list) => Ok(Generation { list, store }),
+            Err(_) => Err(BatchRefusal {
+                place: 0,
+                cause: Refusal::NoMemory,
+            }),
+        }
     }
 
     /// The count of the updates that were accepted.
@@ -65,7 +118,7 @@ impl Generation {
     }
 
     /// The extensions, in the order of their installation.
-    pub fn extensions(&self) -> &[Installed]
+    pub fn extensions(&self) -> &[InstalledExtension]
         ensures { result.now ≡ self.now.state.extensions }
     {
         self.store.extensions()
@@ -99,6 +152,30 @@ impl Generation {
         }
     }
 
+    /// What becomes of a request, which has at most 64 frames, and why: the verdict as `decide` gives it, and for each
+    /// extension, the newest first, the rule that decides inside it.
+    ///
+    /// # Errors
+    ///
+    /// Those of `decide`.
+    pub fn explain<H: RegexHost, L: Ledger>(
+        &self,
+        alloc: Global,
+        request: &Request,
+        host: &mut H,
+        steps: &mut Steps<L>,
+    ) -> Result<Explanation, DecideRefusal>
+        requires { length request.now.frames ≤ max_frames }
+        ensures explanation { IfOk result (λ explanation. explanation ≡ explanation_of self.now.suffixes self.now.state request.now) }
+        ensures ends { Ends (NamesPattern self.now.state) (H.faults host.old) (H.faults host.new) result }
+    {
+        let scan = Scan::new(alloc, request, self.list());
+        match scan.take_all(self.extensions(), host, steps) {
+            Ok(kepts) => self.explained(alloc, request, kepts.as_slice(), host),
+            Err(refusal) => Err(refusal),
+        }
+    }
+
     fn list(&self) -> &SuffixList
         ensures { result.now ≡ self.now.suffixes }
     {
@@ -118,5 +195,30 @@ impl Generation {
         ensures ends { Ends (NamesPattern self.now.state) (H.faults host.old) (H.faults host.new) result }
     {
         conclude(alloc, request, kepts, host)
+    }
+
+    // What becomes of the request and why, by what is kept of each extension.
+    fn explained<H: RegexHost>(
+        &self,
+        alloc: Global,
+        request: &Request,
+        kepts: &[Kept<'_>],
+        host: &mut H,
+    ) -> Result<Explanation, DecideRefusal>
+        requires { kepts.now ≡ kept_from self.now.suffixes request.now 0 self.now.state.extensions }
+        ensures explanation { IfOk result (λ explanation. explanation ≡ explanation_of self.now.suffixes self.now.state request.now) }
+        ensures ends { Ends (NamesPattern self.now.state) (H.faults host.old) (H.faults host.new) result }
+    {
+        let verdict = match self.concluded(alloc, request, kepts, host) {
+            Ok(verdict) => verdict,
+            Err(refusal) => return Err(refusal),
+        };
+        match newest_first(alloc, kepts) {
+            Ok(why) => Ok(Explanation {
+                verdict,
+                why: Items::build(why),
+            }),
+            Err(_) => Err(DecideRefusal::NoMemory),
+        }
     }
 }

@@ -1,12 +1,28 @@
-ghost use Rattle.std.specs.Prelude.{◌≡◌, OnOk, max};
+ghost use Rattle.std.specs.Prelude.{◌≡◌, ℕ, Option, IsTrue, OnOk, max};
 ghost use Rattle.generation.specs.Kept as spec;
 
 use crate::live::Live;
 use dnr_base::{Candidate, NoMemory, Verb};
 use precedence::beats;
-use ruleset_store::Installed;
+use ruleset_store::InstalledExtension;
 use std::alloc::Global;
 use std::marker::Model;
+
+// A candidate that may decide, with the place of the frame by which it reaches the request, if it is by one.
+#[derive(Drop)]
+pub(crate) struct Found<'a> {
+    pub live: Live<'a>,
+    pub candidate: Candidate,
+    pub frame: Option<u32>,
+}
+
+impl<'a> Model for Found<'a> {
+    ghost use Rattle.generation.specs.Kept as spec;
+
+    ghost Value = { spec.Found };
+
+    ghost view = { λ f. record { live = f.live; candidate = f.candidate; frame = f.frame } };
+}
 
 // What is kept of an extension while its rules are walked: of its candidates the one that decides so far, those
 // that change headers, and the greatest priority of those that allow.
@@ -15,7 +31,7 @@ pub(crate) struct Kept<'a> {
     pub name: &'a str,
     pub age: u32,
     pub access: bool,
-    pub best: Option<(Live<'a>, Candidate)>,
+    pub best: Option<Found<'a>>,
     pub changing: Vec<Live<'a>>,
     pub allowed: u32,
 }
@@ -36,14 +52,11 @@ impl<'a> Model for Kept<'a> {
 }
 
 // The better of two candidates, where the first is the earlier.
-fn better<'a>(
-    best: Option<(Live<'a>, Candidate)>,
-    next: (Live<'a>, Candidate),
-) -> Option<(Live<'a>, Candidate)>
+fn better<'a>(best: Option<Found<'a>>, next: Found<'a>) -> Option<Found<'a>>
     ensures { result ≡ spec.better_of spec.is_stronger best.entry next.entry }
 {
     match best {
-        Some(best) if !beats(&next.1, &best.1) => Some(best),
+        Some(best) if !beats(&next.candidate, &best.candidate) => Some(best),
         _ => Some(next),
     }
 }
@@ -56,7 +69,12 @@ fn greater(a: u32, b: u32) -> u32
 
 impl<'a> Kept<'a> {
     // What is kept of the extension, which has this age and access to the request or not, before its first rule.
-    pub(crate) fn new(alloc: Global, extension: &'a Installed, age: u32, access: bool) -> Kept<'a>
+    pub(crate) fn new(
+        alloc: Global,
+        extension: &'a InstalledExtension,
+        age: u32,
+        access: bool,
+    ) -> Kept<'a>
         ensures { result ≡ spec.nothing_of extension.now.name age access }
     {
         Kept {
@@ -69,13 +87,44 @@ impl<'a> Kept<'a> {
         }
     }
 
-    // Takes in a candidate that gives this verdict.
-    fn add_deciding(&mut self, live: Live<'a>, verb: Verb)
-        ensures { self.new ≡ spec.with_deciding self.old live.entry verb }
+    // Whether what is kept stays as it is with a candidate of this verdict.
+    #[tactic(auto, using(crate::proofs::Outdone::deciding_outdone))]
+    fn outdoes_deciding(&self, live: &Live<'_>, verb: Verb) -> bool
+        ensures { IsTrue result → (frame : Option ℕ) → spec.with_deciding self.now live.now verb frame ≡ self.now }
+    {
+        match &self.best {
+            Some(best) => {
+                live.allowed_priority() <= self.allowed
+                    && !beats(&live.candidate(verb), &best.candidate)
+            }
+            None => false,
+        }
+    }
+
+    // Whether what is kept stays as it is, be the rule a candidate or not. Then it need not be tested.
+    pub(crate) fn outdoes(&self, live: &Live<'_>) -> bool
+        ensures { IsTrue result → (frame : Option ℕ) → spec.with_candidate self.now live.now frame ≡ self.now }
+    {
+        match live.verb() {
+            Some(verb) => self.outdoes_deciding(live, verb),
+            None => false,
+        }
+    }
+
+    // Takes in a candidate that gives this verdict, which reaches the request by this frame, if by one.
+    fn add_deciding(&mut self, live: Live<'a>, verb: Verb, frame: Option<u32>)
+        ensures { self.new ≡ spec.with_deciding self.old live.entry verb frame }
     {
         self.allowed = greater(live.allowed_priority(), self.allowed);
         let candidate = live.candidate(verb);
-        self.best = better(self.best.take(), (live, candidate));
+        self.best = better(
+            self.best.take(),
+            Found {
+                live,
+                candidate,
+                frame,
+            },
+        );
     }
 
     // Takes in a candidate that changes headers.
@@ -86,13 +135,13 @@ impl<'a> Kept<'a> {
         Ok(())
     }
 
-    // Takes in a candidate.
-    pub(crate) fn add(&mut self, live: Live<'a>) -> Result<(), NoMemory>
-        ensures { OnOk result (self.new ≡ spec.with_candidate self.old live.entry) }
+    // Takes in a candidate, which reaches the request by this frame, if by one.
+    pub(crate) fn add(&mut self, live: Live<'a>, frame: Option<u32>) -> Result<(), NoMemory>
+        ensures { OnOk result (self.new ≡ spec.with_candidate self.old live.entry frame) }
     {
         match live.verb() {
             Some(verb) => {
-                self.add_deciding(live, verb);
+                self.add_deciding(live, verb, frame);
                 Ok(())
             }
             None => self.add_changing(live),

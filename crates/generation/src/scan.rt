@@ -1,6 +1,8 @@
-ghost use Rattle.std.specs.Prelude.{◌≡◌, ◌≤◌, [], ◌∷◌, length, option_to_list, IsSome, OnOk, IfOk, IfSome, IsErrOf};
+ghost use Rattle.std.specs.Prelude.{◌≡◌, ◌≤◌, [], ◌∷◌, length, option_to_list, is_some, Some, IsSome, OnOk, IfOk, IfSome, IsErrOf};
 ghost use Rattle.dnr_base.specs.Faults.{HasCauseOf};
 ghost use Rattle.rule_match.specs.Answers.{IsCalm};
+ghost use Rattle.explain_spec.specs.Explanation.{frame_of};
+ghost use Rattle.rule_spec.specs.Reaches.{reach_of};
 ghost use Rattle.rule_spec.specs.Scan.{is_candidate};
 ghost use Rattle.rule_spec.specs.State.{live_from, live_of, live_rules};
 ghost use Rattle.generation.specs.Block.{added_to, live_in, lives_in};
@@ -17,8 +19,8 @@ use crate::targets::may_act;
 use dnr_base::{Request, Steps};
 use dnr_rules::Rule;
 use regex_host::RegexHost;
-use rule_match::{MatchRefusal, PreparedRequest};
-use ruleset_store::{Installed, InstalledSet};
+use rule_match::{MatchRefusal, PreparedRequest, Reach};
+use ruleset_store::{InstalledExtension, InstalledSet};
 use std::alloc::Global;
 use std::marker::Model;
 use std::sync::ledger::Ledger;
@@ -48,6 +50,16 @@ fn narrow(n: usize) -> Option<u32>
     ensures { IfSome result (λ narrow. narrow ≡ n) }
 {
     u32::try_from(n).ok()
+}
+
+// The place of the frame by which a rule reaches, if it is by one.
+fn frame_of(reach: Reach) -> Option<u32>
+    ensures { result ≡ frame_of (Some reach) }
+{
+    match reach {
+        Reach::Own => None,
+        Reach::Frame(place) => Some(place),
+    }
 }
 
 // The refusal of a scan whose test of a rule was refused.
@@ -80,31 +92,57 @@ impl<'r> Scan<'r> {
         }
     }
 
-    // Whether the rule is a candidate.
-    fn is_candidate<H: RegexHost, L: Ledger>(
+    // How the rule reaches the request, if it is a candidate.
+    fn candidate_reach<H: RegexHost, L: Ledger>(
         &self,
         extension: &str,
         access: bool,
         rule: &Rule,
         host: &mut H,
         steps: &mut Steps<L>,
-    ) -> Result<bool, MatchRefusal>
-        ensures value { IfOk result (λ is. is ≡ is_candidate self.now.suffixes extension.now access self.now.request rule.now) }
+    ) -> Result<Option<Reach>, MatchRefusal>
+        ensures candidate { IfOk result (λ reach. is_some reach ≡ is_candidate self.now.suffixes extension.now access self.now.request rule.now) }
+        ensures reach { IfOk result (λ reach. IfSome reach (λ by. reach_of self.now.suffixes rule.now self.now.request ≡ Some by)) }
         ensures asked { IsErrOf result MatchRefusal.HostFault → IsSome rule.now.condition.regex_filter }
         ensures cause { HasCauseOf MatchRefusal.HostFault (H.faults host.old) (H.faults host.new) result }
         ensures calm { IsCalm (H.faults host.old) (H.faults host.new) result }
     {
-        if self.prepared.reaches(rule, host, steps)?.is_none() {
-            return Ok(false);
-        }
-        may_act(
+        let Some(reach) = self.prepared.reaches(rule, host, steps)? else {
+            return Ok(None);
+        };
+        let acts = may_act(
             self.alloc,
             extension,
             access,
             rule,
             &self.request.view,
             host,
-        )
+        )?;
+        if acts { Ok(Some(reach)) } else { Ok(None) }
+    }
+
+    // Takes a rule in force in, if it is a candidate.
+    fn take_live<'a, H: RegexHost, L: Ledger>(
+        &self,
+        kept: &mut Kept<'a>,
+        live: Live<'a>,
+        host: &mut H,
+        steps: &mut Steps<L>,
+    ) -> Result<(), DecideRefusal>
+        ensures kept { OnOk result (kept.new ≡ spec.with_live self.now.suffixes self.now.request kept.old live.entry) }
+        ensures ends { Ends (IsPattern kept.old.name (live.entry ∷ [])) (H.faults host.old) (H.faults host.new) result }
+    {
+        if kept.outdoes(&live) {
+            return Ok(());
+        }
+        match self.candidate_reach(kept.name, kept.access, live.rule, host, steps) {
+            Ok(Some(reach)) => match kept.add(live, frame_of(reach)) {
+                Ok(()) => Ok(()),
+                Err(_) => Err(DecideRefusal::NoMemory),
+            },
+            Ok(None) => Ok(()),
+            Err(refusal) => Err(refusal_at(self.alloc, refusal, kept.name, &live)),
+        }
     }
 
     // Takes the rule at a place of a block in, if it is in force and a candidate.
@@ -123,17 +161,7 @@ impl<'r> Scan<'r> {
         if block.is_off(rule) {
             return Ok(());
         }
-        match self.is_candidate(kept.name, kept.access, rule, host, steps) {
-            Ok(true) => match kept.add(block.live(place, rule)) {
-                Ok(()) => Ok(()),
-                Err(_) => Err(DecideRefusal::NoMemory),
-            },
-            Ok(false) => Ok(()),
-            Err(refusal) => {
-                let live = block.live(place, rule);
-                Err(refusal_at(self.alloc, refusal, kept.name, &live))
-            }
-        }
+        self.take_live(kept, block.live(place, rule), host, steps)
     }
 
     // Takes the rules of a block in.
@@ -149,7 +177,7 @@ impl<'r> Scan<'r> {
     {
         let mut kept = kept;
         for (place, rule) in block.rules.iter().enumerate() {
-            match self.take_at(&mut kept, block, place, rule, host, steps) {
+            match self.take_at(&mut kept, block, place, rule.rule(), host, steps) {
                 Ok(()) => {}
                 Err(refusal) => return Err(refusal),
             }
@@ -204,7 +232,7 @@ impl<'r> Scan<'r> {
     fn take_added<'a, H: RegexHost, L: Ledger>(
         &self,
         kept: Kept<'a>,
-        extension: &'a Installed,
+        extension: &'a InstalledExtension,
         host: &mut H,
         steps: &mut Steps<L>,
     ) -> Result<Kept<'a>, DecideRefusal>
@@ -223,7 +251,7 @@ impl<'r> Scan<'r> {
     fn take_extension<'a, H: RegexHost, L: Ledger>(
         &self,
         age: usize,
-        extension: &'a Installed,
+        extension: &'a InstalledExtension,
         host: &mut H,
         steps: &mut Steps<L>,
     ) -> Result<Kept<'a>, DecideRefusal>
@@ -245,7 +273,7 @@ impl<'r> Scan<'r> {
     // What is kept of each extension.
     pub(crate) fn take_all<'a, H: RegexHost, L: Ledger>(
         &self,
-        extensions: &'a [Installed],
+        extensions: &'a [InstalledExtension],
         host: &mut H,
         steps: &mut Steps<L>,
     ) -> Result<Vec<Kept<'a>>, DecideRefusal>

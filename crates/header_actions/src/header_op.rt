@@ -1,4 +1,4 @@
-ghost use Rattle.std.specs.Prelude.{◌≡◌, IfOk, IfErr};
+ghost use Rattle.std.specs.Prelude.{◌≡◌, IfOk, IfErr, is_some};
 ghost use Rattle.std.specs.Option.{option_copied};
 ghost use Rattle.std.specs.Str.{str_to_ascii_lowercase};
 ghost use Rattle.dnr_spec.specs.Headers as spec;
@@ -10,7 +10,8 @@ use dnr_spec::HeaderRefusal;
 use std::alloc::Global;
 use std::marker::Model;
 
-/// A change of a header that was read from a rule: Chrome's reference, `ModifyHeaderInfo`.
+/// A change of a header that was read from a rule: Chrome's reference, `ModifyHeaderInfo`. It has a value exactly
+/// where it is no `remove`.
 #[derive(Debug, Drop)]
 pub struct HeaderOp {
     name: Text,
@@ -19,9 +20,14 @@ pub struct HeaderOp {
 }
 
 impl Model for HeaderOp {
+    ghost use Rattle.std.specs.Prelude.{◌≡◌, is_some};
+    ghost use Rattle.dnr_spec.specs.Headers as spec;
+
     ghost Value = { spec.HeaderOp };
 
     ghost view = { λ op. record { name = op.name; operation = op.operation; value = op.value } };
+
+    ghost invariant = { λ op. is_some op.value ≡ spec.needs_value op.operation };
 }
 
 impl HeaderOp {
@@ -78,6 +84,7 @@ impl HeaderOp {
         operation: Operation,
         value: Option<&str>,
     ) -> Result<HeaderOp, NoMemory>
+        requires { is_some value ≡ spec.needs_value operation }
         ensures { IfOk result (λ op. op ≡ record { name = str_to_ascii_lowercase name.now; operation = operation; value = option_copied value.entry }) }
     {
         let name = Text::build(name.to_ascii_lowercase(alloc)?);
@@ -106,9 +113,10 @@ impl HeaderOp {
         self.operation
     }
 
-    /// The value that is added.
+    /// The value that is added: there is one exactly where the change is no `remove`.
     pub fn value(&self) -> Option<&str>
-        ensures { option_copied result ≡ self.now.value }
+        ensures value { option_copied result ≡ self.now.value }
+        ensures due { is_some self.now.value ≡ spec.needs_value self.now.operation }
     {
         self.value.as_ref().map(Text::as_str)
     }

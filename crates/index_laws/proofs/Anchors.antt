@@ -8,8 +8,8 @@ use Rattle.std.proofs.lemmas.List.Elements.{All-weaker}
 use Rattle.std.proofs.lemmas.Grind.{common_steps}
 use Rattle.dnr_base.specs.declared.span.Span.{Span}
 use Rattle.dnr_spec.specs.UrlFilter.{Anchor, anywhere, begin, domain, some_below, follows_dot, fits_at, fits_from, filter_of}
-use Rattle.index_spec.specs.Words.{words_of, is_anchored, words_of_filter}
-use Rattle.index_laws.specs.Stands.{has_word, is_firm_left, is_firm_behind, AreWord, Begins, Stands, IsFirmWord}
+use Rattle.index_spec.specs.Words.{has_word, words_of, is_anchored, words_of_filter}
+use Rattle.index_laws.specs.Stands.{is_firm_left, is_firm_behind, AreWord, Begins, Stands, IsFirmWord}
 use Rattle.index_laws.specs.Shared.{IsHostCut, FirmWordsAreShown}
 use Rattle.index_laws.proofs.Fitted.{front, stands, further, behind_star, not_at_end, begins_shown, stands_shown}
 use Rattle.index_laws.proofs.Firm.{firm_words_are}

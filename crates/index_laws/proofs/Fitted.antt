@@ -9,9 +9,9 @@ use Rattle.std.proofs.lemmas.List.Elements.{All-nil, All-cons, All-head, All-tai
 use Rattle.std.proofs.lemmas.List.Splits.{slice_split_at, slice_split_none, slice_split-cons_yes, slice_split-cons_no}
 use Rattle.std.proofs.lemmas.Slice.Eq.{bytes_eq-Decides}
 use Rattle.dnr_spec.specs.Domains.{lower_case}
-use Rattle.index_spec.specs.Words.{is_firm, ends_word, is_filled, words_of}
+use Rattle.index_spec.specs.Words.{has_word, is_firm, ends_word, is_filled, words_of}
 use Rattle.dnr_spec.specs.UrlFilter.{is_same, is_separator, some_end, fits_at}
-use Rattle.index_laws.specs.Stands.{has_word, is_firm_behind, is_firm_before, is_cut, AreWord, Begins, Stands}
+use Rattle.index_laws.specs.Stands.{is_firm_behind, is_firm_before, is_cut, AreWord, Begins, Stands}
 use Rattle.index_laws.proofs.Bytes.{separator_ends, same_lower, same_kind, alphanumeric_plain, firm_ends}
 
 -- ---- one byte of the filter

@@ -4,3 +4,4 @@ pub mod Firm
 pub mod Anchors
 pub mod Sharing
 pub mod Few
+pub mod Served

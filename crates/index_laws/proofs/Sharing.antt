@@ -162,7 +162,7 @@ no_word : (b : ℕ) → begins_host b ≡ true → is_ascii_alphanumeric b ≡ f
 no_word b is = grind (arith, nat_tests)
 
 -- the byte before the host of a view is in no word
-host_cut : (view : View) → IsView view → IsHostCut (text_of view) view.host
+pub host_cut : (view : View) → IsView view → IsHostCut (text_of view) view.host
 host_cut view is some =
     let below : view.host.start - 1 < view.cut = (let a = is.first in let b = is.order in let c = is.within in omega arith) in
     let at : get_or (text_of view) (view.host.start - 1) 0 ≡ get_or view.full (view.host.start - 1) 0 = get_or-take view.cut view.full (view.host.start - 1) 0 below in
@@ -206,7 +206,7 @@ by_hosts part condition (Some domains) among rest = some_covers Host (keys_of_pa
 
 -- ---- the fields that a rule which holds has in common with the part
 
-and_false : (b : Bool) → (b && false) ≡ false
+pub and_false : (b : Bool) → (b && false) ≡ false
 and_false true = refl
 and_false false = refl
 
@@ -217,7 +217,7 @@ holds_among suffixes rule part has =
       | inr not_so ↦ absurd (false≢true (simp (not_so, and_false) at has))
     ]
 
-holds_fit : (suffixes : List SuffixRule) (rule : Rule) (part : Part) → holds suffixes rule part ≡ true → fits_url rule.condition.url_filter (not rule.condition.case_sensitive) part.view ≡ true
+pub holds_fit : (suffixes : List SuffixRule) (rule : Rule) (part : Part) → holds suffixes rule part ≡ true → fits_url rule.condition.url_filter (not rule.condition.case_sensitive) part.view ≡ true
 holds_fit suffixes rule part has =
     elim (cases_Bool (fits_url rule.condition.url_filter (not rule.condition.case_sensitive) part.view)) [
       | inl so ↦ so

@@ -1,3 +1,4 @@
 pub mod Stands
 pub mod Shared
 pub mod Segments
+pub mod Served

@@ -9,8 +9,7 @@ use Rattle.dnr_spec.specs.Suffixes.{SuffixRule}
 use Rattle.dnr_spec.specs.UrlFilter.{filter_of, fits}
 use Rattle.rule_spec.specs.Rule.{Rule}
 use Rattle.rule_spec.specs.Holds.{holds}
-use Rattle.index_laws.specs.Stands.{has_word}
-use Rattle.index_spec.specs.Words.{words_of, words_of_filter}
+use Rattle.index_spec.specs.Words.{has_word, words_of, words_of_filter}
 use Rattle.index_spec.specs.Keys.{has_key, keys_of_rule, keys_of_part}
 
 -- the byte before the host is in no word

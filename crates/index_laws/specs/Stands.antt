@@ -1,7 +1,5 @@
 -- Words that stand in texts and in filters.
 use Rattle.std.specs.Prelude.{ℕ, ◌≡◌, ◌<◌, List, [], ◌∷◌, ◌++◌, length, All, Bool, true, false, not}
-use Rattle.std.specs.List.{list_any}
-use Rattle.std.specs.Str.{bytes_eq}
 use Rattle.std.specs.Char.{is_ascii_alphanumeric}
 use Rattle.dnr_spec.specs.Domains.{lower_case}
 use Rattle.index_spec.specs.Words.{is_firm}
@@ -34,10 +32,6 @@ pub record Stands (token text : List ℕ) : Type 0 where
   pub is : text ≡ before ++ byte ∷ text_behind
   pub ends : is_ascii_alphanumeric byte ≡ false
   pub begins : Begins token text_behind
-
--- one of the words is this one, in whatever case
-abbrev pub has_word : List (List ℕ) → List ℕ → Bool
-has_word words word = list_any (λ other. bytes_eq (lower_case other) (lower_case word)) words
 
 -- ---- in a filter
 

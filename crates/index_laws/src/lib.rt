@@ -5,6 +5,7 @@
 #![tactic(auto)]
 
 ghost use Rattle.index_laws.specs.Shared.{FirmWordsAreShown, RulesShareAKey};
+ghost use Rattle.index_laws.specs.Served.{CandidatesAreServed};
 ghost use Rattle.index_laws.specs.Segments.{SegmentsAreFew};
 
 /// A text that a filter fits has, in some case, each word of the filter of which both ends are firm.
@@ -22,4 +23,11 @@ pub fn rules_share_a_key()
 #[tactic(auto, using(crate::proofs::Few::segments_are_few))]
 pub fn segments_are_few()
     ensures { SegmentsAreFew }
+{}
+
+/// Places that rise, among which each candidate stands, give the candidates of all rules in force: so rules need not be
+/// walked, where an index gives such places.
+#[tactic(auto, using(crate::proofs::Served::candidates_are_served))]
+pub fn candidates_are_served()
+    ensures { CandidatesAreServed }
 {}

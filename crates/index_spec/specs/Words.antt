@@ -18,6 +18,10 @@ is_filled (b ∷ rest) = true
 abbrev pub words_of : List ℕ → List (List ℕ)
 words_of text = filter is_filled (slice_split ends_word text)
 
+-- one of the words is this one, in whatever case
+abbrev pub has_word : List (List ℕ) → List ℕ → Bool
+has_word words word = list_any (λ other. bytes_eq (lower_case other) (lower_case word)) words
+
 -- ---- of a filter
 
 -- a byte that ends a word: it is no letter, no digit and no `*`, which may stand for more of the word. So `^`, which

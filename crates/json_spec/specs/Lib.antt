@@ -6,6 +6,3 @@ pub mod RulesFile
 pub mod Written
 pub mod MayRefuse
 pub mod Examples
-pub mod CommandPath
-pub mod RequestLine
-pub mod RequestExamples

@@ -48,7 +48,7 @@ impl<'a> Asked<'a> {
 
     /// The tag of the key.
     #[tactic(auto, unfolding(crate::specs::Hash::tag_of))]
-    pub(crate) fn tag(&self) -> u32
+    pub fn tag(&self) -> u32
         ensures { result ≡ tag_of self.now }
     {
         hash_end(hash_bytes(self.fold, self.text))

@@ -22,7 +22,7 @@ pub(crate) fn hash_end(hash: u64) -> u32
 
 /// The bucket that a tag falls into, of so many.
 #[tactic(auto, unfolding(crate::specs::Hash::bucket_of))]
-pub(crate) fn bucket_of(buckets: u32, tag: u32) -> usize
+pub fn bucket_of(buckets: u32, tag: u32) -> usize
     requires { 0 < buckets }
     ensures value { result ≡ spec.bucket_of buckets tag }
     ensures within { result < buckets }

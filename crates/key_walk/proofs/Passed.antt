@@ -5,8 +5,8 @@ use Rattle.std.proofs.Math.Seq.{drop-cons, take-suc}
 use Rattle.std.proofs.lemmas.List.Splits.{length-slice_split}
 use Rattle.std.proofs.lemmas.Grind.{common_steps}
 use Rattle.key_table.specs.Pairs.{Pair, lower_case, near_of}
-use Rattle.index_spec.specs.Words.{ends_word, is_filled, words_of}
-use Rattle.key_walk.specs.Met.{is_met, places_behind}
+use Rattle.index_spec.specs.Words.{ends_word, has_word, is_filled, words_of}
+use Rattle.key_walk.specs.Met.{places_behind}
 
 shorter_by : {X : Type 0} (b : Bool) (x : X) (xs : List X) (n : ℕ) → length xs ≤ n → length (cond b (x ∷ xs) xs) ≤ suc n
 shorter_by true x xs n few = omega arith
@@ -42,13 +42,13 @@ no_more true left = refl
 no_more false left = refl
 
 -- a word that is new, and gives places
-pub step_new : (pairs : List Pair) (shown : Option ℕ) (all words : List (List ℕ)) (passed : ℕ) (word : List ℕ) (rest : List (List ℕ)) (place : ℕ) (more : List ℕ) → words ≡ drop passed all → words ≡ word ∷ rest → near_of (lower_case word) shown pairs ≡ place ∷ more → is_met (take passed all) word ≡ false → places_behind pairs shown (take passed all) words ≡ place ∷ (more ++ places_behind pairs shown (take (passed + 1) all) rest)
+pub step_new : (pairs : List Pair) (shown : Option ℕ) (all words : List (List ℕ)) (passed : ℕ) (word : List ℕ) (rest : List (List ℕ)) (place : ℕ) (more : List ℕ) → words ≡ drop passed all → words ≡ word ∷ rest → near_of (lower_case word) shown pairs ≡ place ∷ more → has_word (take passed all) word ≡ false → places_behind pairs shown (take passed all) words ≡ place ∷ (more ++ places_behind pairs shown (take (passed + 1) all) rest)
 step_new pairs shown all words passed word rest place more at is places new =
     let next : take (passed + 1) all ≡ take passed all ++ word ∷ [] = (passed_one all passed word rest (sym at ∙ is)).0 in
     rw (is, next, new, places) refl
 
 -- a word that was met before, or gives no places
-pub step_met : (pairs : List Pair) (shown : Option ℕ) (all words : List (List ℕ)) (passed : ℕ) (word : List ℕ) (rest : List (List ℕ)) → words ≡ drop passed all → words ≡ word ∷ rest → is_met (take passed all) word ≡ true → places_behind pairs shown (take (passed + 1) all) rest ≡ places_behind pairs shown (take passed all) words
+pub step_met : (pairs : List Pair) (shown : Option ℕ) (all words : List (List ℕ)) (passed : ℕ) (word : List ℕ) (rest : List (List ℕ)) → words ≡ drop passed all → words ≡ word ∷ rest → has_word (take passed all) word ≡ true → places_behind pairs shown (take (passed + 1) all) rest ≡ places_behind pairs shown (take passed all) words
 step_met pairs shown all words passed word rest at is met =
     let next : take (passed + 1) all ≡ take passed all ++ word ∷ [] = (passed_one all passed word rest (sym at ∙ is)).0 in
     rw (is, next, met) refl
@@ -56,4 +56,4 @@ step_met pairs shown all words passed word rest at is met =
 pub step_none : (pairs : List Pair) (shown : Option ℕ) (all words : List (List ℕ)) (passed : ℕ) (word : List ℕ) (rest : List (List ℕ)) → words ≡ drop passed all → words ≡ word ∷ rest → near_of (lower_case word) shown pairs ≡ [] → places_behind pairs shown (take (passed + 1) all) rest ≡ places_behind pairs shown (take passed all) words
 step_none pairs shown all words passed word rest at is none =
     let next : take (passed + 1) all ≡ take passed all ++ word ∷ [] = (passed_one all passed word rest (sym at ∙ is)).0 in
-    rw (is, next, none) (no_more (is_met (take passed all) word) (places_behind pairs shown (take passed all ++ word ∷ []) rest))
+    rw (is, next, none) (no_more (has_word (take passed all) word) (places_behind pairs shown (take passed all ++ word ∷ []) rest))

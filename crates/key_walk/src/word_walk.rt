@@ -1,7 +1,7 @@
 ghost use Rattle.std.specs.Prelude.{◌≡◌, take, Some};
 ghost use Rattle.std.specs.Iterator.{YieldsFirst, item_count};
 ghost use Rattle.key_walk.specs.Met as spec;
-ghost use Rattle.index_spec.specs.Words.{words_of};
+ghost use Rattle.index_spec.specs.Words.{words_of, has_word};
 
 use crate::words::Words;
 use key_table::{Asked, Places, Table};
@@ -34,7 +34,7 @@ impl<'a> Model for WordWalk<'a> {
 
 // Whether the word is one of the first of the text, in whatever case. Few words are asked, those that have places.
 fn is_met(text: &[u8], passed: usize, word: &[u8]) -> bool
-    ensures { result ≡ spec.is_met (take passed (words_of text.now)) word.now }
+    ensures { result ≡ has_word (take passed (words_of text.now)) word.now }
 {
     Words::new(text)
         .take(passed)

@@ -8,7 +8,7 @@ use crate::ManifestRefusal;
 use crate::fault::Fault;
 use crate::manifest::{Manifest, read_bytes};
 use crate::resource::Resource;
-use dnr_base::{Items, NoMemory, Text};
+use dnr_base::{NoMemory, Text};
 use dnr_io::{Shelf, ShelfRefusal};
 use dnr_rules::Rule;
 use regex_host::RegexHost;
@@ -50,11 +50,8 @@ pub fn read_extension<F: Shelf, H: RegexHost>(
 {
     let manifest = read_manifest(alloc, shelf, name)?;
     let sets = read_sets(alloc, shelf, name, &manifest.resources, host)?;
-    Ok(Extension {
-        name: Text::build(String::from_str(alloc, name)?),
-        sets: Items::build(sets),
-        access: manifest.access,
-    })
+    let name = Text::build(String::from_str(alloc, name)?);
+    Ok(Extension::build(alloc, name, sets, manifest.access)?)
 }
 
 // Reads the manifest.
@@ -166,12 +163,8 @@ fn read_set<F: Shelf, H: RegexHost>(
 fn set_of(alloc: Global, resource: &Resource, rules: Vec<Rule>) -> Result<RuleSet, NoMemory>
     ensures { IfOk result (λ set. set ≡ set_of resource.now rules.items) }
 {
-    Ok(RuleSet {
-        id: resource.id().copy(alloc)?,
-        enabled: resource.is_enabled(),
-        rules: Items::build(rules),
-        origins: Items::build(Vec::new(alloc)),
-    })
+    let id = resource.id().copy(alloc)?;
+    RuleSet::build(alloc, id, resource.is_enabled(), rules, Vec::new(alloc))
 }
 
 fn set_refusal(file: Text, refusal: LoadRefusal) -> ManifestRefusal

@@ -8,7 +8,7 @@ use Rattle.dnr_base.specs.declared.winner.Winner.{Winner}
 use Rattle.dnr_base.specs.declared.rank.Rank.{Rank}
 use Rattle.dnr_base.specs.declared.rank.Rank.TheVariants.{Session, Dynamic, Static}
 use Rattle.dnr_spec.specs.Order.{is_before, place_of, rank_of, class_of, beats, prevails}
-use Rattle.precedence.specs.Laws.{IsOrder, OneBeats}
+use Rattle.precedence.specs.Laws.{IsOrder, OneBeats, OnePrevails}
 
 -- ---- the comparison as a fact
 
@@ -189,3 +189,6 @@ prevails_is_order = record {
   one_way = λ a b h. one_way_of (winner_places a b a) h;
   between = λ a b c h g. between_of (winner_places a b c) h g;
 }
+
+pub prevails_one_of_two : OnePrevails
+prevails_one_of_two a b h g = let same = neither_before (winner_places a b a) h g in (same.0, same.1.0)

@@ -1,7 +1,8 @@
 -- What holds of the orders by which rules decide.
 use Rattle.std.specs.Prelude.{◌≡◌, ℕ, List, [], ◌∷◌, ◌++◌, length, slice_index_or, Bool, true, false, Option, Some, None, if◌then◌else◌}
 use Rattle.dnr_base.specs.declared.candidate.Candidate.{Candidate}
-use Rattle.dnr_spec.specs.Order.{unbeaten, beats}
+use Rattle.dnr_base.specs.declared.winner.Winner.{Winner}
+use Rattle.dnr_spec.specs.Order.{unbeaten, beats, class_of, prevails}
 
 -- no two beat each other, and where a beats b, a beats all that do not beat b
 pub record IsOrder {X : Type 0} (goes_before : X → X → Bool) : Type 0 where
@@ -11,6 +12,10 @@ pub record IsOrder {X : Type 0} (goes_before : X → X → Bool) : Type 0 where
 -- of two candidates one beats the other, unless they have one rank and one id
 abbrev pub OneBeats : Type 0
 OneBeats = (a b : Candidate) → beats a b ≡ false → beats b a ≡ false → (a.rank ≡ b.rank) × (a.id ≡ b.id)
+
+-- of two winners one prevails over the other, unless they have one class and one age
+abbrev pub OnePrevails : Type 0
+OnePrevails = (a b : Winner) → prevails a b ≡ false → prevails b a ≡ false → (class_of a.action ≡ class_of b.action) × (a.age ≡ b.age)
 
 -- which one is unbeaten in a list with one more at its end, by which one is in the list
 abbrev pub with_one_more : {X : Type 0} → (X → X → Bool) → List X → X → Option ℕ → Option ℕ

@@ -1,328 +1,248 @@
--- A rule that shares a key with a part is found for it.
-use Rattle.std.proofs.Common.{◌≡◌, ℕ, zero, suc, ◌+◌, ◌<◌, List, [], ◌∷◌, ◌++◌, length, map, get_or, Bool, true, false, cond, ◌&&◌, ◌||◌, ◌==◌, Option, Some, None, inl, inr, refl, sym, ap, ◌∙◌, subst, arith}
-use Rattle.std.specs.List.{list_any, flat_map, cons_option}
-use Rattle.std.specs.Str.{bytes_eq}
-use Rattle.std.proofs.lemmas.Bool.{or_cases, or_left, or_right, cases_Bool, false≢true}
+-- Which rules of a list are found, and how many.
+use Rattle.std.proofs.Common.{◌≡◌, ℕ, zero, suc, ◌+◌, ◌<◌, ◌≤◌, List, [], ◌∷◌, ◌++◌, length, filter, Bool, true, false, cond, ◌==◌, Option, Some, None, inl, inr, refl, sym, ap, ◌∙◌, arith}
+use Rattle.std.specs.Prelude.{slice_get, is_some}
+use Rattle.std.specs.List.{Contains, sum_by, list_any}
+use Rattle.std.proofs.lemmas.Bool.{cases_Bool, false≢true, or_cases, or_left, or_right, eqb-true}
 use Rattle.std.proofs.lemmas.Bool.Decides.{nat_tests}
 use Rattle.std.proofs.lemmas.List.Folds.{list_any-append}
-use Rattle.std.proofs.lemmas.List.Sorted.{list_any-IsPermutation}
+use Rattle.std.proofs.lemmas.List.Sums.{sum_by-cons, sum_by-le-sum_by}
 use Rattle.std.proofs.lemmas.Slice.Eq.{bytes_eq-Decides}
-use Rattle.dnr_base.specs.View.{text_of, host_of}
 use Rattle.dnr_base.specs.Request.{Part}
-use Rattle.dnr_spec.specs.Domains.{lower_case}
-use Rattle.rule_spec.specs.Rule.{Condition, Rule}
-use Rattle.index_spec.specs.Words.{words_of}
+use Rattle.rule_spec.specs.Rule.{Rule}
 use Rattle.index_spec.specs.declared.key.Key.{Key}
 use Rattle.index_spec.specs.declared.key.Key.TheVariants.{Host, Token, Initiator, All}
-use Rattle.index_spec.specs.Keys.{same_key, has_key, keys_by_initiators, keys_by_token, keys_by_hosts, domains_over, domains_over_some, keys_of_part}
+use Rattle.index_spec.specs.Keys.{same_key, has_key, keys_of_rule, keys_of_part}
+use Rattle.index_spec.specs.Pairs.{is_for_frames, once_behind, once, pairs_on, rules_for_frames, shared}
 use Rattle.index_laws.proofs.Sharing.{rules_share_a_key}
-use Rattle.key_table.specs.Pairs.{Pair, near_if, near_of}
-use Rattle.key_walk.specs.Met.{is_met, places_behind, sharing_text}
-use Rattle.key_walk.specs.Over.{sharing_host}
-use Rattle.rule_index.specs.Index.{Index, empty_index, once_by, pair_for, pairs_for, hosts_by, words_by, initiators_by, all_by, token_in, with_rule, with_rules, IsIndexOf, sharing_initiator, candidates}
-use Rattle.rule_index.specs.Found.{has_place, SharersAreFound, HoldersAreFound}
+use Rattle.index_laws.specs.Shared.{share_a_key}
+use Rattle.key_table.specs.Pairs.{shows}
+use Rattle.rule_index.specs.Index.{near, candidates}
+use Rattle.rule_index.specs.Lists.{placed, placed_from, for_frames}
+use Rattle.rule_index.specs.Needs.{needs_of, shown_by}
+use Rattle.rule_index.specs.Found.{SharersAreFound, HoldersAreFound, HoldersAreNear, FewAreFound, FewAreNear}
+use Rattle.rule_index.proofs.Weighed.{sum_same, sum_none}
+use Rattle.rule_index.proofs.Counted.{candidates_are_counted, near_are_counted}
+use Rattle.rule_index.proofs.Shown.{needs_are_shown}
 
--- ---- some of a list
+-- ---- how many
 
-any_left : {X : Type 0} (test : X → Bool) (xs ys : List X) → list_any test xs ≡ true → list_any test (xs ++ ys) ≡ true
-any_left test xs ys has = list_any-append test xs ys ∙ or_left (list_any test xs) (list_any test ys) has
+pub sum_of_ones : {X : Type 0} (xs : List X) → sum_by (λ x. 1) xs ≡ length xs
+sum_of_ones [] = refl
+sum_of_ones (x ∷ xs) = let a = sum_by-cons (λ x. 1) x xs in let b = sum_of_ones xs in omega arith
 
-any_right : {X : Type 0} (test : X → Bool) (xs ys : List X) → list_any test ys ≡ true → list_any test (xs ++ ys) ≡ true
-any_right test xs ys has = list_any-append test xs ys ∙ or_right (list_any test xs) (list_any test ys) has
+-- the rules count, whatever their places
+placed_sum : (g : Rule → ℕ) (first : ℕ) (rules : List Rule) → sum_by (λ one. g one.1) (placed_from first rules) ≡ sum_by g rules
+placed_sum g first [] = refl
+placed_sum g first (rule ∷ rules) =
+    let a = sum_by-cons (λ (one : ℕ × Rule). g one.1) (first, rule) (placed_from (first + 1) rules) in
+    let b = sum_by-cons g rule rules in
+    let c = placed_sum g (first + 1) rules in
+    omega arith
 
-any_map : {X Y : Type 0} (f : X → Y) (test : Y → Bool) (xs : List X) → list_any test (map f xs) ≡ list_any (λ x. test (f x)) xs
-any_map f test [] = refl
-any_map f test (x ∷ xs) = ap (λ b. test (f x) || b) (any_map f test xs)
+-- those for frames alone
+framed_sum : (g : Rule → ℕ) (first : ℕ) (rules : List Rule) → sum_by (λ one. g one.1) (for_frames (placed_from first rules)) ≡ sum_by g (rules_for_frames rules)
+framed_sum g first [] = refl
+framed_sum g first (rule ∷ rules) = by (framed_sum g (first + 1) rules) (is_for_frames rule.action)
+  where
+    rest : List (ℕ × Rule)
+    rest = for_frames (placed_from (first + 1) rules)
 
-none_map : {X Y : Type 0} (f : X → Y) (test : Y → Bool) (xs : List X) → ((x : X) → test (f x) ≡ false) → list_any test (map f xs) ≡ false
-none_map f test [] other = refl
-none_map f test (x ∷ xs) other = rw (other x) (none_map f test xs other)
+    by : sum_by (λ (one : ℕ × Rule). g one.1) rest ≡ sum_by g (rules_for_frames rules) → (is : Bool) → sum_by (λ (one : ℕ × Rule). g one.1) (cond is ((first, rule) ∷ rest) rest) ≡ sum_by g (cond is (rule ∷ rules_for_frames rules) (rules_for_frames rules))
+    by others true =
+        let a = sum_by-cons (λ (one : ℕ × Rule). g one.1) (first, rule) rest in
+        let b = sum_by-cons g rule (rules_for_frames rules) in
+        let c = others in
+        omega arith
+    by others false = others
 
--- ---- a pair is found by its key
+-- how many keys a rule shares, one by one
+abbrev keys_in : Part → Rule → ℕ
+keys_in part rule = sum_by (λ key. 1) (shared rule part)
 
--- the pair of this key and place
-abbrev is_pair : List ℕ → ℕ → Pair → Bool
-is_pair key place pair = bytes_eq pair.key key && pair.place == place
+counted : (rules : List Rule) (part : Part) → sum_by (keys_in part) rules ≡ pairs_on rules part
+counted rules part = sum_same (keys_in part) (λ rule. length (shared rule part)) rules (λ rule. sum_of_ones (shared rule part))
 
-has_cons : (first : Option ℕ) (places : List ℕ) (place : ℕ) → has_place places place ≡ true → has_place (cons_option first places) place ≡ true
-has_cons None places place has = has
-has_cons (Some other) places place has = or_right (other == place) (has_place places place) has
+pub few_are_found : FewAreFound
+few_are_found rules index part is = (
+  sym (sum_of_ones (candidates index.whole part)) ∙ candidates_are_counted (λ place. 1) (placed rules) index.whole part is.whole ∙ placed_sum (keys_in part) 0 rules ∙ counted rules part,
+  sym (sum_of_ones (candidates index.framing part)) ∙ candidates_are_counted (λ place. 1) (for_frames (placed rules)) index.framing part is.framing ∙ framed_sum (keys_in part) 0 rules
+      ∙ counted (rules_for_frames rules) part,
+)
 
-given_first : (same : Bool) (other place : ℕ) (places : List ℕ) → (same && other == place) ≡ true → has_place (cons_option (cond same (Some other) None) places) place ≡ true
-given_first true other place places has = or_left (other == place) (has_place places place) has
-given_first false other place places has = absurd (false≢true has)
+-- where some weigh nothing
+abbrev shown_keys : Option ℕ → Part → Rule → ℕ
+shown_keys shown part rule = sum_by (λ key. cond (shows (needs_of rule.condition) shown) 1 0) (shared rule part)
 
-found_by_key : (key : List ℕ) (place : ℕ) (pairs : List Pair) → list_any (is_pair key place) pairs ≡ true → has_place (near_of key None pairs) place ≡ true
-found_by_key key place [] has = has
-found_by_key key place (pair ∷ pairs) has =
-    elim (or_cases (is_pair key place pair) (list_any (is_pair key place) pairs) has) [
-      | inl here ↦ given_first (bytes_eq pair.key key) pair.place place (near_of key None pairs) here
-      | inr later ↦ has_cons (near_if key None pair) (near_of key None pairs) place (found_by_key key place pairs later)
+no_more : (shown : Option ℕ) (part : Part) (rule : Rule) → shown_keys shown part rule ≤ length (shared rule part)
+no_more shown part rule = by (shows (needs_of rule.condition) shown)
+  where
+    by : (is : Bool) → sum_by (λ (key : Key). cond is 1 0) (shared rule part) ≤ length (shared rule part)
+    by true = let a = sum_of_ones (shared rule part) in omega arith
+    by false = let a = sum_none (λ (key : Key). 0) (shared rule part) (λ key. refl) in omega arith
+
+fewer : (shown : Option ℕ) (part : Part) (rules : List Rule) → sum_by (shown_keys shown part) rules ≤ pairs_on rules part
+fewer shown part rules = sum_by-le-sum_by (shown_keys shown part) (λ rule. length (shared rule part)) rules (no_more shown part)
+
+pub few_are_near : FewAreNear
+few_are_near shown rules index part is =
+    let a = sum_of_ones (near index.whole shown part) in
+    let b = near_are_counted (λ place. 1) shown (placed rules) index.whole part is.whole in
+    let c = placed_sum (shown_keys shown part) 0 rules in
+    let d = fewer shown part rules in
+    let e = sum_of_ones (near index.framing shown part) in
+    let f = near_are_counted (λ place. 1) shown (for_frames (placed rules)) index.framing part is.framing in
+    let g = framed_sum (shown_keys shown part) 0 rules in
+    let h = fewer shown part (rules_for_frames rules) in
+    (omega arith, omega arith)
+
+-- ---- a place that weighs something is given
+
+abbrev at_place : ℕ → ℕ → ℕ
+at_place place other = cond (other == place) 1 0
+
+given : (place : ℕ) (places : List ℕ) → 0 < sum_by (at_place place) places → Contains places place
+given place [] some = absurd (omega arith)
+given place (other ∷ places) some =
+    elim (cases_Bool (other == place)) [
+      | inl same ↦ (0, omega arith, eqb-true other place same)
+      | inr differs ↦
+          let a = sum_by-cons (at_place place) other places in
+          let b : at_place place other ≡ 0 = ap (λ same. cond same 1 0) differs in
+          let rest = given place places (omega arith) in
+          (suc rest.0, (let w = rest.1 in omega arith), rest.2)
     ]
 
-found_over : (key : List ℕ) (place : ℕ) (pairs : List Pair) (texts : List (List ℕ)) → list_any (is_pair key place) pairs ≡ true → list_any (λ text. bytes_eq text key) texts ≡ true → has_place (flat_map (λ text. near_of text None pairs) texts) place ≡ true
-found_over key place pairs [] has over = over
-found_over key place pairs (text ∷ texts) has over =
-    elim (or_cases (bytes_eq text key) (list_any (λ text. bytes_eq text key) texts) over) [
-      | inl here ↦
-          let same : key ≡ text = sym ((bytes_eq-Decides text key).0 here) in
-          any_left (λ other. other == place) (near_of text None pairs) _ (subst (λ t. has_place (near_of t None pairs) place ≡ true) same (found_by_key key place pairs has))
-      | inr later ↦ any_right (λ other. other == place) (near_of text None pairs) _ (found_over key place pairs texts has later)
+abbrev or_own : Rule → Option Rule → Rule
+or_own own None = own
+or_own own (Some rule) = rule
+
+same_rule : (own rule : Rule) → Some own ≡ Some rule → own ≡ rule
+same_rule own rule is = ap (or_own own) is
+
+-- each rule weighs no more than all
+at_least : (g : ℕ × Rule → ℕ) (first at : ℕ) (rules : List Rule) (place : ℕ) (rule : Rule) → at ≡ first + place → slice_get rules place ≡ Some rule → g (at, rule) ≤ sum_by g (placed_from first rules)
+at_least g first at [] place rule is there = absurd (false≢true (ap is_some there))
+at_least g first at (own ∷ rules) zero rule is there =
+    let same : at ≡ first = omega arith in
+    let a = sum_by-cons g (first, own) (placed_from (first + 1) rules) in
+    let b : g (at, rule) ≡ g (first, own) = ap (λ n. g (n, rule)) same ∙ ap (λ r. g (first, r)) (sym (same_rule own rule there)) in
+    omega arith
+at_least g first at (own ∷ rules) (suc place) rule is there =
+    let a = sum_by-cons g (first, own) (placed_from (first + 1) rules) in
+    let b = at_least g (first + 1) at rules place rule (omega arith) there in
+    omega arith
+
+at_least_framed : (g : ℕ × Rule → ℕ) (first at : ℕ) (rules : List Rule) (place : ℕ) (rule : Rule) → at ≡ first + place → slice_get rules place ≡ Some rule → is_for_frames rule.action ≡ true
+    → g (at, rule) ≤ sum_by g (for_frames (placed_from first rules))
+at_least_framed g first at [] place rule is there framing = absurd (false≢true (ap is_some there))
+at_least_framed g first at (own ∷ rules) zero rule is there framing =
+    let same : at ≡ first = omega arith in
+    let one : own ≡ rule = same_rule own rule there in
+    let rest = for_frames (placed_from (first + 1) rules) in
+    let a = sum_by-cons g (first, own) rest in
+    let b : g (at, rule) ≡ g (first, own) = ap (λ n. g (n, rule)) same ∙ ap (λ r. g (first, r)) (sym one) in
+    let c : g (at, rule) ≤ sum_by g ((first, own) ∷ rest) = omega arith in
+    let frames : is_for_frames own.action ≡ true = ap (λ (r : Rule). is_for_frames r.action) one ∙ framing in
+    rw frames c
+at_least_framed g first at (own ∷ rules) (suc place) rule is there framing =
+    by (is_for_frames own.action) (at_least_framed g (first + 1) at rules place rule (omega arith) there framing)
+  where
+    rest : List (ℕ × Rule)
+    rest = for_frames (placed_from (first + 1) rules)
+
+    by : (is : Bool) → g (at, rule) ≤ sum_by g rest → g (at, rule) ≤ sum_by g (cond is ((first, own) ∷ rest) rest)
+    by true later = let a = sum_by-cons g (first, own) rest in omega arith
+    by false later = later
+
+-- ---- a rule that shares a key has one among those that it has once
+
+same_is : (key other : Key) → same_key key other ≡ true → key ≡ other
+same_is (Host text) (Host other) same = ap Host ((bytes_eq-Decides text other).0 same)
+same_is (Token text) (Token other) same = ap Token ((bytes_eq-Decides text other).0 same)
+same_is (Initiator text) (Initiator other) same = ap Initiator ((bytes_eq-Decides text other).0 same)
+same_is All All same = refl
+same_is (Host text) (Token other) same = absurd (false≢true same)
+same_is (Host text) (Initiator other) same = absurd (false≢true same)
+same_is (Host text) All same = absurd (false≢true same)
+same_is (Token text) (Host other) same = absurd (false≢true same)
+same_is (Token text) (Initiator other) same = absurd (false≢true same)
+same_is (Token text) All same = absurd (false≢true same)
+same_is (Initiator text) (Host other) same = absurd (false≢true same)
+same_is (Initiator text) (Token other) same = absurd (false≢true same)
+same_is (Initiator text) All same = absurd (false≢true same)
+same_is All (Host other) same = absurd (false≢true same)
+same_is All (Token other) same = absurd (false≢true same)
+same_is All (Initiator other) same = absurd (false≢true same)
+
+was_there : (test : Key → Bool) (before : List Key) (key : Key) → has_key before key ≡ true → test key ≡ true → list_any test before ≡ true
+was_there test [] key has passes = absurd (false≢true has)
+was_there test (other ∷ before) key has passes =
+    elim (or_cases (same_key other key) (has_key before key) has) [
+      | inl same ↦ or_left (test other) (list_any test before) (ap test (same_is other key same) ∙ passes)
+      | inr later ↦ or_right (test other) (list_any test before) (was_there test before key later passes)
     ]
 
--- ---- a word is asked where it is met first
+any_behind : (test : Key → Bool) (xs ys : List Key) → list_any test ys ≡ true → list_any test (xs ++ ys) ≡ true
+any_behind test xs ys has = list_any-append test xs ys ∙ or_right (list_any test xs) (list_any test ys) has
 
-word_here : (met : Bool) (token : List ℕ) (place : ℕ) (pairs : List Pair) (word : List ℕ) (others : List ℕ) → met ≡ false → lower_case word ≡ token → list_any (is_pair token place) pairs ≡ true → has_place (cond met [] (near_of (lower_case word) None pairs) ++ others) place ≡ true
-word_here true token place pairs word others new same has = absurd (false≢true (sym new))
-word_here false token place pairs word others new same has =
-    any_left (λ other. other == place) (near_of (lower_case word) None pairs) others
-    (subst (λ t. has_place (near_of t None pairs) place ≡ true) (sym same) (found_by_key token place pairs has))
-
--- no word met is the token
-abbrev IsNew : List (List ℕ) → List ℕ → Type 0
-IsNew before token = list_any (λ other. bytes_eq (lower_case other) token) before ≡ false
-
-still_new : (before : List (List ℕ)) (word token : List ℕ) → IsNew before token → bytes_eq (lower_case word) token ≡ false → IsNew (before ++ word ∷ []) token
-still_new before word token new other = list_any-append (λ other. bytes_eq (lower_case other) token) before (word ∷ []) ∙ rw (new, other) refl
-
-found_by_word : (token : List ℕ) (place : ℕ) (pairs : List Pair) (before words : List (List ℕ)) → list_any (is_pair token place) pairs ≡ true → IsNew before token → list_any (λ word. bytes_eq (lower_case word) token) words ≡ true → has_place (places_behind pairs None before words) place ≡ true
-found_by_word token place pairs before [] has new shown = absurd (false≢true shown)
-found_by_word token place pairs before (word ∷ words) has new shown =
-    elim (cases_Bool (bytes_eq (lower_case word) token)) [
-      | inl here ↦
-          let same : lower_case word ≡ token = (bytes_eq-Decides (lower_case word) token).0 here in
-          let met : is_met before word ≡ false = ap (λ t. list_any (λ other. bytes_eq (lower_case other) t) before) same ∙ new in
-          word_here (is_met before word) token place pairs word (places_behind pairs None (before ++ word ∷ []) words) met same has
-      | inr other ↦
-          any_right (λ other. other == place) (cond (is_met before word) [] (near_of (lower_case word) None pairs)) (places_behind pairs None (before ++ word ∷ []) words)
-          (found_by_word token place pairs (before ++ word ∷ []) words has (still_new before word token new other) (rw other at shown))
+once_has : (test : Key → Bool) (before keys : List Key) → list_any test before ≡ false → list_any test keys ≡ true → list_any test (once_behind before keys) ≡ true
+once_has test before [] none has = absurd (false≢true has)
+once_has test before (key ∷ keys) none has =
+    elim (cases_Bool (test key)) [
+      | inl passes ↦
+          let fresh : has_key before key ≡ false =
+          elim (cases_Bool (has_key before key)) [
+            | inl met ↦ absurd (false≢true (sym none ∙ was_there test before key met passes))
+            | inr isnt ↦ isnt
+          ] in
+          rw fresh (or_left (test key) (list_any test (once_behind (before ++ key ∷ []) keys)) passes)
+      | inr fails ↦
+          let still : list_any test (before ++ key ∷ []) ≡ false = list_any-append test before (key ∷ []) ∙ rw (none, fails) refl in
+          let later : list_any test keys ≡ true = rw fails at has in
+          any_behind test (cond (has_key before key) [] (key ∷ [])) (once_behind (before ++ key ∷ []) keys) (once_has test (before ++ key ∷ []) keys still later)
     ]
 
--- ---- a rule's pairs stand in the index
-
-once_step : (was : Bool) (text key : List ℕ) (same more : List (List ℕ)) → list_any (λ text. bytes_eq text key) same ≡ true → list_any (λ text. bytes_eq text key) more ≡ true → list_any (λ text. bytes_eq text key) (cond was same (text ∷ more)) ≡ true
-once_step true text key same more first second = first
-once_step false text key same more first second = or_right (bytes_eq text key) (list_any (λ text. bytes_eq text key) more) second
-
-abbrev seen_with : List ℕ → (List ℕ → Bool) → List ℕ → Bool
-seen_with text seen other = cond (bytes_eq text other) true (seen other)
-
-once_keeps : (seen : List ℕ → Bool) (texts : List (List ℕ)) (key : List ℕ) → seen key ≡ false → list_any (λ text. bytes_eq text key) texts ≡ true → list_any (λ text. bytes_eq text key) (once_by seen texts) ≡ true
-once_keeps seen [] key new has = has
-once_keeps seen (text ∷ texts) key new has =
-    elim (cases_Bool (bytes_eq text key)) [
-      | inl here ↦
-          let same : text ≡ key = (bytes_eq-Decides text key).0 here in
-          let fresh : seen text ≡ false = ap seen same ∙ new in
-          rw fresh (or_left (bytes_eq text key) (list_any (λ text. bytes_eq text key) (once_by (seen_with text seen) texts)) here)
-      | inr other ↦
-          let rest : list_any (λ text. bytes_eq text key) texts ≡ true = rw other at has in
-          let still : seen_with text seen key ≡ false = rw other new in
-          once_step (seen text) text key (once_by seen texts) (once_by (seen_with text seen) texts) (once_keeps seen texts key new rest) (once_keeps (seen_with text seen) texts key still rest)
+some_kept : {X : Type 0} (test : X → Bool) (xs : List X) → list_any test xs ≡ true → 0 < length (filter test xs)
+some_kept test [] has = absurd (false≢true has)
+some_kept test (x ∷ xs) has =
+    elim (cases_Bool (test x)) [
+      | inl passes ↦ rw passes (omega arith)
+      | inr fails ↦ rw fails (some_kept test xs (rw fails at has))
     ]
 
 same_place : (place : ℕ) → (place == place) ≡ true
 same_place place = grind (arith, nat_tests)
 
-pairs_have : (key : List ℕ) (place : ℕ) (texts : List (List ℕ)) → list_any (λ text. bytes_eq text key) texts ≡ true → list_any (is_pair key place) (map (pair_for place) texts) ≡ true
-pairs_have key place [] has = has
-pairs_have key place (text ∷ texts) has =
-    elim (or_cases (bytes_eq text key) (list_any (λ text. bytes_eq text key) texts) has) [
-      | inl here ↦ or_left (is_pair key place (pair_for place text)) (list_any (is_pair key place) (map (pair_for place) texts)) (rw (here, same_place place) refl)
-      | inr later ↦ or_right (is_pair key place (pair_for place text)) (list_any (is_pair key place) (map (pair_for place) texts)) (pairs_have key place texts later)
-    ]
+-- what the rule at a place weighs for that place
+abbrev weight_at : Option ℕ → Part → ℕ → ℕ × Rule → ℕ
+weight_at shown part place one = sum_by (λ key. cond (shows (needs_of one.1.condition) shown) (at_place place one.0) 0) (shared one.1 part)
 
-all_pairs_have : (key : List ℕ) (place : ℕ) (texts : List (List ℕ)) → list_any (λ text. bytes_eq text key) texts ≡ true → list_any (is_pair key place) (pairs_for texts place) ≡ true
-all_pairs_have key place texts has = pairs_have key place (once_by (λ text. false) texts) (once_keeps (λ text. false) texts key refl has)
-
--- what an index with one rule more still passes
-abbrev Lasts : (Index → Bool) → Type 0
-Lasts test = (index : Index) (rule : Rule) (place : ℕ) → test index ≡ true → test (with_rule index rule place) ≡ true
-
-lasts : (test : Index → Bool) → Lasts test → (rules : List Rule) (index : Index) (place : ℕ) → test index ≡ true → test (with_rules index rules place) ≡ true
-lasts test step [] index place has = has
-lasts test step (rule ∷ rules) index place has = lasts test step rules (with_rule index rule place) (place + 1) (step index rule place has)
-
-reached : (test : Index → Bool) → Lasts test → (rules : List Rule) (index : Index) (first place : ℕ) (rule : Rule) → place < length rules → ((index : Index) → test (with_rule index (get_or rules place rule) (first + place)) ≡ true) → test (with_rules index rules first) ≡ true
-reached test step [] index first place rule within here = absurd (omega arith)
-reached test step (own ∷ rules) index first zero rule within here =
-    let at : first + 0 ≡ first = omega arith in
-    lasts test step rules (with_rule index own first) (first + 1) (subst (λ n. test (with_rule index own n) ≡ true) at (here index))
-reached test step (own ∷ rules) index first (suc place) rule within here =
-    let at : first + suc place ≡ (first + 1) + place = omega arith in
-    reached test step rules (with_rule index own first) (first + 1) place rule (omega arith) (λ index. subst (λ n. test (with_rule index (get_or rules place rule) n) ≡ true) at (here index))
-
-reached_at : (test : Index → Bool) → Lasts test → (rules : List Rule) (place : ℕ) (rule : Rule) → place < length rules → ((index : Index) → test (with_rule index (get_or rules place rule) place) ≡ true) → test (with_rules empty_index rules 0) ≡ true
-reached_at test step rules place rule within here =
-    let at : place ≡ 0 + place = omega arith in
-    reached test step rules empty_index 0 place rule within (λ index. subst (λ n. test (with_rule index (get_or rules place rule) n) ≡ true) at (here index))
-
--- ---- by each kind of key
-
-hosts_found : (rules : List Rule) (index : Index) (part : Part) (place : ℕ) (rule : Rule) (key : List ℕ) → IsIndexOf rules index → place < length rules
-    → list_any (λ text. bytes_eq text key) (hosts_by (get_or rules place rule).condition.hosts) ≡ true → list_any (λ over. bytes_eq over key) (domains_over (host_of part.view)) ≡ true
-    → has_place (candidates index part) place ≡ true
-hosts_found rules index part place rule key is within has over =
-    let drafted : list_any (is_pair key place) (with_rules empty_index rules 0).hosts ≡ true =
-    reached_at (λ index. list_any (is_pair key place) index.hosts) (λ index rule place had. any_left (is_pair key _) index.hosts _ had) rules place rule within
-    (λ index. any_right (is_pair key place) index.hosts (pairs_for (hosts_by (get_or rules place rule).condition.hosts) place) (all_pairs_have key place (hosts_by (get_or rules place rule).condition.hosts) has)) in
-    let kept : list_any (is_pair key place) index.hosts ≡ true = sym (list_any-IsPermutation (is_pair key place) _ _ is.hosts) ∙ drafted in
-    let test : ℕ → Bool = λ other. other == place in
-    let H : List ℕ = sharing_host index.hosts (host_of part.view) in
-    let W : List ℕ = sharing_text index.words (text_of part.view) in
-    let I : List ℕ = sharing_initiator index.initiators part.initiator in
-    any_left test ((index.all ++ H) ++ W) I (any_left test (index.all ++ H) W (any_right test index.all H (found_over key place index.hosts (domains_over (host_of part.view)) kept over)))
-
-words_found : (rules : List Rule) (index : Index) (part : Part) (place : ℕ) (rule : Rule) (key : List ℕ) → IsIndexOf rules index → place < length rules
-    → list_any (λ text. bytes_eq text key) (words_by (get_or rules place rule).condition.hosts (token_in (get_or rules place rule).condition)) ≡ true → list_any (λ word. bytes_eq (lower_case word) key) (words_of (text_of part.view)) ≡ true
-    → has_place (candidates index part) place ≡ true
-words_found rules index part place rule key is within has shown =
-    let texts : List (List ℕ) = words_by (get_or rules place rule).condition.hosts (token_in (get_or rules place rule).condition) in
-    let drafted : list_any (is_pair key place) (with_rules empty_index rules 0).words ≡ true =
-    reached_at (λ index. list_any (is_pair key place) index.words) (λ index rule place had. any_left (is_pair key _) index.words _ had) rules place rule within
-    (λ index. any_right (is_pair key place) index.words (pairs_for texts place) (all_pairs_have key place texts has)) in
-    let kept : list_any (is_pair key place) index.words ≡ true = sym (list_any-IsPermutation (is_pair key place) _ _ is.words) ∙ drafted in
-    let test : ℕ → Bool = λ other. other == place in
-    let H : List ℕ = sharing_host index.hosts (host_of part.view) in
-    let W : List ℕ = sharing_text index.words (text_of part.view) in
-    let I : List ℕ = sharing_initiator index.initiators part.initiator in
-    any_left test ((index.all ++ H) ++ W) I (any_right test (index.all ++ H) W (found_by_word key place index.words [] (words_of (text_of part.view)) kept refl shown))
-
-over_initiator : (key : List ℕ) (place : ℕ) (pairs : List Pair) (initiator : Option (List ℕ)) → list_any (is_pair key place) pairs ≡ true → list_any (λ over. bytes_eq over key) (domains_over_some initiator) ≡ true → has_place (sharing_initiator pairs initiator) place ≡ true
-over_initiator key place pairs None has over = absurd (false≢true over)
-over_initiator key place pairs (Some host) has over = found_over key place pairs (domains_over host) has over
-
-initiators_found : (rules : List Rule) (index : Index) (part : Part) (place : ℕ) (rule : Rule) (key : List ℕ) → IsIndexOf rules index → place < length rules
-    → list_any (λ text. bytes_eq text key) (initiators_by (get_or rules place rule).condition.hosts (token_in (get_or rules place rule).condition) (get_or rules place rule).condition.initiators) ≡ true → list_any (λ over. bytes_eq over key) (domains_over_some part.initiator) ≡ true
-    → has_place (candidates index part) place ≡ true
-initiators_found rules index part place rule key is within has over =
-    let texts : List (List ℕ) = initiators_by (get_or rules place rule).condition.hosts (token_in (get_or rules place rule).condition) (get_or rules place rule).condition.initiators in
-    let drafted : list_any (is_pair key place) (with_rules empty_index rules 0).initiators ≡ true =
-    reached_at (λ index. list_any (is_pair key place) index.initiators) (λ index rule place had. any_left (is_pair key _) index.initiators _ had) rules place rule within
-    (λ index. any_right (is_pair key place) index.initiators (pairs_for texts place) (all_pairs_have key place texts has)) in
-    let kept : list_any (is_pair key place) index.initiators ≡ true = sym (list_any-IsPermutation (is_pair key place) _ _ is.initiators) ∙ drafted in
-    let test : ℕ → Bool = λ other. other == place in
-    let H : List ℕ = sharing_host index.hosts (host_of part.view) in
-    let W : List ℕ = sharing_text index.words (text_of part.view) in
-    let I : List ℕ = sharing_initiator index.initiators part.initiator in
-    any_right test ((index.all ++ H) ++ W) I (over_initiator key place index.initiators part.initiator kept over)
-
-all_found : (rules : List Rule) (index : Index) (part : Part) (place : ℕ) (rule : Rule) → IsIndexOf rules index → place < length rules
-    → has_place (all_by (get_or rules place rule).condition.hosts (token_in (get_or rules place rule).condition) (get_or rules place rule).condition.initiators place) place ≡ true
-    → has_place (candidates index part) place ≡ true
-all_found rules index part place rule is within has =
-    let test : ℕ → Bool = λ other. other == place in
-    let drafted : has_place (with_rules empty_index rules 0).all place ≡ true =
-    reached_at (λ index. has_place index.all place) (λ index rule at had. any_left test index.all _ had) rules place rule within
-    (λ index. any_right test index.all (all_by (get_or rules place rule).condition.hosts (token_in (get_or rules place rule).condition) (get_or rules place rule).condition.initiators place) has) in
-    let kept : has_place index.all place ≡ true = ap (λ all. has_place all place) is.all ∙ drafted in
-    let H : List ℕ = sharing_host index.hosts (host_of part.view) in
-    let W : List ℕ = sharing_text index.words (text_of part.view) in
-    let I : List ℕ = sharing_initiator index.initiators part.initiator in
-    any_left test ((index.all ++ H) ++ W) I (any_left test (index.all ++ H) W (any_left test index.all H kept))
-
--- ---- a key that the part has
-
-abbrev hosts_in : Part → List Key
-hosts_in part = map Host (domains_over (host_of part.view))
-
-abbrev tokens_in : Part → List Key
-tokens_in part = map Token (map lower_case (words_of (text_of part.view)))
-
-abbrev initiators_in : Part → List Key
-initiators_in part = map Initiator (domains_over_some part.initiator)
-
-any_in_part : (test : Key → Bool) (part : Part) → list_any test (keys_of_part part) ≡ (((list_any test (hosts_in part) || list_any test (tokens_in part)) || list_any test (initiators_in part)) || list_any test (All ∷ []))
-any_in_part test part =
-    list_any-append test ((hosts_in part ++ tokens_in part) ++ initiators_in part) (All ∷ [])
-    ∙ ap (λ b. b || list_any test (All ∷ [])) (list_any-append test (hosts_in part ++ tokens_in part) (initiators_in part)
-    ∙ ap (λ b. b || list_any test (initiators_in part)) (list_any-append test (hosts_in part) (tokens_in part)))
-
-only_first : (h t i a : Bool) → t ≡ false → i ≡ false → a ≡ false → (((h || t) || i) || a) ≡ true → h ≡ true
-only_first true t i a no_t no_i no_a has = refl
-only_first false t i a no_t no_i no_a has = rw (no_t, no_i, no_a) at has
-
-only_second : (h t i a : Bool) → h ≡ false → i ≡ false → a ≡ false → (((h || t) || i) || a) ≡ true → t ≡ true
-only_second h true i a no_h no_i no_a has = refl
-only_second h false i a no_h no_i no_a has = rw (no_h, no_i, no_a) at has
-
-only_third : (h t i a : Bool) → h ≡ false → t ≡ false → a ≡ false → (((h || t) || i) || a) ≡ true → i ≡ true
-only_third h t true a no_h no_t no_a has = refl
-only_third h t false a no_h no_t no_a has = rw (no_h, no_t, no_a) at has
-
-host_over : (part : Part) (key : List ℕ) → has_key (keys_of_part part) (Host key) ≡ true → list_any (λ over. bytes_eq over key) (domains_over (host_of part.view)) ≡ true
-host_over part key has =
-    let test : Key → Bool = λ other. same_key other (Host key) in
-    sym (any_map Host test (domains_over (host_of part.view)))
-    ∙ only_first (list_any test (hosts_in part)) (list_any test (tokens_in part)) (list_any test (initiators_in part)) false
-    (none_map Token test (map lower_case (words_of (text_of part.view))) (λ x. refl)) (none_map Initiator test (domains_over_some part.initiator) (λ x. refl)) refl (sym (any_in_part test part) ∙ has)
-
-word_shown : (part : Part) (key : List ℕ) → has_key (keys_of_part part) (Token key) ≡ true → list_any (λ word. bytes_eq (lower_case word) key) (words_of (text_of part.view)) ≡ true
-word_shown part key has =
-    let test : Key → Bool = λ other. same_key other (Token key) in
-    sym (any_map Token test (map lower_case (words_of (text_of part.view))) ∙ any_map lower_case (λ word. test (Token word)) (words_of (text_of part.view)))
-    ∙ only_second (list_any test (hosts_in part)) (list_any test (tokens_in part)) (list_any test (initiators_in part)) false
-    (none_map Host test (domains_over (host_of part.view)) (λ x. refl)) (none_map Initiator test (domains_over_some part.initiator) (λ x. refl)) refl (sym (any_in_part test part) ∙ has)
-
-initiator_over : (part : Part) (key : List ℕ) → has_key (keys_of_part part) (Initiator key) ≡ true → list_any (λ over. bytes_eq over key) (domains_over_some part.initiator) ≡ true
-initiator_over part key has =
-    let test : Key → Bool = λ other. same_key other (Initiator key) in
-    sym (any_map Initiator test (domains_over_some part.initiator))
-    ∙ only_third (list_any test (hosts_in part)) (list_any test (tokens_in part)) (list_any test (initiators_in part)) false
-    (none_map Host test (domains_over (host_of part.view)) (λ x. refl)) (none_map Token test (map lower_case (words_of (text_of part.view))) (λ x. refl)) refl (sym (any_in_part test part) ∙ has)
-
--- ---- the whole
-
-bytes_same : (text : List ℕ) → bytes_eq text text ≡ true
-bytes_same text = (bytes_eq-Decides text text).1 refl
-
--- one of the texts whose key passes
-pub record Picked (key : List ℕ → Key) (test : Key → Bool) (texts : List (List ℕ)) : Type 0 where
-  pub text : List ℕ
-  pub there : list_any (λ other. bytes_eq other text) texts ≡ true
-  pub passes : test (key text) ≡ true
-
-picked : (key : List ℕ → Key) (test : Key → Bool) (texts : List (List ℕ)) → list_any test (map key texts) ≡ true → Picked key test texts
-picked key test [] has = absurd (false≢true has)
-picked key test (text ∷ texts) has =
-    elim (or_cases (test (key text)) (list_any test (map key texts)) has) [
-      | inl here ↦ record { text = text; there = or_left (bytes_eq text text) (list_any (λ other. bytes_eq other text) texts) (bytes_same text); passes = here }
-      | inr later ↦
-          let one = picked key test texts later in
-          record { text = one.text; there = or_right (bytes_eq text one.text) (list_any (λ other. bytes_eq other one.text) texts) one.there; passes = one.passes }
-    ]
-
-one_key : (part : Part) (key : Key) → list_any (has_key (keys_of_part part)) (key ∷ []) ≡ true → has_key (keys_of_part part) key ≡ true
-one_key part key has =
-    elim (or_cases (has_key (keys_of_part part) key) false has) [
-      | inl here ↦ here
-      | inr none ↦ absurd (false≢true none)
-    ]
-
-module _ (rules : List Rule) (index : Index) (part : Part) (place : ℕ) (rule : Rule) (is : IsIndexOf rules index) (within : place < length rules) where
-  abbrev own : Condition
-  own = (get_or rules place rule).condition
-
-  by_initiators : (initiators : Option (List (List ℕ))) → own.initiators ≡ initiators → own.hosts ≡ None → token_in own ≡ None → list_any (has_key (keys_of_part part)) (keys_by_initiators initiators) ≡ true → has_place (candidates index part) place ≡ true
-  by_initiators None is_none no_hosts no_token has = all_found rules index part place rule is within (rw (no_hosts, no_token, is_none) (or_left (place == place) false (same_place place)))
-  by_initiators (Some domains) is_some no_hosts no_token has =
-      let one = picked Initiator (has_key (keys_of_part part)) domains has in
-      initiators_found rules index part place rule one.text is within (rw (no_hosts, no_token, is_some) one.there) (initiator_over part one.text one.passes)
-
-  by_token : (token : Option (List ℕ)) → token_in own ≡ token → own.hosts ≡ None → list_any (has_key (keys_of_part part)) (keys_by_token token own) ≡ true → has_place (candidates index part) place ≡ true
-  by_token None is_none no_hosts has = by_initiators own.initiators refl no_hosts is_none has
-  by_token (Some token) is_some no_hosts has =
-      words_found rules index part place rule token is within (rw (no_hosts, is_some) (or_left (bytes_eq token token) false (bytes_same token))) (word_shown part token (one_key part (Token token) has))
-
-  by_hosts : (hosts : Option (List (List ℕ))) → own.hosts ≡ hosts → list_any (has_key (keys_of_part part)) (keys_by_hosts hosts own) ≡ true → has_place (candidates index part) place ≡ true
-  by_hosts None is_none has = by_token (token_in own) refl is_none has
-  by_hosts (Some domains) is_some has =
-      let one = picked Host (has_key (keys_of_part part)) domains has in
-      hosts_found rules index part place rule one.text is within (rw is_some one.there) (host_over part one.text one.passes)
+weighs_some : (shown : Option ℕ) (rule : Rule) (part : Part) (place : ℕ) → share_a_key rule part ≡ true → shows (needs_of rule.condition) shown ≡ true → 0 < weight_at shown part place (place, rule)
+weighs_some shown rule part place has passes =
+    let one : cond (shows (needs_of rule.condition) shown) (at_place place place) 0 ≡ 1 =
+    ap (λ is. cond is (at_place place place) 0) passes ∙ ap (λ same. cond same 1 0) (same_place place) in
+    let ones : weight_at shown part place (place, rule) ≡ length (shared rule part) = ap (λ n. sum_by (λ (key : Key). n) (shared rule part)) one ∙ sum_of_ones (shared rule part) in
+    let some : 0 < length (shared rule part) = some_kept (has_key (keys_of_part part)) (once (keys_of_rule rule)) (once_has (has_key (keys_of_part part)) [] (keys_of_rule rule) refl has) in
+    omega arith
 
 pub sharers_are_found : SharersAreFound
-sharers_are_found rules index part place rule is within has = by_hosts rules index part place rule is within (get_or rules place rule).condition.hosts refl has
+sharers_are_found shown rules index part place rule is there has passes =
+    let some = weighs_some shown rule part place has passes in (
+      given place (near index.whole shown part)
+          (let all = near_are_counted (at_place place) shown (placed rules) index.whole part is.whole in
+          let least = at_least (weight_at shown part place) 0 place rules place rule (omega arith) there in
+          omega arith),
+      λ framing.
+          given place (near index.framing shown part)
+          (let all = near_are_counted (at_place place) shown (for_frames (placed rules)) index.framing part is.framing in
+          let least = at_least_framed (weight_at shown part place) 0 place rules place rule (omega arith) there framing in
+          omega arith),
+    )
 
 pub holders_are_found : HoldersAreFound
-holders_are_found suffixes rules index part place rule is within is_view has =
-    sharers_are_found rules index part place rule is within (rules_share_a_key suffixes (get_or rules place rule) part is_view has)
+holders_are_found suffixes rules index part place rule is there is_view has =
+    sharers_are_found None rules index part place rule is there (rules_share_a_key suffixes rule part is_view has) refl
+
+pub holders_are_near : HoldersAreNear
+holders_are_near suffixes rules index part place rule is there is_view has =
+    sharers_are_found (Some (shown_by part)) rules index part place rule is there (rules_share_a_key suffixes rule part is_view has) (needs_are_shown suffixes rule part is_view has)

@@ -1,4 +1,10 @@
 pub mod Tokens
 pub mod Once
+pub mod Lists
+pub mod Bits
+pub mod Shown
+pub mod Weighed
+pub mod Counted
 pub mod Found
+pub mod KeysOnce
 pub mod Tested

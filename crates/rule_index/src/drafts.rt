@@ -2,6 +2,7 @@ ghost use Rattle.std.specs.Prelude.{◌≡◌, ◌++◌, IfOk, OnOk};
 ghost use Rattle.rule_index.specs.Index.{empty_index, with_rule, pairs_for, IsReordered};
 
 use crate::index::Index;
+use crate::needs::needs_of;
 use crate::token::token_in;
 use dnr_base::{NoMemory, Text};
 use dnr_rules::Rule;
@@ -13,7 +14,7 @@ use std::marker::Model;
 /// Rules that become an index. A clause sees the index, its keys in the order of the rules.
 #[derive(Debug, Drop)]
 pub struct IndexDraft {
-    all: Vec<u32>,
+    others: Draft,
     hosts: Draft,
     words: Draft,
     initiators: Draft,
@@ -24,18 +25,24 @@ impl Model for IndexDraft {
 
     ghost Value = { Index };
 
-    ghost view = { λ d. record { all = d.all.items; hosts = d.hosts; words = d.words; initiators = d.initiators } };
+    ghost view = { λ d. record { others = d.others; hosts = d.hosts; words = d.words; initiators = d.initiators } };
 }
 
 // Puts the place under each of the texts, once.
-fn add_each(alloc: Global, draft: &mut Draft, texts: &[Text], place: u32) -> Result<(), NoMemory>
-    ensures { OnOk result (draft.new ≡ draft.old ++ pairs_for texts.now place) }
+fn add_each(
+    alloc: Global,
+    draft: &mut Draft,
+    texts: &[Text],
+    place: u32,
+    needed: u64,
+) -> Result<(), NoMemory>
+    ensures { OnOk result (draft.new ≡ draft.old ++ pairs_for needed texts.now place) }
 {
     let mut seen = BTreeSet::new(alloc);
     let mut left = texts;
     while let Some((text, rest)) = left.split_first() {
         if !seen.contains(text.as_str()) {
-            draft.add(text.as_str().as_bytes(), place, 0)?;
+            draft.add(text.as_str().as_bytes(), place, needed)?;
             seen.insert(String::from_str(alloc, text.as_str())?)?;
         }
         left = rest;
@@ -49,7 +56,7 @@ impl IndexDraft {
         ensures { result ≡ empty_index }
     {
         IndexDraft {
-            all: Vec::new(alloc),
+            others: Draft::new(alloc),
             hosts: Draft::new(alloc),
             words: Draft::new(alloc),
             initiators: Draft::new(alloc),
@@ -63,17 +70,24 @@ impl IndexDraft {
         ensures { OnOk result (self.new ≡ with_rule self.old rule.now place) }
     {
         let condition = rule.condition();
+        let needed = needs_of(condition);
         if let Some(domains) = condition.hosts() {
-            return add_each(alloc, &mut self.hosts, domains.entries(), place);
+            return add_each(alloc, &mut self.hosts, domains.entries(), place, needed);
         }
         if let Some(token) = token_in(condition) {
             let token = token.to_ascii_lowercase(alloc)?;
-            self.words.add(&token, place, 0)?;
+            self.words.add(&token, place, needed)?;
             return Ok(());
         }
         match condition.initiators() {
-            Some(domains) => add_each(alloc, &mut self.initiators, domains.entries(), place),
-            None => Ok(self.all.push(place)?),
+            Some(domains) => add_each(
+                alloc,
+                &mut self.initiators,
+                domains.entries(),
+                place,
+                needed,
+            ),
+            None => Ok(self.others.add(&[], place, needed)?),
         }
     }
 
@@ -83,9 +97,10 @@ impl IndexDraft {
     pub fn finish(self, alloc: Global) -> Result<Index, NoMemory>
         ensures { IfOk result (IsReordered self) }
     {
+        let others = self.others.finish(alloc)?;
         let hosts = self.hosts.finish(alloc)?;
         let words = self.words.finish(alloc)?;
         let initiators = self.initiators.finish(alloc)?;
-        Ok(Index::of_tables(self.all, hosts, words, initiators))
+        Ok(Index::of_tables(others, hosts, words, initiators))
     }
 }

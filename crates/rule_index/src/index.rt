@@ -1,5 +1,6 @@
-ghost use Rattle.std.specs.Prelude.{◌≡◌, IfOk};
+ghost use Rattle.std.specs.Prelude.{◌≡◌, Some, IfOk};
 ghost use Rattle.rule_index.specs.Index as spec;
+ghost use Rattle.rule_index.specs.Lists.{placed};
 
 use crate::drafts::IndexDraft;
 use crate::walk::Walk;
@@ -12,7 +13,7 @@ use std::marker::Model;
 /// Which rules share a key with a part of a request. A clause sees the keys of each kind with their places.
 #[derive(Debug, Drop)]
 pub struct Index {
-    all: Vec<u32>,
+    others: Table,
     hosts: Table,
     words: Table,
     initiators: Table,
@@ -23,15 +24,15 @@ impl Model for Index {
 
     ghost Value = { Index };
 
-    ghost view = { λ i. record { all = i.all.items; hosts = i.hosts; words = i.words; initiators = i.initiators } };
+    ghost view = { λ i. record { others = i.others; hosts = i.hosts; words = i.words; initiators = i.initiators } };
 }
 
 impl Index {
-    pub(crate) fn of_tables(all: Vec<u32>, hosts: Table, words: Table, initiators: Table) -> Index
-        ensures { result ≡ record { all = all.items; hosts = hosts; words = words; initiators = initiators } }
+    pub(crate) fn of_tables(others: Table, hosts: Table, words: Table, initiators: Table) -> Index
+        ensures { result ≡ record { others = others; hosts = hosts; words = words; initiators = initiators } }
     {
         Index {
-            all,
+            others,
             hosts,
             words,
             initiators,
@@ -42,7 +43,7 @@ impl Index {
     ///
     /// `NoMemory`: no memory is left for it, or there are more rules than a `u32` counts.
     pub fn build(alloc: Global, rules: &[Rule]) -> Result<Index, NoMemory>
-        ensures { IfOk result (spec.IsIndexOf rules.now) }
+        ensures { IfOk result (spec.IsIndexOf (placed rules.now)) }
     {
         let mut draft = IndexDraft::new(alloc);
         let mut place = 0u32;
@@ -60,12 +61,27 @@ impl Index {
     pub fn candidates<'a>(&'a self, part: &'a Part<'a>) -> Walk<'a>
         ensures { result ≡ spec.candidates self.now part.now }
     {
+        self.walk(part, None)
+    }
+
+    /// Those of them that need no more than is shown: with what `shown_by` tells of the part, none that holds is left
+    /// out.
+    pub fn near<'a>(&'a self, part: &'a Part<'a>, shown: u64) -> Walk<'a>
+        ensures { result ≡ spec.near self.now (Some shown) part.now }
+    {
+        self.walk(part, Some(shown))
+    }
+
+    fn walk<'a>(&'a self, part: &'a Part<'a>, shown: Option<u64>) -> Walk<'a>
+        ensures { result ≡ spec.near self.now shown part.now }
+    {
         Walk::new(
-            self.all.as_slice(),
+            &self.others,
             &self.hosts,
             &self.words,
             &self.initiators,
             part,
+            shown,
         )
     }
 }

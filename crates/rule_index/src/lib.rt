@@ -6,7 +6,11 @@
 
 mod drafts;
 mod index;
+mod keys;
 mod laws;
+mod list_draft;
+mod list_index;
+mod needs;
 mod pieces;
 #[cfg(test)]
 mod tests;
@@ -16,5 +20,13 @@ mod walk;
 pub use drafts::IndexDraft;
 pub use index::Index;
 pub use index_spec::Key;
-pub use laws::{rules_that_hold_are_found, rules_that_share_are_found};
+pub use keys::{key_of, keys_of};
+pub use laws::{
+    candidates_are_counted, few_rules_are_found, few_rules_are_near, near_are_counted,
+    needs_are_shown, rules_that_hold_are_found, rules_that_hold_are_near,
+    rules_that_share_are_found,
+};
+pub use list_draft::ListDraft;
+pub use list_index::{LendsRule, ListIndex};
+pub use needs::shown_by;
 pub use walk::Walk;

@@ -8,14 +8,14 @@ ghost use Rattle.rule_index.specs.Tokens.{tokens_in, tokens_here};
 use crate::pieces::pieces_of;
 use dnr_rules::Condition;
 
-fn is_firm(c: u8) -> bool
+pub(crate) fn is_firm(c: u8) -> bool
     ensures { result ≡ spec.is_firm c }
 {
     !c.is_ascii_alphanumeric() && c != b'*'
 }
 
 // The longest run of letters and digits at the beginning.
-fn word_at(text: &[u8]) -> &[u8]
+pub(crate) fn word_at(text: &[u8]) -> &[u8]
     ensures { result.now ≡ spec.word_at text.now }
 {
     let mut end = 0;
@@ -26,7 +26,7 @@ fn word_at(text: &[u8]) -> &[u8]
 }
 
 // Whether a firm byte or the end stands behind that run.
-fn ends_firmly(ends: bool, text: &[u8]) -> bool
+pub(crate) fn ends_firmly(ends: bool, text: &[u8]) -> bool
     ensures { result ≡ spec.ends_firmly ends text.now }
 {
     let mut left = text;

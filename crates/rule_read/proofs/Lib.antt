@@ -6,3 +6,4 @@ pub mod Texts
 pub mod Chains
 pub mod ReadLists
 pub mod Stages
+pub mod Calm

@@ -2,3 +2,4 @@ pub mod Seen
 pub mod Reading
 pub mod Tests
 pub mod Asking
+pub mod Calm

@@ -14,6 +14,7 @@ ghost use Rattle.json_spec.specs.MayRefuse.{MayRefuse, IsRefused, RefusesTest};
 ghost use Rattle.regex_host.specs.Asked.{AsksFor};
 ghost use Rattle.rule_fields.specs.Seen.{fields_seen};
 ghost use Rattle.rule_read.specs.Asking.{asked_by, AsksOrNot};
+ghost use Rattle.rule_read.specs.Calm.{IsCalmBy};
 ghost use Rattle.rule_read.specs.Seen.{lists_seen};
 
 use crate::response_tests::{has_no_test, has_no_value};
@@ -57,6 +58,7 @@ pub(crate) fn read_filters<H: RegexHost>(
         (AsksFor H.asks host.old (asked_by (fields_seen fields.now)) host.new) }
     ensures tried { AsksOrNot H.asks host.old (asked_by (fields_seen fields.now)) host.new }
     ensures calm { OnOk result (H.faults host.new ≡ H.faults host.old) }
+    ensures quiet { IfErr result (IsCalmBy (H.faults host.old) (H.faults host.new)) }
     ensures later { H.faults host.old ≤ H.faults host.new }
 {
     match (fields.url_filter, fields.regex_filter) {
@@ -114,6 +116,7 @@ fn check_pattern<H: RegexHost>(text: &str, fold: bool, host: &mut H) -> Result<u
         (Rose (H.faults host.old) (H.faults host.new))) }
     ensures asked { H.asks host.old (record { pattern = text.now; fold = fold }) host.new }
     ensures calm { OnOk result (H.faults host.new ≡ H.faults host.old) }
+    ensures quiet { IfErr result (IsCalmBy (H.faults host.old) (H.faults host.new)) }
     ensures later { H.faults host.old ≤ H.faults host.new }
 {
     match host.check(text, fold) {

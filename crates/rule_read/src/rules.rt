@@ -18,6 +18,7 @@ ghost use Rattle.rule_fields.specs.Seen.{fields_seen};
 ghost use Rattle.rule_read.specs.Seen.{lists_seen};
 ghost use Rattle.rule_read.specs.Asking.{asked_by, asked_of, asked_of_all, AsksOrNot, AsksNext};
 ghost use Rattle.rule_read.specs.Reading.{Taken, TakenStay, MayStop, ReadsNext, StopsAt};
+ghost use Rattle.rule_read.specs.Calm.{IsCalmBy};
 
 use crate::conditions::{
     DomainLists, Filters, kinds_in, read_domain_lists, read_filters, test_lists, test_tabs,
@@ -60,6 +61,7 @@ pub fn read_rule<H: RegexHost>(
         AsksFor H.asks host.old (asked_of rule.condition) host.new) }
     ensures tried { AsksOrNot H.asks host.old (asked_by (fields_at (view value.now))) host.new }
     ensures calm { OnOk result (H.faults host.new ≡ H.faults host.old) }
+    ensures quiet { IfErr result (IsCalmBy (H.faults host.old) (H.faults host.new)) }
     ensures later { H.faults host.old ≤ H.faults host.new }
 {
     let taken = BTreeSet::new(alloc);
@@ -84,6 +86,7 @@ fn read_among<H: RegexHost>(
         AsksFor H.asks host.old (asked_of rule.condition) host.new) }
     ensures tried { AsksOrNot H.asks host.old (asked_by (fields_at (view value.now))) host.new }
     ensures calm { OnOk result (H.faults host.new ≡ H.faults host.old) }
+    ensures quiet { IfErr result (IsCalmBy (H.faults host.old) (H.faults host.new)) }
     ensures later { H.faults host.old ≤ H.faults host.new }
 {
     let numbers = read_numbers(value, taken)?;
@@ -188,6 +191,8 @@ pub fn read_rules<H: RegexHost>(
     ensures asked { IfOk result (λ rules.
         AsksFor H.asks host.old (asked_of_all rules.items) host.new) }
     ensures calm { OnOk result (H.faults host.new ≡ H.faults host.old) }
+    ensures quiet { IfErr result (λ refusal.
+        IsCalmBy (H.faults host.old) (H.faults host.new) refusal.cause) }
     ensures later { H.faults host.old ≤ H.faults host.new }
 {
     match value.as_array() {
@@ -214,6 +219,8 @@ fn read_list<H: RegexHost>(
     ensures asked { IfOk result (λ rules.
         AsksFor H.asks host.old (asked_of_all rules.items) host.new) }
     ensures calm { OnOk result (H.faults host.new ≡ H.faults host.old) }
+    ensures quiet { IfErr result (λ refusal.
+        IsCalmBy (H.faults host.old) (H.faults host.new) refusal.cause) }
     ensures later { H.faults host.old ≤ H.faults host.new }
 {
     let mut taken = BTreeSet::new(alloc);
@@ -250,6 +257,8 @@ pub fn read_next<H: RegexHost>(
     ensures asked { OnOk result
         (AsksNext H.asks host.old host.new rules.old.items rules.new.items) }
     ensures calm { OnOk result (H.faults host.new ≡ H.faults host.old) }
+    ensures quiet { IfErr result (λ refusal.
+        IsCalmBy (H.faults host.old) (H.faults host.new) refusal.cause) }
     ensures later { H.faults host.old ≤ H.faults host.new }
 {
     let rule = match read_among(alloc, value, kind, taken, host) {

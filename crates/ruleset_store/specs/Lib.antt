@@ -1,2 +1,5 @@
-pub mod Installing
-pub mod Update
+pub mod Counts
+pub mod Ids
+pub mod Installed
+pub mod Seen
+pub mod Tests

@@ -1,20 +1,12 @@
-ghost use Rattle.std.specs.Prelude.{◌≡◌, ◌+◌, [], ◌∷◌, length, count_by, IfOk};
+ghost use Rattle.std.specs.Prelude.{◌≡◌, [], ◌∷◌, length, IfOk};
 ghost use Rattle.update_spec.specs.Judge as spec;
 
-use crate::{Installed, InstalledSet};
+use crate::count::sum;
+use crate::{InstalledExtension, InstalledSet};
 use dnr_base::NoMemory;
-use dnr_rules::Rule;
 
 // The enabled rules of an extension that take nothing from the pool which all share.
 const OWN_SHARE: usize = 30_000;
-
-// The sum. That it fits is not known of the lengths of several lists, though no memory holds so many rules: past the
-// type's end memory is said to have run out, rather than a count that wrapped to be within a limit.
-pub(crate) fn sum(a: usize, b: usize) -> Result<usize, NoMemory>
-    ensures { IfOk result (λ sum. sum ≡ a + b) }
-{
-    a.checked_add(b).ok_or(NoMemory)
-}
 
 // How many of the rulesets are enabled.
 pub(crate) fn count_enabled(sets: &[InstalledSet]) -> usize
@@ -57,14 +49,14 @@ fn count_enabled_rules(sets: &[InstalledSet]) -> Result<usize, NoMemory>
 }
 
 // What the extension takes from the pool that all share.
-pub(crate) fn drawn_by(extension: &Installed) -> Result<usize, NoMemory>
+fn drawn_by(extension: &InstalledExtension) -> Result<usize, NoMemory>
     ensures { IfOk result (λ drawn. drawn ≡ spec.drawn_by extension.now) }
 {
     Ok(count_enabled_rules(extension.sets())?.saturating_sub(OWN_SHARE))
 }
 
 // What the extensions take from the pool that all share.
-pub(crate) fn drawn(extensions: &[Installed]) -> Result<usize, NoMemory>
+pub(crate) fn drawn(extensions: &[InstalledExtension]) -> Result<usize, NoMemory>
     ensures { IfOk result (λ drawn. drawn ≡ spec.drawn extensions.now) }
 {
     let mut drawn = 0;
@@ -74,19 +66,12 @@ pub(crate) fn drawn(extensions: &[Installed]) -> Result<usize, NoMemory>
     Ok(drawn)
 }
 
-// How many of the rules have a `regexFilter`.
-fn patterns_among(rules: &[Rule]) -> usize
-    ensures { result ≡ count_by spec.uses_regex rules.now }
-{
-    rules.iter().filter(|rule| rule.uses_regex()).count()
-}
-
 // How many rules of the ruleset have a `regexFilter`, if it is enabled.
 fn enabled_patterns(set: &InstalledSet) -> usize
     ensures { result ≡ spec.count_patterns (spec.enabled_sets (set.now ∷ [])) }
 {
     if set.is_enabled() {
-        patterns_among(set.rules())
+        set.rules().patterns()
     } else {
         0
     }
@@ -99,6 +84,17 @@ pub(crate) fn count_enabled_patterns(sets: &[InstalledSet]) -> Result<usize, NoM
     let mut count = 0;
     for set in sets {
         count = sum(count, enabled_patterns(set))?;
+    }
+    Ok(count)
+}
+
+// How many rules of the rulesets are switched off.
+pub(crate) fn count_disabled(sets: &[InstalledSet]) -> Result<usize, NoMemory>
+    ensures { IfOk result (λ count. count ≡ spec.count_disabled sets.now) }
+{
+    let mut count = 0;
+    for set in sets {
+        count = sum(count, set.disabled().ids().len())?;
     }
     Ok(count)
 }

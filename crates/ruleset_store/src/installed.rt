@@ -1,51 +1,147 @@
-ghost use Rattle.std.specs.Prelude.{◌≡◌, IfOk, map};
+ghost use Rattle.std.specs.Prelude.{◌≡◌, map, unwrap_or, IfOk};
 ghost use Rattle.std.specs.Option.{option_copied};
+ghost use Rattle.std.specs.Arc.{arc_value};
+ghost use Rattle.ruleset_store.specs.Installed.{put_first};
 ghost use Rattle.update_spec.specs.Update as spec;
 
-use crate::copies::copies;
-use crate::{Extension, InstalledSet, RuleSet};
-use dnr_base::{Copied, Items, NoMemory, Text};
-use dnr_rules::Rule;
+use crate::installed_set::InstalledSet;
+use crate::{Extension, RuleList};
+use dnr_base::{Items, NoMemory, Text};
 use match_patterns::MatchPattern;
 use std::alloc::Global;
 use std::marker::Model;
+use std::sync::Arc;
 
-/// An extension that is installed: its static rulesets, and the rules that were added since. A clause sees the
+/// An installed extension. Its parts are shared with the states before and after an update. A clause sees the
 /// extension of `rule_spec`.
 #[derive(Debug, Drop)]
-pub struct Installed {
-    name: Text,
-    sets: Vec<InstalledSet>,
-    access: Option<Items<MatchPattern>>,
-    dynamic: Vec<Rule>,
-    session: Vec<Rule>,
+pub struct InstalledExtension {
+    brought: Arc<Extension>,
+    sets: SetList,
+    dynamic: Arc<RuleList>,
+    session: Arc<RuleList>,
 }
 
-impl Model for Installed {
+impl Model for InstalledExtension {
+    ghost use Rattle.std.specs.Arc.{arc_value};
     ghost use Rattle.rule_spec.specs.State as spec;
+    ghost use Rattle.ruleset_store.specs.Installed.{extension_with};
 
     ghost Value = { spec.Extension };
 
-    ghost view = { λ e. record {
-      name = e.name;
-      sets = e.sets.items;
-      access = e.access;
-      dynamic = e.dynamic.items;
-      session = e.session.items;
-    } };
+    ghost view = { λ e. extension_with (arc_value e.brought) e.sets (arc_value e.dynamic) (arc_value e.session) };
 }
 
-impl Installed {
-    // The extension as it is installed.
-    pub(crate) fn build(alloc: Global, extension: Extension) -> Result<Installed, NoMemory>
-        ensures { IfOk result (λ installed. installed ≡ spec.installed extension) }
+// The static rulesets of an extension. A clause sees their list.
+#[derive(Debug, Drop)]
+struct SetList {
+    sets: Arc<Vec<InstalledSet>>,
+}
+
+impl Model for SetList {
+    ghost use Rattle.std.specs.Prelude.{List};
+    ghost use Rattle.std.specs.Arc.{arc_value};
+    ghost use Rattle.rule_spec.specs.State as spec;
+
+    ghost Value = { List spec.RuleSet };
+
+    ghost view = { λ s. (arc_value s.sets).items };
+}
+
+impl SetList {
+    fn new(alloc: Global, sets: Vec<InstalledSet>) -> Result<SetList, NoMemory>
+        ensures { IfOk result (λ list. list ≡ sets.items) }
     {
-        Ok(Installed {
-            name: extension.name,
-            sets: installed_sets(alloc, extension.sets.into_vec())?,
-            access: extension.access,
-            dynamic: Vec::new(alloc),
-            session: Vec::new(alloc),
+        Ok(SetList {
+            sets: Arc::new(alloc, sets)?,
+        })
+    }
+
+    fn again(&self) -> Result<SetList, NoMemory>
+        ensures { IfOk result (λ again. again ≡ self.now) }
+    {
+        Ok(SetList {
+            sets: Arc::try_clone(&self.sets)?,
+        })
+    }
+
+    fn as_slice(&self) -> &[InstalledSet]
+        ensures { result.now ≡ self.now }
+    {
+        self.sets.as_slice()
+    }
+}
+
+// The rulesets of an extension that is installed.
+fn installed_sets(alloc: Global, extension: &Extension) -> Result<Vec<InstalledSet>, NoMemory>
+    ensures { IfOk result (λ sets. sets.items ≡ (spec.installed extension.now).sets) }
+{
+    let mut sets = Vec::with_capacity(alloc, extension.sets().len())?;
+    for set in extension.sets() {
+        sets.push(InstalledSet::of(alloc, set)?)?;
+    }
+    Ok(sets)
+}
+
+// The rulesets once these are disabled and these enabled.
+fn switched_sets(
+    alloc: Global,
+    sets: &[InstalledSet],
+    disable: &[Text],
+    enable: &[Text],
+) -> Result<Vec<InstalledSet>, NoMemory>
+    ensures { IfOk result (λ next. next.items ≡ map (spec.switched disable.now enable.now) sets.now) }
+{
+    let mut next = Vec::with_capacity(alloc, sets.len())?;
+    for set in sets {
+        next.push(set.switched(disable, enable)?)?;
+    }
+    Ok(next)
+}
+
+// The rulesets, with this one in place of the first of its id.
+#[tactic(auto, unfolding(crate::specs::Installed::put_first))]
+fn with_set(
+    alloc: Global,
+    sets: &[InstalledSet],
+    id: &str,
+    set: InstalledSet,
+) -> Result<Vec<InstalledSet>, NoMemory>
+    ensures { IfOk result (λ next. next.items ≡ put_first (spec.has_set_id id.now) set sets.now) }
+{
+    let mut next = Vec::with_capacity(alloc, sets.len())?;
+    let mut left = Some(set);
+    for other in sets {
+        let kept = if other.id() == id { left.take() } else { None };
+        next.push(set_or_again(kept, other)?)?;
+    }
+    Ok(next)
+}
+
+// The ruleset that is given, or the other once more.
+fn set_or_again(set: Option<InstalledSet>, other: &InstalledSet) -> Result<InstalledSet, NoMemory>
+    ensures { IfOk result (λ one. one ≡ unwrap_or set other.now) }
+{
+    match set {
+        Some(set) => Ok(set),
+        None => other.again(),
+    }
+}
+
+impl InstalledExtension {
+    // The extension as it is once it is installed.
+    pub(crate) fn of(
+        alloc: Global,
+        extension: &Arc<Extension>,
+    ) -> Result<InstalledExtension, NoMemory>
+        ensures { IfOk result (λ installed. installed ≡ spec.installed (arc_value extension.now)) }
+    {
+        let sets = installed_sets(alloc, extension)?;
+        Ok(InstalledExtension {
+            brought: Arc::try_clone(extension)?,
+            sets: SetList::new(alloc, sets)?,
+            dynamic: Arc::new(alloc, RuleList::empty(alloc))?,
+            session: Arc::new(alloc, RuleList::empty(alloc))?,
         })
     }
 
@@ -53,7 +149,7 @@ impl Installed {
     pub fn name(&self) -> &str
         ensures { result.now ≡ self.now.name }
     {
-        self.name.as_str()
+        self.brought.name()
     }
 
     /// Its static rulesets, in the order of its manifest.
@@ -67,51 +163,98 @@ impl Installed {
     pub fn access(&self) -> Option<&Items<MatchPattern>>
         ensures { option_copied result ≡ self.now.access }
     {
-        self.access.as_ref()
+        self.brought.access()
     }
 
     /// Its dynamic rules.
-    pub fn dynamic(&self) -> &[Rule]
+    pub fn dynamic(&self) -> &RuleList
         ensures { result.now ≡ self.now.dynamic }
     {
-        self.dynamic.as_slice()
+        &self.dynamic
     }
 
     /// Its session rules.
-    pub fn session(&self) -> &[Rule]
+    pub fn session(&self) -> &RuleList
         ensures { result.now ≡ self.now.session }
     {
-        self.session.as_slice()
+        &self.session
     }
 
-    /// An equal extension.
-    ///
-    /// `NoMemory`: no memory is left for its parts.
-    pub fn copy(&self, alloc: Global) -> Result<Installed, NoMemory>
-        ensures { IfOk result (λ copy. copy ≡ self.now) }
+    // The same extension once more. It takes no memory.
+    pub(crate) fn again(&self) -> Result<InstalledExtension, NoMemory>
+        ensures { IfOk result (λ again. again ≡ self.now) }
     {
-        Ok(Installed {
-            name: self.name.copy(alloc)?,
-            sets: copies(alloc, self.sets())?,
-            access: Copied::copied(&self.access, alloc)?,
-            dynamic: copies(alloc, self.dynamic())?,
-            session: copies(alloc, self.session())?,
+        Ok(InstalledExtension {
+            brought: Arc::try_clone(&self.brought)?,
+            sets: self.sets.again()?,
+            dynamic: Arc::try_clone(&self.dynamic)?,
+            session: Arc::try_clone(&self.session)?,
         })
     }
-}
 
-impl Copied for Installed {
-    fn copied(&self, alloc: Global) -> Result<Installed, NoMemory> {
-        self.copy(alloc)
+    // The extension with these dynamic rules.
+    pub(crate) fn with_dynamic(
+        &self,
+        alloc: Global,
+        rules: RuleList,
+    ) -> Result<InstalledExtension, NoMemory>
+        ensures { IfOk result (λ next. next ≡ record self.now { dynamic = rules }) }
+    {
+        let mut next = self.again()?;
+        next.dynamic = Arc::new(alloc, rules)?;
+        Ok(next)
     }
-}
 
-fn installed_sets(alloc: Global, sets: Vec<RuleSet>) -> Result<Vec<InstalledSet>, NoMemory>
-    ensures { IfOk result (λ installed. installed.items ≡ map spec.installed_set sets.items) }
-{
-    let mut installed = Vec::with_capacity(alloc, sets.len())?;
-    for set in sets {
-        installed.push(InstalledSet::build(alloc, set))?;
+    // The extension with these session rules.
+    pub(crate) fn with_session(
+        &self,
+        alloc: Global,
+        rules: RuleList,
+    ) -> Result<InstalledExtension, NoMemory>
+        ensures { IfOk result (λ next. next ≡ record self.now { session = rules }) }
+    {
+        let mut next = self.again()?;
+        next.session = Arc::new(alloc, rules)?;
+        Ok(next)
     }
-    Ok(installed)
+
+    fn with_sets(
+        &self,
+        alloc: Global,
+        sets: Vec<InstalledSet>,
+    ) -> Result<InstalledExtension, NoMemory>
+        ensures { IfOk result (λ next. next ≡ record self.now { sets = sets.items }) }
+    {
+        let mut next = self.again()?;
+        next.sets = SetList::new(alloc, sets)?;
+        Ok(next)
+    }
+
+    // The extension once these rulesets are disabled and these enabled.
+    pub(crate) fn switched(
+        &self,
+        alloc: Global,
+        disable: &[Text],
+        enable: &[Text],
+    ) -> Result<InstalledExtension, NoMemory>
+        ensures { IfOk result (λ next. next
+            ≡ record self.now { sets = map (spec.switched disable.now enable.now) self.now.sets }) }
+    {
+        let sets = switched_sets(alloc, self.sets(), disable, enable)?;
+        self.with_sets(alloc, sets)
+    }
+
+    // The extension with this ruleset in place of the first of its id.
+    pub(crate) fn with_set(
+        &self,
+        alloc: Global,
+        id: &str,
+        set: InstalledSet,
+    ) -> Result<InstalledExtension, NoMemory>
+        ensures { IfOk result (λ next. next
+            ≡ record self.now { sets = put_first (spec.has_set_id id.now) set self.now.sets }) }
+    {
+        let sets = with_set(alloc, self.sets(), id, set)?;
+        self.with_sets(alloc, sets)
+    }
 }

@@ -1,26 +1,38 @@
-//! What is installed: rulesets, the extensions that have them, and the store of extensions, which judges updates.
+//! What is installed: extensions with their rules, and the store of them, which judges updates and applies them.
 //!
-//! What they are stands in `rule_spec`, `specs/State.antt`; when an extension is refused, and the state after its
-//! installation, in `update_spec`.
+//! What they are stands in `rule_spec`, `specs/State.antt`; what each update changes and when it is refused in
+//! `update_spec`. Rules stand behind shared handles, so that a store after an update copies none.
 #![tactic(auto)]
 
-mod copies;
+mod changes;
+mod count;
 mod counts;
+mod disabled;
 mod extension;
+mod ids;
 mod installed;
 mod installed_set;
-mod judging;
+mod limits;
+mod names;
+mod replacing;
+mod rule_list;
 mod rule_set;
+mod shared_rule;
 mod store;
+#[cfg(test)]
+mod tests;
 mod update;
 
+pub use disabled::DisabledIds;
 pub use dnr_base::{Items, NoMemory, Text};
 pub use dnr_rules::Rule;
 pub use extension::Extension;
-pub use installed::Installed;
+pub use installed::InstalledExtension;
 pub use installed_set::InstalledSet;
 pub use match_patterns::MatchPattern;
-pub use rule_set::RuleSet;
+pub use rule_list::RuleList;
+pub use rule_set::{RuleSet, SharedSet};
+pub use shared_rule::SharedRule;
 pub use store::Store;
-pub use update::Update;
+pub use update::{BatchRefusal, Update};
 pub use update_spec::Refusal;

@@ -1,45 +1,113 @@
-ghost use Rattle.std.specs.Prelude.{◌≡◌, IfOk};
+ghost use Rattle.std.specs.Prelude.{◌≡◌, pos, IfOk};
+ghost use Rattle.std.specs.List.{list_any};
+ghost use Rattle.std.specs.Ordering.{int_eq};
 
-use crate::copies::lists_again;
+use crate::RuleList;
+use crate::ids::{has_whole, ids_of};
 use dnr_base::{Copied, Items, NoMemory, Text};
 use dnr_rules::Rule;
 use std::alloc::Global;
+use std::collections::BTreeSet;
 use std::marker::Model;
+use std::sync::Arc;
 
-/// A static ruleset as its extension brings it: Chrome's reference of declarativeNetRequest, `Ruleset`. A clause sees
+/// A static ruleset, as its extension brings it: Chrome's reference of declarativeNetRequest, `Ruleset`. A clause sees
 /// the new ruleset of `update_spec`.
 #[derive(Debug, Drop)]
 pub struct RuleSet {
-    /// The id by which its extension names it.
-    pub id: Text,
-    /// Whether its rules are in force once it is installed.
-    pub enabled: bool,
-    /// Its rules, in their order. No two have one id.
-    pub rules: Items<Rule>,
-    /// The lines of a filter list that each rule comes from: one list for each rule, or none at all.
-    pub origins: Items<Items<u32>>,
+    id: Text,
+    enabled: bool,
+    rules: RuleList,
+    origins: Items<Items<u32>>,
+    ids: BTreeSet<i128>,
 }
 
 impl Model for RuleSet {
-    ghost use Rattle.update_spec.specs.Update.{NewRuleSet};
+    ghost use Rattle.update_spec.specs.Update as spec;
+    ghost use Rattle.ruleset_store.specs.Ids.{HasIdsOf};
 
-    ghost Value = { NewRuleSet };
+    ghost Value = { spec.NewRuleSet };
 
     ghost view = { λ s. record { id = s.id; enabled = s.enabled; rules = s.rules; origins = s.origins } };
+
+    ghost invariant = { λ s. HasIdsOf s.ids s.rules };
 }
 
 impl RuleSet {
-    /// An equal ruleset.
+    /// A ruleset of these parts: its id, whether it is enabled, its rules in their order, and the lines of a filter
+    /// list that each rule comes from (one list for each rule, or none at all).
     ///
-    /// `NoMemory`: no memory is left for its parts.
+    /// `NoMemory`: no memory is left to share its rules.
+    pub fn build(
+        alloc: Global,
+        id: Text,
+        enabled: bool,
+        rules: Vec<Rule>,
+        origins: Vec<Items<u32>>,
+    ) -> Result<RuleSet, NoMemory>
+        ensures { IfOk result (λ set. set
+            ≡ record { id = id; enabled = enabled; rules = rules.items; origins = origins.items }) }
+    {
+        let rules = RuleList::of(alloc, rules)?;
+        let ids = ids_of(alloc, &rules)?;
+        Ok(RuleSet {
+            id,
+            enabled,
+            rules,
+            origins: Items::build(origins),
+            ids,
+        })
+    }
+
+    /// The id by which its extension names it.
+    pub fn id(&self) -> &str
+        ensures { result.now ≡ self.now.id }
+    {
+        self.id.as_str()
+    }
+
+    /// Whether its rules are in force once it is installed.
+    pub fn is_enabled(&self) -> bool
+        ensures { result ≡ self.now.enabled }
+    {
+        self.enabled
+    }
+
+    /// Its rules, in their order.
+    pub fn rules(&self) -> &RuleList
+        ensures { result.now ≡ self.now.rules }
+    {
+        &self.rules
+    }
+
+    /// The lines of a filter list that each rule comes from, or nothing.
+    pub fn origins(&self) -> &[Items<u32>]
+        ensures { result.now ≡ self.now.origins }
+    {
+        self.origins.as_slice()
+    }
+
+    // Whether one of its rules has this id.
+    pub(crate) fn has_rule(&self, id: &i128) -> bool
+        ensures { result ≡ list_any (λ rule. int_eq id.now (pos rule.id)) self.now.rules }
+    {
+        has_whole(&self.ids, id)
+    }
+
+    /// An equal ruleset, which shares its rules.
+    ///
+    /// `NoMemory`: no memory is left for its other parts.
     pub fn copy(&self, alloc: Global) -> Result<RuleSet, NoMemory>
         ensures { IfOk result (λ copy. copy ≡ self.now) }
     {
+        let rules = self.rules.again(alloc)?;
+        let ids = ids_of(alloc, &rules)?;
         Ok(RuleSet {
             id: self.id.copy(alloc)?,
             enabled: self.enabled,
-            rules: self.rules.copy(alloc)?,
-            origins: Items::build(lists_again(alloc, self.origins.as_slice())?),
+            rules,
+            origins: Items::build(lists_again(alloc, self.origins())?),
+            ids,
         })
     }
 }
@@ -47,5 +115,57 @@ impl RuleSet {
 impl Copied for RuleSet {
     fn copied(&self, alloc: Global) -> Result<RuleSet, NoMemory> {
         self.copy(alloc)
+    }
+}
+
+// Equal lists of numbers, in their order.
+fn lists_again(alloc: Global, lists: &[Items<u32>]) -> Result<Vec<Items<u32>>, NoMemory>
+    ensures { IfOk result (λ copies. copies.items ≡ lists.now) }
+{
+    let mut copies = Vec::with_capacity(alloc, lists.len())?;
+    for list in lists {
+        copies.push(Items::build(Vec::from_slice(alloc, list.as_slice())?))?;
+    }
+    Ok(copies)
+}
+
+/// A ruleset that the states after its installation share. A clause sees the ruleset.
+#[derive(Debug, Drop)]
+pub struct SharedSet {
+    set: Arc<RuleSet>,
+}
+
+impl Model for SharedSet {
+    ghost use Rattle.std.specs.Arc.{arc_value};
+    ghost use Rattle.update_spec.specs.Update as spec;
+
+    ghost Value = { spec.NewRuleSet };
+
+    ghost view = { λ s. arc_value s.set };
+}
+
+impl SharedSet {
+    pub(crate) fn new(alloc: Global, set: RuleSet) -> Result<SharedSet, NoMemory>
+        ensures { IfOk result (λ shared. shared ≡ set) }
+    {
+        Ok(SharedSet {
+            set: Arc::new(alloc, set)?,
+        })
+    }
+
+    // The same ruleset once more. It takes no memory.
+    pub(crate) fn again(&self) -> Result<SharedSet, NoMemory>
+        ensures { IfOk result (λ again. again ≡ self.now) }
+    {
+        Ok(SharedSet {
+            set: Arc::try_clone(&self.set)?,
+        })
+    }
+
+    /// The ruleset.
+    pub fn set(&self) -> &RuleSet
+        ensures { result.now ≡ self.now }
+    {
+        &self.set
     }
 }

@@ -5,9 +5,11 @@ use Rattle.serde_json.specs.Data.{Items, item}
 use Rattle.serde_json.specs.declared.value.Value.{Value}
 use Rattle.serde_json.specs.View.{view, items_view}
 use Rattle.dnr_base.specs.declared.frame.Frame.{Frame}
-use Rattle.json_spec.specs.declared.line_fault.LineFault.{LineFault}
-use Rattle.json_spec.specs.declared.line_fault.LineFault.TheVariants.{NoMemory}
-use Rattle.json_spec.specs.RequestLine.{and_then, each_frame, frame_in, IsFaultOf}
+use Rattle.line_spec.specs.declared.line_fault.LineFault.{LineFault}
+use Rattle.line_spec.specs.declared.line_fault.LineFault.TheVariants.{RuleRefused, InBatch, NoMemory}
+use Rattle.line_spec.specs.Reading.{and_then}
+use Rattle.line_spec.specs.RequestLine.{each_frame, frame_in}
+use Rattle.line_spec.specs.IsFault.{IsFaultOf}
 
 -- what was read, before what is still to be read
 abbrev pub before : List Frame → Result (List Frame) LineFault → Result (List Frame) LineFault
@@ -50,6 +52,8 @@ frames_go values next value done frame inside is so_far read = record {
 
 pub frames_stop : (values : List Value) (next : ℕ) (value : Value) (done : List Frame) (fault : LineFault)
     → next < length values → value ≡ get_or values next value → AreReadSoFar values done next → IsFaultOf (frame_in (view value)) fault → IsFaultOf (each_frame (items_view values)) fault
+frames_stop values next value done (RuleRefused refusal) inside is so_far h = absurd h
+frames_stop values next value done (InBatch place refusal) inside is so_far h = absurd h
 frames_stop values next value done NoMemory inside is so_far h = h
 frames_stop values next value done fault inside is so_far h = step values next value done (Err fault) inside is so_far h
 

@@ -4,3 +4,15 @@ pub mod Stops
 pub mod FramesRead
 pub mod Pairs
 pub mod Same
+pub mod Chains
+pub mod RulesRead
+pub mod Asked
+pub mod SetIds
+pub mod SetsRead
+pub mod UpdatesRead
+pub mod LinesRead
+pub mod BatchRead
+pub mod Ids
+pub mod WholeLines
+pub mod BatchIn
+pub mod Alike

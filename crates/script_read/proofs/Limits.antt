@@ -18,9 +18,10 @@ use Rattle.dnr_base.specs.declared.frame.Frame.{Frame}
 use Rattle.dnr_base.specs.declared.header.Header.{Header}
 use Rattle.dnr_base.specs.Request.{is_short_name, IsHeaderList}
 use Rattle.dnr_spec.specs.Headers.{is_name}
-use Rattle.json_spec.specs.declared.line_fault.LineFault.{LineFault}
+use Rattle.line_spec.specs.declared.line_fault.LineFault.{LineFault}
 use Rattle.json_spec.specs.RuleFields.{each}
-use Rattle.json_spec.specs.RequestLine.{and_then, count_of, each_frame, frame_in, as_header, header_from, header_of, is_one_value}
+use Rattle.line_spec.specs.Reading.{and_then}
+use Rattle.line_spec.specs.RequestLine.{count_of, each_frame, frame_in, as_header, header_from, header_of, is_one_value}
 use Rattle.script_read.proofs.Names.{is_name_by_bytes}
 
 -- ---- counts

@@ -5,7 +5,7 @@ use Rattle.serde_json.specs.Data.{Data}
 use Rattle.serde_json.specs.Find.{as_array}
 use Rattle.serde_json.specs.declared.value.Value.{Value}
 use Rattle.serde_json.specs.View.{items_view}
-use Rattle.json_spec.specs.RequestLine.{as_header, header_from}
+use Rattle.line_spec.specs.RequestLine.{as_header, header_from}
 
 of_few : (values : List Value) → length values < 2 → header_from (items_view values) ≡ None
 of_few [] few = refl

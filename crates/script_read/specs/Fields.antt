@@ -1,19 +1,23 @@
 -- The command of a line, by the values at its keys.
-use Rattle.std.specs.Prelude.{ℕ, ℤ, negsuc, List, [], ◌∷◌, map, get_or, codes, Bool, true, false, Option, Some, None, option_and_then, Result, Ok, Err, if◌then◌else◌}
-use Rattle.std.specs.Str.{bytes_eq}
-use Rattle.serde_json.specs.Data.{Data, string}
+use Rattle.std.specs.Prelude.{◌≡◌, ℕ, ℤ, negsuc, List, [], ◌∷◌, map, get_or, codes, Bool, true, false, Option, Some, None, option_and_then, Result, Ok, Err}
+use Rattle.serde_json.specs.Data.{Data}
 use Rattle.serde_json.specs.Find.{as_str}
 use Rattle.dnr_base.specs.declared.kind.Kind.{Kind}
 use Rattle.dnr_base.specs.declared.method.Method.{Method}
 use Rattle.dnr_base.specs.declared.method.Method.TheVariants.{Get}
 use Rattle.dnr_base.specs.declared.request.Request.{Request}
 use Rattle.dnr_base.specs.View.{View}
-use Rattle.json_spec.specs.declared.command_path.CommandPath.{CommandPath}
-use Rattle.json_spec.specs.declared.command_path.CommandPath.TheVariants as path
-use Rattle.json_spec.specs.declared.line_fault.LineFault.{LineFault}
-use Rattle.json_spec.specs.declared.line_fault.LineFault.TheVariants.{BadCommand}
+use Rattle.line_spec.specs.declared.command_path.CommandPath.{CommandPath}
+use Rattle.line_spec.specs.declared.command_path.CommandPath.TheVariants as path
+use Rattle.line_spec.specs.declared.line_fault.LineFault.{LineFault}
+use Rattle.line_spec.specs.declared.line_fault.LineFault.TheVariants.{BadCommand, RuleRefused, InBatch, NoMemory}
 use Rattle.json_spec.specs.RuleFields.{as_kind, as_method, as_tab}
-use Rattle.json_spec.specs.RequestLine.{and_then, given, given_or, view_at, initiator_from, frames_given, headers_given, Command, request, explain}
+use Rattle.line_spec.specs.Reading.{and_then}
+use Rattle.line_spec.specs.RequestLine.{given, given_or, view_at, initiator_from, frames_given, headers_given}
+use Rattle.line_spec.specs.declared.command_name.CommandName.{CommandName}
+use Rattle.line_spec.specs.declared.command_name.CommandName.TheVariants as name
+use Rattle.line_spec.specs.CommandName.{name_from}
+use Rattle.line_spec.specs.Line.{Command, sync, request, explain}
 use Rattle.json_fields.specs.declared.field.Field.{Field}
 use Rattle.json_fields.specs.Fields.{value_in}
 
@@ -34,6 +38,7 @@ place_of path.Tab = 5
 place_of path.Frames = 6
 place_of path.RequestHeaders = 7
 place_of path.ResponseHeaders = 8
+place_of _ = 9
 
 -- the value of a field
 abbrev pub value_at : List Field → CommandPath → Option Data
@@ -74,17 +79,26 @@ request_from number fields =
       response_headers = response_headers;
     })))))))))
 
-abbrev pub command_named : ℕ → List Field → List ℕ → Result Command LineFault
-command_named number fields name =
-    if bytes_eq name (codes "request") then and_then (request_from number fields) (λ r. Ok (request r))
-    else (if bytes_eq name (codes "explain") then and_then (request_from number fields) (λ r. Ok (explain r))
-    else Err (BadCommand path.Cmd))
+-- ---- the command
 
-abbrev pub command_at : ℕ → List Field → Option Data → Result Command LineFault
-command_at number fields None = command_named number fields (codes "request")
-command_at number fields (Some (string name)) = command_named number fields name
-command_at number fields (Some _) = Err (BadCommand path.Cmd)
+abbrev pub name_at : List Field → Option CommandName
+name_at fields = name_from (value_at fields path.Cmd)
 
--- the command of the line of this number
-unfoldable pub command_from : ℕ → List Field → Result Command LineFault
-command_from number fields = command_at number fields (value_at fields path.Cmd)
+-- the command of this name, where the fields of a request say all of it
+abbrev pub command_at : ℕ → List Field → Option CommandName → Option (Result Command LineFault)
+command_at number fields None = Some (Err (BadCommand path.Cmd))
+command_at number fields (Some name.Request) = Some (and_then (request_from number fields) (λ r. Ok (request r)))
+command_at number fields (Some name.Explain) = Some (and_then (request_from number fields) (λ r. Ok (explain r)))
+command_at number fields (Some name.Sync) = Some (Ok sync)
+command_at number fields (Some (name.Update which)) = None
+command_at number fields (Some name.Batch) = None
+
+abbrev pub command_from : ℕ → List Field → Option (Result Command LineFault)
+command_from number fields = command_at number fields (name_at fields)
+
+-- they say that it is at fault so, or memory ran out
+abbrev pub IsFaultFrom : ℕ → List Field → LineFault → Type 0
+IsFaultFrom number fields (RuleRefused refusal) = ⊥
+IsFaultFrom number fields (InBatch place refusal) = ⊥
+IsFaultFrom number fields NoMemory = Unit {0}
+IsFaultFrom number fields fault = command_from number fields ≡ Some (Err fault)

@@ -1,16 +1,17 @@
 // The fields of a line, and those of them that are one value each.
-ghost use Rattle.std.specs.Prelude.{◌≡◌, Ok, IfOk, IfErr, length, map};
+ghost use Rattle.std.specs.Prelude.{◌≡◌, ◌<◌, Ok, IfOk, IfErr, length, map};
 ghost use Rattle.std.specs.List.{All};
 ghost use Rattle.dnr_base.specs.Kind.{kind_named};
 ghost use Rattle.dnr_base.specs.Method.{method_named};
 ghost use Rattle.json_fields.specs.Fields.{AreApart, IsEmpty, key_of, value_in};
-ghost use Rattle.json_spec.specs.RequestLine as spec;
+ghost use Rattle.line_spec.specs.IsFault.{IsFaultOf};
+ghost use Rattle.line_spec.specs.RequestLine as spec;
 ghost use Rattle.script_read.specs.Fields.{line_keys, place_of, value_at, url_from, kind_from, method_from, tab_from};
 
 use dnr_base::{Kind, Method, Text, View};
 use dnr_spec::ViewRefusal;
 use json_fields::{Field, Held};
-use json_spec::{CommandPath, LineFault};
+use line_spec::{CommandPath, LineFault};
 use std::alloc::Global;
 use url_view::parse;
 
@@ -48,7 +49,8 @@ pub(crate) fn field_at<'f, 'a>(
     fields: &'f [Field<'static, 'a>],
     path: CommandPath,
 ) -> &'f Field<'static, 'a>
-    requires { length fields.now ≡ 9 }
+    requires all { length fields.now ≡ 9 }
+    requires one { place_of path < 9 }
     ensures { value_in result.now ≡ value_at fields.now path }
 {
     &fields[place(path)]
@@ -67,6 +69,7 @@ fn place(path: CommandPath) -> usize
         CommandPath::Frames => 6,
         CommandPath::RequestHeaders => 7,
         CommandPath::ResponseHeaders => 8,
+        _ => 9,
     }
 }
 
@@ -74,7 +77,7 @@ fn place(path: CommandPath) -> usize
 #[tactic(auto, unfolding(crate::specs::Fields::url_from))]
 pub(crate) fn url_in(alloc: Global, url: &Field<'_, '_>) -> Result<View, LineFault>
     ensures read { IfOk result (λ view. url_from (value_in url.now) ≡ Ok view) }
-    ensures refused { IfErr result (spec.IsFaultOf (url_from (value_in url.now))) }
+    ensures refused { IfErr result (IsFaultOf (url_from (value_in url.now))) }
 {
     match url.text() {
         Some(text) => view_at(alloc, CommandPath::Url, text),
@@ -85,7 +88,7 @@ pub(crate) fn url_in(alloc: Global, url: &Field<'_, '_>) -> Result<View, LineFau
 // The URL of a text, which stands in this field.
 pub(crate) fn view_at(alloc: Global, field: CommandPath, text: &str) -> Result<View, LineFault>
     ensures read { IfOk result (λ url. spec.view_at field text.now ≡ Ok url) }
-    ensures refused { IfErr result (spec.IsFaultOf (spec.view_at field text.now)) }
+    ensures refused { IfErr result (IsFaultOf (spec.view_at field text.now)) }
 {
     match parse(alloc, text) {
         Ok(url) => Ok(url),
@@ -98,7 +101,7 @@ pub(crate) fn view_at(alloc: Global, field: CommandPath, text: &str) -> Result<V
 #[tactic(auto, unfolding(crate::specs::Fields::kind_from))]
 pub(crate) fn kind_in(kind: &Field<'_, '_>) -> Result<Kind, LineFault>
     ensures read { IfOk result (λ named. kind_from (value_in kind.now) ≡ Ok named) }
-    ensures refused { IfErr result (spec.IsFaultOf (kind_from (value_in kind.now))) }
+    ensures refused { IfErr result (IsFaultOf (kind_from (value_in kind.now))) }
 {
     let Some(_) = &kind.held else {
         return Err(LineFault::BadCommand(CommandPath::Kind));
@@ -111,7 +114,7 @@ pub(crate) fn kind_in(kind: &Field<'_, '_>) -> Result<Kind, LineFault>
 
 fn kind_named(name: &str) -> Result<Kind, LineFault>
     ensures read { IfOk result (λ kind. spec.given CommandPath.Kind (kind_named name.now) ≡ Ok kind) }
-    ensures refused { IfErr result (spec.IsFaultOf (spec.given CommandPath.Kind (kind_named name.now))) }
+    ensures refused { IfErr result (IsFaultOf (spec.given CommandPath.Kind (kind_named name.now))) }
 {
     match Kind::named(name) {
         Some(kind) => Ok(kind),
@@ -127,7 +130,7 @@ pub(crate) fn initiator_in(
     ensures read { IfOk result (λ host.
         spec.initiator_from CommandPath.Initiator (value_in initiator.now) ≡ Ok host) }
     ensures refused { IfErr result
-        (spec.IsFaultOf (spec.initiator_from CommandPath.Initiator (value_in initiator.now))) }
+        (IsFaultOf (spec.initiator_from CommandPath.Initiator (value_in initiator.now))) }
 {
     match &initiator.held {
         None | Some(Held::Null) => Ok(None),
@@ -143,7 +146,7 @@ pub(crate) fn asking_host(
     text: &str,
 ) -> Result<Option<Text>, LineFault>
     ensures read { IfOk result (λ host. spec.asking_host field text.now ≡ Ok host) }
-    ensures refused { IfErr result (spec.IsFaultOf (spec.asking_host field text.now)) }
+    ensures refused { IfErr result (IsFaultOf (spec.asking_host field text.now)) }
 {
     if text == "null" {
         return Ok(None);
@@ -158,7 +161,7 @@ pub(crate) fn asking_host(
 pub(crate) fn method_in(method: &Field<'_, '_>) -> Result<Method, LineFault>
     ensures read { IfOk result (λ named. method_from CommandPath.Method (value_in method.now) ≡ Ok named) }
     ensures refused { IfErr result
-        (spec.IsFaultOf (method_from CommandPath.Method (value_in method.now))) }
+        (IsFaultOf (method_from CommandPath.Method (value_in method.now))) }
 {
     let Some(_) = &method.held else {
         return Ok(Method::Get);
@@ -172,7 +175,7 @@ pub(crate) fn method_in(method: &Field<'_, '_>) -> Result<Method, LineFault>
 // The method of this name, which stands in this field.
 pub(crate) fn method_named(field: CommandPath, name: &str) -> Result<Method, LineFault>
     ensures read { IfOk result (λ method. spec.given field (method_named name.now) ≡ Ok method) }
-    ensures refused { IfErr result (spec.IsFaultOf (spec.given field (method_named name.now))) }
+    ensures refused { IfErr result (IsFaultOf (spec.given field (method_named name.now))) }
 {
     match Method::named(name) {
         Some(method) => Ok(method),
@@ -184,7 +187,7 @@ pub(crate) fn method_named(field: CommandPath, name: &str) -> Result<Method, Lin
 #[tactic(auto, unfolding(crate::specs::Fields::tab_from))]
 pub(crate) fn tab_in(tab: &Field<'_, '_>) -> Result<i32, LineFault>
     ensures read { IfOk result (λ number. tab_from (value_in tab.now) ≡ Ok number) }
-    ensures refused { IfErr result (spec.IsFaultOf (tab_from (value_in tab.now))) }
+    ensures refused { IfErr result (IsFaultOf (tab_from (value_in tab.now))) }
 {
     let Some(_) = &tab.held else {
         return Ok(-1);

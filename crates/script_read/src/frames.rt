@@ -3,12 +3,14 @@ ghost use Rattle.std.specs.Prelude.{◌≡◌, ◌≤◌, length, Ok, IfOk, IfEr
 ghost use Rattle.serde_json.specs.View.{view, items_view};
 ghost use Rattle.dnr_base.specs.Request.{max_frames};
 ghost use Rattle.json_fields.specs.Fields.{value_in};
-ghost use Rattle.json_spec.specs.RequestLine as spec;
+ghost use Rattle.line_spec.specs.IsFault.{IsFaultOf};
+ghost use Rattle.line_spec.specs.RequestLine as spec;
 
 use crate::fields::{asking_host, view_at};
 use dnr_base::{Frame, Items, Method, Text, View};
 use json_fields::Field;
-use json_spec::{CommandPath, LineFault, as_method};
+use json_spec::as_method;
+use line_spec::{CommandPath, LineFault};
 use serde_json::Value;
 use std::alloc::Global;
 
@@ -20,7 +22,7 @@ const MAX_FRAMES: usize = 64;
 pub(crate) fn frames_in(alloc: Global, frames: &Field<'_, '_>) -> Result<Items<Frame>, LineFault>
     ensures read { IfOk result (λ read. spec.frames_given (value_in frames.now) ≡ Ok read) }
     ensures few { IfOk result (λ read. length read ≤ max_frames) }
-    ensures refused { IfErr result (spec.IsFaultOf (spec.frames_given (value_in frames.now))) }
+    ensures refused { IfErr result (IsFaultOf (spec.frames_given (value_in frames.now))) }
 {
     let Some(_) = &frames.held else {
         return Ok(Items::build(Vec::new(alloc)));
@@ -34,7 +36,7 @@ pub(crate) fn frames_in(alloc: Global, frames: &Field<'_, '_>) -> Result<Items<F
 #[tactic(auto, using(crate::proofs::FramesRead::frames_begin, crate::proofs::FramesRead::frames_go, crate::proofs::FramesRead::frames_stop, crate::proofs::FramesRead::frames_end))]
 fn each_frame(alloc: Global, values: &[Value]) -> Result<Items<Frame>, LineFault>
     ensures read { IfOk result (λ frames. spec.each_frame (items_view values.now) ≡ Ok frames) }
-    ensures refused { IfErr result (spec.IsFaultOf (spec.each_frame (items_view values.now))) }
+    ensures refused { IfErr result (IsFaultOf (spec.each_frame (items_view values.now))) }
 {
     let mut frames = Vec::with_capacity(alloc, values.len())?;
     for value in values {
@@ -43,10 +45,10 @@ fn each_frame(alloc: Global, values: &[Value]) -> Result<Items<Frame>, LineFault
     Ok(Items::build(frames))
 }
 
-#[tactic(auto, unfolding(json_spec::specs::RequestLine::frame_in))]
+#[tactic(auto, unfolding(line_spec::specs::RequestLine::frame_in))]
 fn frame_in(alloc: Global, value: &Value) -> Result<Frame, LineFault>
     ensures read { IfOk result (λ frame. spec.frame_in (view value.now) ≡ Ok frame) }
-    ensures refused { IfErr result (spec.IsFaultOf (spec.frame_in (view value.now))) }
+    ensures refused { IfErr result (IsFaultOf (spec.frame_in (view value.now))) }
 {
     let view = frame_url(alloc, value.get(CommandPath::Url.name()))?;
     let initiator = frame_initiator(alloc, value)?;
@@ -61,7 +63,7 @@ fn frame_in(alloc: Global, value: &Value) -> Result<Frame, LineFault>
 // The URL of a frame, which must be given, by null where it has none.
 fn frame_url(alloc: Global, url: Option<&Value>) -> Result<Option<View>, LineFault>
     ensures read { IfOk result (λ url_read. spec.frame_url (option_map (λ v. view v.now) url.entry) ≡ Ok url_read) }
-    ensures refused { IfErr result (spec.IsFaultOf (spec.frame_url (option_map (λ v. view v.now) url.entry))) }
+    ensures refused { IfErr result (IsFaultOf (spec.frame_url (option_map (λ v. view v.now) url.entry))) }
 {
     match url {
         Some(Value::Null) => Ok(None),
@@ -71,11 +73,11 @@ fn frame_url(alloc: Global, url: Option<&Value>) -> Result<Option<View>, LineFau
 }
 
 // The host of who asked for the frame.
-#[tactic(auto, unfolding(json_spec::specs::RequestLine::initiator_in))]
+#[tactic(auto, unfolding(line_spec::specs::RequestLine::initiator_in))]
 fn frame_initiator(alloc: Global, tree: &Value) -> Result<Option<Text>, LineFault>
     ensures read { IfOk result (λ host. spec.initiator_in CommandPath.Frames (view tree.now) ≡ Ok host) }
     ensures refused { IfErr result
-        (spec.IsFaultOf (spec.initiator_in CommandPath.Frames (view tree.now))) }
+        (IsFaultOf (spec.initiator_in CommandPath.Frames (view tree.now))) }
 {
     match tree.get(CommandPath::Initiator.name()) {
         None | Some(Value::Null) => Ok(None),
@@ -85,11 +87,11 @@ fn frame_initiator(alloc: Global, tree: &Value) -> Result<Option<Text>, LineFaul
 }
 
 // How the frame was asked for.
-#[tactic(auto, unfolding(json_spec::specs::RequestLine::method_in))]
+#[tactic(auto, unfolding(line_spec::specs::RequestLine::method_in))]
 fn frame_method(tree: &Value) -> Result<Method, LineFault>
     ensures read { IfOk result (λ method. spec.method_in CommandPath.Frames (view tree.now) ≡ Ok method) }
     ensures refused { IfErr result
-        (spec.IsFaultOf (spec.method_in CommandPath.Frames (view tree.now))) }
+        (IsFaultOf (spec.method_in CommandPath.Frames (view tree.now))) }
 {
     let Some(value) = tree.get(CommandPath::Method.name()) else {
         return Ok(Method::Get);

@@ -7,13 +7,14 @@ ghost use Rattle.serde_json.specs.View.{view, items_view};
 ghost use Rattle.dnr_base.specs.Request.{IsHeaderList};
 ghost use Rattle.dnr_spec.specs.Headers as words;
 ghost use Rattle.json_fields.specs.Fields.{value_in};
-ghost use Rattle.json_spec.specs.RequestLine as spec;
+ghost use Rattle.line_spec.specs.IsFault.{IsFaultOf};
+ghost use Rattle.line_spec.specs.RequestLine as spec;
 ghost use Rattle.json_spec.specs.RuleFields.{each};
 
 use dnr_base::{Header, Items, NoMemory, Text};
 use http_header::is_token_char;
 use json_fields::Field;
-use json_spec::{CommandPath, LineFault};
+use line_spec::{CommandPath, LineFault};
 use serde_json::Value;
 use std::alloc::Global;
 
@@ -31,7 +32,7 @@ pub(crate) fn headers_in(
 ) -> Result<Option<Items<Header>>, LineFault>
     ensures read { IfOk result (λ read. spec.headers_given path (value_in headers.now) ≡ Ok read) }
     ensures listed { IfOk result (λ read. IfSome read IsHeaderList) }
-    ensures refused { IfErr result (spec.IsFaultOf (spec.headers_given path (value_in headers.now))) }
+    ensures refused { IfErr result (IsFaultOf (spec.headers_given path (value_in headers.now))) }
 {
     let Some(_) = &headers.held else {
         return Ok(None);
@@ -69,7 +70,7 @@ fn each_header(alloc: Global, values: &[Value]) -> Result<Option<Items<Header>>,
 }
 
 // A header from a pair of its name and its value.
-#[tactic(auto, using(crate::proofs::Pairs::too_few, crate::proofs::Pairs::too_many), unfolding(json_spec::specs::RequestLine::as_header))]
+#[tactic(auto, using(crate::proofs::Pairs::too_few, crate::proofs::Pairs::too_many), unfolding(line_spec::specs::RequestLine::as_header))]
 fn as_header(alloc: Global, value: &Value) -> Result<Option<Header>, NoMemory>
     ensures { IfOk result (λ header. header ≡ spec.as_header (view value.now)) }
 {

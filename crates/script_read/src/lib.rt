@@ -1,14 +1,22 @@
 //! Reads the lines of a script into the commands that they are.
 //!
-//! What a line reads as stands in `json_spec`, `specs/RequestLine.antt`.
+//! What a line reads as stands in `line_spec`, `specs/Line.antt`.
 #![tactic(auto)]
 
+mod batch;
+mod chosen;
 mod command;
 mod fields;
 mod frames;
 mod headers;
+mod new_sets;
 mod reading;
+mod rules;
+mod rulesets;
+mod set_id;
+mod update_fields;
+mod updates;
 
 pub use command::Command;
-pub use json_spec::{CommandPath, LineFault};
+pub use line_spec::{CommandPath, LineFault, UpdateField};
 pub use reading::{is_blank, read_line, read_line_with};

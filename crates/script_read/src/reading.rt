@@ -1,64 +1,115 @@
 // A line, and the request in it.
-ghost use Rattle.std.specs.Prelude.{◌≡◌, Ok, IfOk, IfErr, length, map};
+ghost use Rattle.std.specs.Prelude.{◌≡◌, ◌≤◌, Ok, IfOk, IfErr, length, map};
 ghost use Rattle.std.specs.List.{All};
 ghost use Rattle.dnr_spec.specs.Lines as lines;
+ghost use Rattle.dnr_base.specs.Faults.{Rose};
 ghost use Rattle.dnr_base.specs.Request.{IsRequest};
 ghost use Rattle.json_spec.specs.Json.{tree_of};
-ghost use Rattle.json_spec.specs.RequestLine as spec;
-ghost use Rattle.json_fields.specs.Fields.{AreApart, IsEmpty, key_of};
-ghost use Rattle.script_read.specs.Fields.{line_keys, command_from, request_from};
+ghost use Rattle.line_spec.specs.CommandName.{name_from};
+ghost use Rattle.line_spec.specs.IsFault.{IsFaultOf, IsFaultOfLine, MayRefuse, IsCalm};
+ghost use Rattle.line_spec.specs.Line as spec;
+ghost use Rattle.line_spec.specs.Stops.{StopsIn};
+ghost use Rattle.json_fields.specs.Fields.{AreApart, IsEmpty, key_of, value_in};
+ghost use Rattle.script_read.specs.Asked.{IsAsked, Reads, Asks};
+ghost use Rattle.script_read.specs.Fields.{line_keys, request_from, IsFaultFrom};
 ghost use Rattle.script_read.specs.Seen.{command_seen};
 
 use crate::Command;
+use crate::batch::batch_in;
+use crate::chosen::read_chosen;
 use crate::fields::{field_at, initiator_in, kind_in, line_fields, method_in, tab_in, url_in};
 use crate::frames::frames_in;
 use crate::headers::headers_in;
+use crate::updates::update_in;
 use dnr_base::Request;
 use json::Scratch;
 use json_fields::{Fault, Field, Form, Held, read_fields};
-use json_spec::{CommandPath, LineFault};
+use line_spec::{CommandName, CommandPath, LineFault, UpdateFault, UpdateName};
+use regex_host::RegexHost;
 use std::alloc::Global;
 
 /// Reads a line of a script, without the LF at its end; `line` is its number, from 1.
 ///
 /// A line of spaces and tabs, or of nothing, asks for nothing. Any other is a JSON object (RFC 8259), whose text
-/// `cmd` is `request` or `explain`; where it is absent the line is a request. The fields of both are `url`, `type`,
-/// `initiator`, `method`, `tab`, `frames`, `requestHeaders` and `responseHeaders`, of which only the first two must
-/// be given. Other keys are ignored.
+/// `cmd` says what it asks for; where it is absent the line is a request. The fields of `request` and `explain` are
+/// `url`, `type`, `initiator`, `method`, `tab`, `frames`, `requestHeaders` and `responseHeaders`, of which only the
+/// first two must be given. `dynamic`, `session`, `rulesets`, `static`, `install` and `uninstall` are updates, `batch`
+/// has a list of such objects, and `sync` has no fields. Other keys are ignored.
 ///
 /// # Errors
 ///
 /// - `BadJson`: the line is neither blank nor a JSON text.
-/// - `BadCommand`: of `cmd` and the fields, in this order, this one is the first at fault: it is missing or has
-///   another form, or there are more than 64 frames, or more than 512 headers in one list.
+/// - `BadCommand`: of `cmd` and the fields, in their order, this one is the first at fault: it is missing or has
+///   another form, or there are more than 64 frames, more than 512 headers in one list, or more than 256 updates.
 /// - `BadUrl`: the first at fault is this one, and its text, or the one of a frame, is no URL that is decided.
+/// - `RuleRefused`, `InBatch`: the first at fault is this rule of the update. `HostFault` is its cause only where the
+///   host failed at the rule's pattern, and its count of faults rose in this call; with any other answer it stays.
 /// - `NoMemory`: memory ran out.
-pub fn read_line(alloc: Global, line: u32, bytes: &[u8]) -> Result<Command, LineFault>
+pub fn read_line<H: RegexHost>(
+    alloc: Global,
+    line: u32,
+    bytes: &[u8],
+    host: &mut H,
+) -> Result<Command, LineFault>
     ensures read { IfOk result (λ command. spec.command_of line bytes.now ≡ Ok (command_seen command)) }
     ensures within_limits { IfOk result (λ command. spec.IsWithinLimits (command_seen command)) }
-    ensures refused { IfErr result (spec.IsFaultOf (spec.command_of line bytes.now)) }
+    ensures refused { IfErr result
+        (IsFaultOfLine line bytes.now (Rose (H.faults host.old) (H.faults host.new))) }
+    ensures calm { IsCalm (H.faults host.old) (H.faults host.new) result }
+    ensures later { H.faults host.old ≤ H.faults host.new }
 {
     let mut scratch = Scratch::new(alloc);
-    read_line_with(alloc, line, bytes, &mut scratch)
+    read_line_with(alloc, line, bytes, &mut scratch, host)
 }
 
 /// The same with the memory that the reader of JSON needs, which may be kept from one line to the next.
-#[tactic(auto, unfolding(json_spec::specs::RequestLine::command_of))]
-pub fn read_line_with(
+#[tactic(auto, unfolding(line_spec::specs::Line::command_of))]
+pub fn read_line_with<H: RegexHost>(
     alloc: Global,
     line: u32,
     bytes: &[u8],
     scratch: &mut Scratch,
+    host: &mut H,
 ) -> Result<Command, LineFault>
     ensures read { IfOk result (λ command. spec.command_of line bytes.now ≡ Ok (command_seen command)) }
     ensures within_limits { IfOk result (λ command. spec.IsWithinLimits (command_seen command)) }
-    ensures refused { IfErr result (spec.IsFaultOf (spec.command_of line bytes.now)) }
+    ensures refused { IfErr result
+        (IsFaultOfLine line bytes.now (Rose (H.faults host.old) (H.faults host.new))) }
+    ensures calm { IsCalm (H.faults host.old) (H.faults host.new) result }
+    ensures later { H.faults host.old ≤ H.faults host.new }
 {
     if is_blank(bytes) {
         return Ok(Command::Blank);
     }
     let mut fields = line_fields();
-    command_by(alloc, line, bytes, scratch, &mut fields)
+    let asked = match asked_by(alloc, line, bytes, scratch, &mut fields) {
+        Ok(asked) => asked,
+        Err(fault) => return Err(fault),
+    };
+    command_of(alloc, line, bytes, asked, host)
+}
+
+// The command of a line that is not blank and asks for this.
+fn command_of<H: RegexHost>(
+    alloc: Global,
+    line: u32,
+    bytes: &[u8],
+    asked: Asked,
+    host: &mut H,
+) -> Result<Command, LineFault>
+    requires { IsAsked line (tree_of bytes.now) asked }
+    ensures read { IfOk result (λ command. spec.command_of_tree line (tree_of bytes.now) ≡ Ok (command_seen command)) }
+    ensures within_limits { IfOk result (λ command. spec.IsWithinLimits (command_seen command)) }
+    ensures refused { IfErr result (MayRefuse (spec.command_of_tree line (tree_of bytes.now)) (λ fault.
+        Rose (H.faults host.old) (H.faults host.new) × StopsIn (tree_of bytes.now) fault)) }
+    ensures calm { IsCalm (H.faults host.old) (H.faults host.new) result }
+    ensures later { H.faults host.old ≤ H.faults host.new }
+{
+    match asked {
+        Asked::Command(command) => Ok(command),
+        Asked::Update(name) => update_of(alloc, line, bytes, name, host),
+        Asked::Batch => batch_of(alloc, line, bytes, host),
+    }
 }
 
 /// Whether the line has spaces and tabs alone.
@@ -68,41 +119,68 @@ pub fn is_blank(bytes: &[u8]) -> bool
     bytes.iter().all(|byte| *byte == b' ' || *byte == b'\t')
 }
 
-// The command of a line that is not blank, of which nothing was read yet.
-fn command_by<'a>(
+// What the fields of a request say of a line.
+#[derive(Drop)]
+pub(crate) enum Asked {
+    // It asks for this.
+    Command(Command),
+    // It asks for the update of this name.
+    Update(UpdateName),
+    // It asks for several updates.
+    Batch,
+}
+
+// What a line that is not blank asks for, of which nothing was read yet.
+fn asked_by<'a>(
     alloc: Global,
     line: u32,
     bytes: &'a [u8],
     scratch: &'a mut Scratch,
     fields: &mut [Field<'static, 'a>],
-) -> Result<Command, LineFault>
+) -> Result<Asked, LineFault>
     requires keys { map key_of fields.old ≡ line_keys }
     requires apart { AreApart fields.old }
     requires empty { All IsEmpty fields.old }
-    ensures read { IfOk result (λ command. spec.command_of_tree line (tree_of bytes.now) ≡ Ok (command_seen command)) }
-    ensures within_limits { IfOk result (λ command. spec.IsWithinLimits (command_seen command)) }
-    ensures refused { IfErr result (spec.IsFaultOf (spec.command_of_tree line (tree_of bytes.now))) }
+    ensures read { IfOk result (IsAsked line (tree_of bytes.now)) }
+    ensures refused { IfErr result (IsFaultOf (spec.command_of_tree line (tree_of bytes.now))) }
 {
     match read_fields(alloc, bytes, scratch, fields) {
-        Ok(Form::Object) => command_in(alloc, line, fields),
+        Ok(Form::Object) => asked_in(alloc, line, fields),
         Ok(Form::Other) => Err(LineFault::BadCommand(CommandPath::Cmd)),
         Err(Fault::BadJson) => Err(LineFault::BadJson),
         Err(Fault::NoMemory) => Err(LineFault::NoMemory),
     }
 }
 
-#[tactic(auto, using(crate::proofs::Stops::stops_there), unfolding(crate::specs::Fields::command_from))]
-fn command_in(alloc: Global, line: u32, fields: &[Field<'static, '_>]) -> Result<Command, LineFault>
+fn asked_in(alloc: Global, line: u32, fields: &[Field<'static, '_>]) -> Result<Asked, LineFault>
     requires { length fields.now ≡ 9 }
-    ensures read { IfOk result (λ command. command_from line fields.now ≡ Ok (command_seen command)) }
-    ensures within_limits { IfOk result (λ command. spec.IsWithinLimits (command_seen command)) }
-    ensures refused { IfErr result (spec.IsFaultOf (command_from line fields.now)) }
+    ensures read { IfOk result (Reads line fields.now) }
+    ensures refused { IfErr result (IsFaultFrom line fields.now) }
 {
-    match &field_at(fields, CommandPath::Cmd).held {
-        None => Ok(Command::Request(request_in(alloc, line, fields)?)),
-        Some(Held::Text("request")) => Ok(Command::Request(request_in(alloc, line, fields)?)),
-        Some(Held::Text("explain")) => Ok(Command::Explain(request_in(alloc, line, fields)?)),
-        Some(_) => Err(LineFault::BadCommand(CommandPath::Cmd)),
+    match name_in(field_at(fields, CommandPath::Cmd)) {
+        Some(CommandName::Request) => match request_in(alloc, line, fields) {
+            Ok(request) => Ok(Asked::Command(Command::Request(request))),
+            Err(fault) => Err(fault),
+        },
+        Some(CommandName::Explain) => match request_in(alloc, line, fields) {
+            Ok(request) => Ok(Asked::Command(Command::Explain(request))),
+            Err(fault) => Err(fault),
+        },
+        Some(CommandName::Sync) => Ok(Asked::Command(Command::Sync)),
+        Some(CommandName::Update(name)) => Ok(Asked::Update(name)),
+        Some(CommandName::Batch) => Ok(Asked::Batch),
+        None => Err(LineFault::BadCommand(CommandPath::Cmd)),
+    }
+}
+
+// What is asked for by the text in this field.
+fn name_in(cmd: &Field<'_, '_>) -> Option<CommandName>
+    ensures { result ≡ name_from (value_in cmd.now) }
+{
+    match &cmd.held {
+        None => Some(CommandName::Request),
+        Some(Held::Text(name)) => CommandName::named(name),
+        Some(_) => None,
     }
 }
 
@@ -112,7 +190,7 @@ fn request_in(alloc: Global, line: u32, fields: &[Field<'static, '_>]) -> Result
     requires { length fields.now ≡ 9 }
     ensures read { IfOk result (λ request. request_from line fields.now ≡ Ok request) }
     ensures within_limits { IfOk result IsRequest }
-    ensures refused { IfErr result (spec.IsFaultOf (request_from line fields.now)) }
+    ensures refused { IfErr result (IsFaultOf (request_from line fields.now)) }
 {
     let view = url_in(alloc, field_at(fields, CommandPath::Url))?;
     let kind = kind_in(field_at(fields, CommandPath::Kind))?;
@@ -141,4 +219,68 @@ fn request_in(alloc: Global, line: u32, fields: &[Field<'static, '_>]) -> Result
         request_headers,
         response_headers,
     })
+}
+
+// The line that asks for the update of this name.
+fn update_of<H: RegexHost>(
+    alloc: Global,
+    line: u32,
+    bytes: &[u8],
+    name: UpdateName,
+    host: &mut H,
+) -> Result<Command, LineFault>
+    requires { Asks (tree_of bytes.now) (CommandName.Update name) }
+    ensures read { IfOk result (λ command. spec.command_of_tree line (tree_of bytes.now) ≡ Ok (command_seen command)) }
+    ensures within_limits { IfOk result (λ command. spec.IsWithinLimits (command_seen command)) }
+    ensures refused { IfErr result (MayRefuse (spec.command_of_tree line (tree_of bytes.now)) (λ fault.
+        Rose (H.faults host.old) (H.faults host.new) × StopsIn (tree_of bytes.now) fault)) }
+    ensures calm { IsCalm (H.faults host.old) (H.faults host.new) result }
+    ensures later { H.faults host.old ≤ H.faults host.new }
+{
+    let tree = match read_chosen(alloc, bytes) {
+        Ok(tree) => tree,
+        Err(Fault::BadJson) => return Err(LineFault::BadJson),
+        Err(Fault::NoMemory) => return Err(LineFault::NoMemory),
+    };
+    match update_in(alloc, name, &tree, host) {
+        Ok(update) => Ok(Command::Update(update)),
+        Err(fault) => Err(fault_of(fault)),
+    }
+}
+
+// What a fault of its update is to the line.
+fn fault_of(fault: UpdateFault) -> LineFault
+    ensures { result ≡ spec.fault_of fault }
+{
+    match fault {
+        UpdateFault::BadField(field) => LineFault::BadCommand(CommandPath::Update(field)),
+        UpdateFault::RuleRefused(refusal) => LineFault::RuleRefused(refusal),
+        UpdateFault::NoMemory => LineFault::NoMemory,
+    }
+}
+
+// The line that asks for several updates.
+fn batch_of<H: RegexHost>(
+    alloc: Global,
+    line: u32,
+    bytes: &[u8],
+    host: &mut H,
+) -> Result<Command, LineFault>
+    requires { Asks (tree_of bytes.now) CommandName.Batch }
+    ensures read { IfOk result (λ command. spec.command_of_tree line (tree_of bytes.now) ≡ Ok (command_seen command)) }
+    ensures within_limits { IfOk result (λ command. spec.IsWithinLimits (command_seen command)) }
+    ensures refused { IfErr result (MayRefuse (spec.command_of_tree line (tree_of bytes.now)) (λ fault.
+        Rose (H.faults host.old) (H.faults host.new) × StopsIn (tree_of bytes.now) fault)) }
+    ensures calm { IsCalm (H.faults host.old) (H.faults host.new) result }
+    ensures later { H.faults host.old ≤ H.faults host.new }
+{
+    let tree = match read_chosen(alloc, bytes) {
+        Ok(tree) => tree,
+        Err(Fault::BadJson) => return Err(LineFault::BadJson),
+        Err(Fault::NoMemory) => return Err(LineFault::NoMemory),
+    };
+    match batch_in(alloc, &tree, host) {
+        Ok(updates) => Ok(Command::Batch(updates)),
+        Err(fault) => Err(fault),
+    }
 }

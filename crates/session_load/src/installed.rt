@@ -12,7 +12,7 @@ ghost use Rattle.session_spec.specs.Words.{folder, list};
 use crate::Stop;
 use crate::lists::{CompiledList, load_list};
 use abp_compile::Report;
-use dnr_base::{Items, NoMemory, Text};
+use dnr_base::{NoMemory, Text};
 use dnr_io::Shelf;
 use dnr_words::Installed;
 use explain_report::{write_bad_json, write_bad_manifest, write_refused_rule};
@@ -144,16 +144,9 @@ fn extension_of(alloc: Global, name: &str, list: CompiledList) -> Result<Extensi
 {
     let CompiledList { rules, report } = list;
     let Report { origins, .. } = report;
+    let id = Text::build(String::from_str(alloc, "list")?);
     let mut sets = Vec::new(alloc);
-    sets.push(RuleSet {
-        id: Text::build(String::from_str(alloc, "list")?),
-        enabled: true,
-        rules: Items::build(rules),
-        origins: Items::build(origins),
-    })?;
-    Ok(Extension {
-        name: Text::build(String::from_str(alloc, name)?),
-        sets: Items::build(sets),
-        access: None,
-    })
+    sets.push(RuleSet::build(alloc, id, true, rules, origins)?)?;
+    let name = Text::build(String::from_str(alloc, name)?);
+    Extension::build(alloc, name, sets, None)
 }

@@ -11,7 +11,7 @@ ghost use Rattle.session_spec.specs.Refusals.{refusal_line};
 
 use crate::suffixes::no_suffixes;
 use crate::{Loaded, Stop};
-use dnr_base::{Items, NoMemory, Text};
+use dnr_base::{NoMemory, Text};
 use dnr_io::Shelf;
 use dnr_rules::Rule;
 use explain_report::{write_bad_json, write_refused_rule};
@@ -81,19 +81,12 @@ pub fn load_local<F: Shelf, H: RegexHost>(
 fn local(alloc: Global, rules: Vec<Rule>) -> Result<Loaded, NoMemory>
     ensures { IfOk result (λ loaded. loaded ≡ loaded_with rules.items) }
 {
+    let id = Text::build(String::from_str(alloc, "rules")?);
     let mut sets = Vec::new(alloc);
-    sets.push(RuleSet {
-        id: Text::build(String::from_str(alloc, "rules")?),
-        enabled: true,
-        rules: Items::build(rules),
-        origins: Items::build(Vec::new(alloc)),
-    })?;
+    sets.push(RuleSet::build(alloc, id, true, rules, Vec::new(alloc))?)?;
+    let name = Text::build(String::from_str(alloc, "local")?);
     let mut extensions = Vec::new(alloc);
-    extensions.push(Extension {
-        name: Text::build(String::from_str(alloc, "local")?),
-        sets: Items::build(sets),
-        access: None,
-    })?;
+    extensions.push(Extension::build(alloc, name, sets, None)?)?;
     Ok(Loaded {
         suffixes: no_suffixes(alloc)?,
         extensions,

@@ -1,89 +1,168 @@
--- What a session prints for the lines of its script: a relation, in which a state is carried along.
-use Rattle.std.specs.Prelude.{◌≡◌, ◌⊎◌, ℕ, ◌+◌, List, [], ◌∷◌, ◌++◌, codes, Bool, true, false, not, ◌&&◌, ◌||◌, Result, Ok, Err}
-use Rattle.std.specs.List.{list_any}
-use Rattle.std.specs.Option.{option_map_or}
-use Rattle.std.specs.Str.{bytes_eq}
-use Rattle.serde_json.specs.Data.{Data}
-use Rattle.dnr_base.specs.declared.rule_name.RuleName.{RuleName}
-use Rattle.dnr_spec.specs.Lines.{is_blank}
+-- What a session says to the lines of its script: a relation, in which a state is carried along. Updates are judged on
+-- the state that the earlier lines leave. Requests are answered by seats, which may work beside the updates of their
+-- round: each on some state that its round passes through.
+use Rattle.std.specs.Prelude.{◌≡◌, ◌⊎◌, ℕ, suc, ◌+◌, ◌-◌, ◌%◌, ◌^◌, ◌≤◌, min, List, [], ◌∷◌, ◌++◌, length, slice_get, Contains, Bool, true, false, Option, Some, None, Result, Ok, Err}
+use Rattle.dnr_base.specs.Faults.{Count}
+use Rattle.dnr_base.specs.declared.request.Request.{Request}
 use Rattle.dnr_spec.specs.Suffixes.{SuffixRule}
-use Rattle.rule_spec.specs.State.{State}
-use Rattle.rule_spec.specs.Scan.{scan}
 use Rattle.rule_spec.specs.PatternRule.{NamesPattern}
-use Rattle.json_spec.specs.declared.line_fault.LineFault.{LineFault}
-use Rattle.json_spec.specs.Json.{tree_of, text_at}
-use Rattle.json_spec.specs.RequestLine.{Command, blank, request, explain, command_of}
-use Rattle.session_spec.specs.Output.{verdict_line, bad_line, fault_line, not_yet_line}
+use Rattle.rule_spec.specs.Scan.{scan}
+use Rattle.rule_spec.specs.State.{State}
+use Rattle.explain_spec.specs.Explanation.{explanation_of}
+use Rattle.update_spec.specs.declared.refusal.Refusal.{Refusal}
+use Rattle.update_spec.specs.Entries.{Entry, one, batch as together, judge, after}
+use Rattle.line_spec.specs.declared.command_path.CommandPath.TheVariants.{Cmd}
+use Rattle.line_spec.specs.declared.line_fault.LineFault.{LineFault}
+use Rattle.line_spec.specs.declared.line_fault.LineFault.TheVariants.{BadCommand}
+use Rattle.line_spec.specs.Line.{Command, blank, sync, request, explain, update, batch, command_of}
+use Rattle.line_spec.specs.Stops.{StopsInLine}
+use Rattle.session_spec.specs.Rounds.{asks}
+use Rattle.session_spec.specs.Said.{Answer, decided, explained, failed, Said, nothing, accepted, synced, refused, refused_in_batch, bad, stopped, answered, lines_text, numbers_by, NeverFall, count_failed, count_stopped}
 
--- What the answers of a session rest on beside its state: the suffix list, whether the count of the pattern host that
--- decides requests rose in the run, and whether lines that ask for updates are answered as what is not there yet.
-pub record Setting : Type 1 where
+-- What the answers of a session rest on beside its state: the suffix list, how many seats answer requests, and whether
+-- it takes updates.
+pub record Setting : Type 0 where
   pub suffixes : List SuffixRule
-  pub rose : Type 0
-  pub postpones : Bool
+  pub workers : ℕ
+  pub updates : Bool
 
--- in place of a verdict: the host failed at the pattern of a rule in force
-pub record SaysFault (rose : Type 0) (state : State) (number : ℕ) (said : List ℕ) : Type 0 where
-  pub rule : RuleName
-  pub host : rose
-  pub pattern : NamesPattern state rule
-  pub line : said ≡ fault_line number state.count rule
+-- ---- what a line asks for
 
--- A request prints its verdict or a fault, and a line that can't be read why not. A blank line prints nothing. Nothing
--- is explained yet.
-abbrev pub Says : Setting → State → ℕ → Result Command LineFault → List ℕ → Type 0
-Says setting state number (Ok blank) said = said ≡ []
-Says setting state number (Ok (request r)) said =
-    (said ≡ verdict_line number state.count (scan setting.suffixes state r)) ⊎ SaysFault setting.rose state number said
-Says setting state number (Ok (explain r)) said = said ≡ not_yet_line number
-Says setting state number (Err fault) said = said ≡ bad_line number fault
+-- a session without updates knows requests alone
+abbrev pub without_updates : Result Command LineFault → Result Command LineFault
+without_updates (Ok blank) = Ok blank
+without_updates (Ok (request r)) = Ok (request r)
+without_updates (Ok (explain r)) = Ok (explain r)
+without_updates (Ok sync) = Err (BadCommand Cmd)
+without_updates (Ok (update new)) = Err (BadCommand Cmd)
+without_updates (Ok (batch all)) = Err (BadCommand Cmd)
+without_updates (Err fault) = Err fault
 
--- ---- commands that are not there yet: their fields are not tested
+abbrev pub known_with : Bool → Result Command LineFault → Result Command LineFault
+known_with true read = read
+known_with false read = without_updates read
 
--- updates, and to wait for those before it
-abbrev pub updates : List (List ℕ)
-updates =
-    codes "dynamic" ∷ codes "session" ∷ codes "rulesets" ∷ codes "static" ∷ codes "install" ∷ codes "uninstall" ∷ codes "sync" ∷ []
+-- ---- updates
 
--- an explanation is not there in any session, and an update where the session postpones it
-abbrev pub is_postponed_name : Bool → List ℕ → Bool
-is_postponed_name postpones name = bytes_eq name (codes "explain") || (postpones && list_any (bytes_eq name) updates)
+abbrev pub said_refused : Entry → ℕ × Refusal → Said
+said_refused (one new) at = refused at.1
+said_refused (together all) at = refused_in_batch at.0 at.1
 
--- the tree is an object that asks for one of them
-abbrev pub names_postponed : Bool → Data → Bool
-names_postponed postpones d = option_map_or (is_postponed_name postpones) (text_at (codes "cmd") d) false
+-- what becomes of an update or a batch by this judgement: all of it is applied, or nothing
+abbrev pub Applies : State → Entry → Option (ℕ × Refusal) → Said → State → Type 0
+Applies now entry None said next = (said ≡ accepted (after now entry).count) × (next ≡ after now entry)
+Applies now entry (Some at) said next = (said ≡ said_refused entry at) × (next ≡ now)
 
--- a line that is not blank and asks for that
-unfoldable pub is_postponed : Bool → List ℕ → Bool
-is_postponed postpones line = not (is_blank line) && option_map_or (names_postponed postpones) (tree_of line) false
+-- ---- requests
 
--- ---- lines
+-- this is the answer to a request on this state
+abbrev pub Decides : List SuffixRule → Request → State → Answer → Type 0
+Decides suffixes r state (decided verdict) = verdict ≡ scan suffixes state r
+Decides suffixes r state (explained explanation) = ⊥
+Decides suffixes r state (failed rule) = NamesPattern state rule
 
--- such a line is answered as what is not there yet, whatever stands in its other fields
-abbrev pub Replies : Bool → Setting → State → ℕ → List ℕ → List ℕ → Type 0
-Replies true setting now number line said = said ≡ not_yet_line number
-Replies false setting now number line said = Says setting now number (command_of number line) said
+-- the same where it is to be explained
+abbrev pub Explains : List SuffixRule → Request → State → Answer → Type 0
+Explains suffixes r state (decided verdict) = ⊥
+Explains suffixes r state (explained explanation) = explanation ≡ explanation_of suffixes state r
+Explains suffixes r state (failed rule) = NamesPattern state rule
 
--- what a line of this number prints in this state
-abbrev pub Prints : Setting → State → ℕ → List ℕ → List ℕ → Type 0
-Prints setting now number line said = Replies (is_postponed setting.postpones line) setting now number line said
-
--- a line of this number, in this state, may print this, and leave that state
-pub record Answer (setting : Setting) (now : State) (number : ℕ) (line said : List ℕ) (after : State) : Type 0 where
-  pub reply : Prints setting now number line said
-  pub state : after ≡ now
-
--- what a first line said and what the others said
-pub record FirstAndRest (written : List ℕ) (First : List ℕ → State → Type 0) (Rest : State → List ℕ → Type 0) : Type 0 where
-  pub said : List ℕ
+-- the seat answers on one of these states, and says how many updates were accepted before it
+pub record IsAnswered (states : List State) (seat : ℕ) (Fits : State → Answer → Type 0) (said : Said) : Type 0 where
   pub state : State
-  pub rest : List ℕ
-  pub split : written ≡ said ++ rest
-  pub first : First said state
-  pub later : Rest state rest
+  pub answer : Answer
+  pub passed : Contains states state
+  pub fits : Fits state answer
+  pub same : said ≡ answered seat state.count answer
 
--- the lines, which are numbered from this one on, may print this, from the first state to the last
-abbrev pub Answers : Setting → State → ℕ → List (List ℕ) → List ℕ → State → Type 0
-Answers setting state number [] written last = (written ≡ []) × (last ≡ state)
-Answers setting state number (line ∷ lines) written last =
-    FirstAndRest written (λ said next. Answer setting state number line said next) (λ next rest. Answers setting next (number + 1) lines rest last)
+-- ---- a line
+
+-- What a line says that asks for this, and the state after it. `now` is the state that the earlier lines leave, and
+-- `states` are those that its round passes through.
+abbrev pub Replies : Setting → List State → State → ℕ → Result Command LineFault → Said → State → Type 0
+Replies setting states now seat (Ok blank) said next = (said ≡ nothing) × (next ≡ now)
+Replies setting states now seat (Ok sync) said next = (said ≡ synced now.count) × (next ≡ now)
+Replies setting states now seat (Ok (request r)) said next = IsAnswered states seat (Decides setting.suffixes r) said × (next ≡ now)
+Replies setting states now seat (Ok (explain r)) said next = IsAnswered states seat (Explains setting.suffixes r) said × (next ≡ now)
+Replies setting states now seat (Ok (update new)) said next = Applies now (one new) (judge now (one new)) said next
+Replies setting states now seat (Ok (batch all)) said next = Applies now (together all) (judge now (together all)) said next
+Replies setting states now seat (Err fault) said next = (said ≡ bad fault) × (next ≡ now)
+
+-- the host failed at a pattern of the line, of which nothing is refused that is tested before that
+pub record Stops (line : List ℕ) (now : State) (said : Said) (next : State) : Type 0 where
+  pub fault : LineFault
+  pub stops : StopsInLine line fault
+  pub same : said ≡ stopped fault
+  pub stays : next ≡ now
+
+-- what the line of this number says, and the state after it
+abbrev pub Says : Setting → List State → State → ℕ → ℕ → List ℕ → Said → State → Type 0
+Says setting states now number seat line said next =
+    Replies setting states now seat (known_with setting.updates (command_of number line)) said next
+    ⊎ Stops line now said next
+
+-- ---- a round
+
+-- what a first line says and what the others say; a round passes through the state before each line and the last one
+pub record FirstAndRest (now : State) (said : List Said) (states : List State) (First : Said → State → Type 0) (Rest : State → List Said → List State → Type 0) : Type 0 where
+  pub told : Said
+  pub next : State
+  pub others : List Said
+  pub later : List State
+  pub all : said ≡ told ∷ others
+  pub passes : states ≡ now ∷ later
+  pub first : First told next
+  pub rest : Rest next others later
+
+-- What lines of a round say that passes through `states`, and the states that they pass through themselves. The first
+-- has this number, and before it so many of the round asked for answers: the seats take turns.
+abbrev pub LinesSay : Setting → List State → State → ℕ → ℕ → List (List ℕ) → List Said → List State → State → Type 0
+LinesSay setting states now number asked [] said through last = (said ≡ []) × (through ≡ now ∷ []) × (last ≡ now)
+LinesSay setting states now number asked (line ∷ lines) said through last =
+    FirstAndRest now said through (λ told next. Says setting states now number (asked % setting.workers) line told next)
+    (λ next others later. LinesSay setting states next (number + 1) (asked + asks (command_of number line)) lines others later last)
+
+-- what a round says, whose first line has this number
+pub record RoundSays (setting : Setting) (now : State) (number : ℕ) (lines : List (List ℕ)) (said : List Said) (last : State) : Type 0 where
+  pub states : List State
+  pub says : LinesSay setting states now number 0 lines said states last
+
+-- ---- rounds
+
+-- what a first round says and what the others say
+pub record RoundAndRest (said : List Said) (Round : List Said → State → Type 0) (Rest : State → List Said → Type 0) : Type 0 where
+  pub told : List Said
+  pub next : State
+  pub others : List Said
+  pub all : said ≡ told ++ others
+  pub first : Round told next
+  pub rest : Rest next others
+
+-- what rounds say one after another, the first line of which has this number
+abbrev pub RoundsSay : Setting → State → ℕ → List (List (List ℕ)) → List Said → State → Type 0
+RoundsSay setting now number [] said last = (said ≡ []) × (last ≡ now)
+RoundsSay setting now number (round ∷ rounds) said last =
+    RoundAndRest said (λ told next. RoundSays setting now number round told next)
+    (λ next others. RoundsSay setting next (number + length round) rounds others last)
+
+-- ---- what is written
+
+-- a count of faults rose so often, as far as counts go
+abbrev pub RisesBy : ℕ → Count → Type 0
+RisesBy times count = min (count.before + times) (2 ^ 64 - 1) ≤ count.now
+
+abbrev pub HostRisesBy : ℕ → Option Count → Type 0
+HostRisesBy times None = times ≡ 0
+HostRisesBy times (Some count) = RisesBy times count
+
+-- These rounds were served from this state on, and their lines are what was written. The numbers of a seat never fall.
+-- Each `fault` is a rise of the count of its seat's host, and each line that is refused as the host failed is one of the
+-- first host's.
+pub record Serves (hosts : List Count) (setting : Setting) (first : State) (rounds : List (List (List ℕ))) (written : List ℕ) : Type 0 where
+  pub said : List Said
+  pub last : State
+  pub says : RoundsSay setting first 1 rounds said last
+  pub order : (seat : ℕ) → NeverFall (numbers_by seat said)
+  pub text : written ≡ lines_text 1 said
+  pub finders : (seat : ℕ) → HostRisesBy (count_failed seat said) (slice_get hosts (suc seat))
+  pub checker : HostRisesBy (count_stopped said) (slice_get hosts 0)

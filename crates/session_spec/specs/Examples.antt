@@ -1,17 +1,17 @@
 -- Examples, each computed from the definitions alone.
-use Rattle.std.specs.Prelude.{◌≡◌, ℕ, ◌+◌, List, [], ◌∷◌, ◌++◌, codes, false, Some, None, Result, Ok, Err, replicate, bytes_eq, if◌then◌else◌}
+use Rattle.std.specs.Prelude.{◌≡◌, ℕ, List, [], ◌∷◌, ◌++◌, codes, false, true, Some, None, Result, Ok, Err, replicate, bytes_eq, if◌then◌else◌}
 use Rattle.dnr_base.specs.Faults.{Count}
 use Rattle.dnr_spec.specs.declared.status.Status.TheVariants as status
 use Rattle.dnr_spec.specs.Lines.{lines_of}
 use Rattle.rule_spec.specs.declared.rule_kind.RuleKind.TheVariants.{Static, Session}
 use Rattle.rule_spec.specs.Rule.{Rule}
 use Rattle.rule_spec.specs.State.{State}
-use Rattle.rule_spec.specs.Scan.{scan}
 use Rattle.json_spec.specs.RulesFile.{FileRefusal, rules_of}
-use Rattle.json_spec.specs.declared.line_fault.LineFault.{LineFault}
-use Rattle.json_spec.specs.RequestLine.{Command, blank, request, explain, command_of}
-use Rattle.session_spec.specs.Answers.{is_postponed}
-use Rattle.session_spec.specs.Output.{verdict_line, bad_line, not_yet_line}
+use Rattle.session_spec.specs.Answers.{Setting}
+use Rattle.session_spec.specs.InTurn.{rounds_in_turn}
+use Rattle.session_spec.specs.Rounds.{rounds_of, whole_rounds_of, ended_lines}
+use Rattle.session_spec.specs.Said.{lines_text}
+use Rattle.update_spec.specs.Update.{installed}
 use Rattle.dnr_spec.specs.declared.suffix_refusal.SuffixRefusal.TheVariants.{NotUtf8, BadRule, TooManyRules}
 use Rattle.list_spec.specs.declared.reason.Reason.TheVariants.{ElementHiding, UnknownOption}
 use Rattle.list_spec.specs.LineKind as list
@@ -23,34 +23,30 @@ use Rattle.session_spec.specs.Refusals.{refusal_line, refused_file_line, suffixe
 use Rattle.session_spec.specs.Words.{folder, list as from_list, match_files, check_file, compile_file, serve_script, task_of}
 use Rattle.load_spec.specs.Files.{Files}
 use Rattle.update_spec.specs.Entries.{RefusedInstall, opening}
-use Rattle.session_spec.specs.Out.{Counts, local, compiled_text, Out}
+use Rattle.session_spec.specs.Out.{Outside, local, compiled_text, Out}
 
--- ---- what `match` writes where no host fails
+-- ---- what is written where no host fails, and each line is answered on the state before it
 
-abbrev pub reply_to : State → ℕ → Result Command LineFault → List ℕ
-reply_to state number (Ok blank) = []
-reply_to state number (Ok (request r)) = verdict_line number state.count (scan [] state r)
-reply_to state number (Ok (explain r)) = not_yet_line number
-reply_to state number (Err fault) = bad_line number fault
+-- what a session prints for a script
+abbrev pub replies : Setting → State → List ℕ → List ℕ
+replies setting state script = lines_text 1 (rounds_in_turn setting state 1 (rounds_of (lines_of script)))
 
-abbrev pub reply_of : State → ℕ → List ℕ → List ℕ
-reply_of state number line =
-    if is_postponed false line then not_yet_line number else reply_to state number (command_of number line)
+-- the setting of `match`, and of a `serve` without a suffix list
+abbrev pub matching : Setting
+matching = record { suffixes = []; workers = 1; updates = false }
 
--- the replies to the lines, which are numbered from this one on
-abbrev pub replies : State → ℕ → List (List ℕ) → List ℕ
-replies state number [] = []
-replies state number (line ∷ lines) = reply_of state number line ++ replies state (number + 1) lines
+abbrev pub serving : Setting
+serving = record { suffixes = []; workers = 1; updates = true }
 
 abbrev replies_in : Result State RefusedInstall → List ℕ → List ℕ
-replies_in (Ok state) script = replies state 1 (lines_of script)
+replies_in (Ok state) script = replies matching state script
 replies_in (Err refused) script = install_line refused
 
 abbrev written_for : Result (List Rule) FileRefusal → List ℕ → List ℕ
 written_for (Ok rules) script = replies_in (opening (local rules ∷ [])) script
 written_for (Err refusal) script = refusal_line (codes "r.json") refusal
 
--- the bytes that are written for a rules file `r.json` and a script
+-- the bytes that `match` writes for a rules file `r.json` and a script
 abbrev pub written : List ℕ → List ℕ → List ℕ
 written file script = written_for (rules_of Static file) script
 
@@ -125,13 +121,47 @@ BrokenLinesAreBad =
     ++ codes "{\"line\":4,\"bad\":\"command\",\"path\":\"type\"}\n"
     ++ codes "{\"line\":5,\"generation\":0,\"verdict\":\"none\"}\n"
 
--- Explanations are not there yet, whatever stands beside their name; `match` has no updates.
-abbrev pub ExplanationsAreLater : Type 0
-ExplanationsAreLater =
-    written (codes "[]") (codes "{\"cmd\":\"explain\"}\n{\"cmd\":\"sync\"}\n{\"cmd\":\"explain\"\n")
-    ≡ codes "{\"line\":1,\"bad\":\"not-yet-supported\"}\n"
+-- `match` has no updates: what reads as one is a bad line, and what does not says its own fault.
+abbrev pub MatchTakesNoUpdates : Type 0
+MatchTakesNoUpdates =
+    written (codes "[]") (codes "{\"cmd\":\"sync\"}\n{\"cmd\":\"uninstall\",\"extension\":\"a\"}\n{\"cmd\":\"rulesets\"}\n")
+    ≡ codes "{\"line\":1,\"bad\":\"command\",\"path\":\"cmd\"}\n"
     ++ codes "{\"line\":2,\"bad\":\"command\",\"path\":\"cmd\"}\n"
-    ++ codes "{\"line\":3,\"bad\":\"json\"}\n"
+    ++ codes "{\"line\":3,\"bad\":\"command\",\"path\":\"extension\"}\n"
+
+-- ---- updates
+
+-- the extension `a` without rules
+abbrev pub bare : State
+bare = record { extensions = installed (record { name = codes "a"; sets = []; access = None }) ∷ []; count = 0 }
+
+-- adds a dynamic rule of this id that blocks everything
+abbrev pub adding : List ℕ → List ℕ
+adding id =
+    codes "{\"cmd\":\"dynamic\",\"extension\":\"a\",\"addRules\":[" ++ rule_text (codes "\"id\":" ++ id) (codes "block") ++ codes "]}"
+
+-- An update that is accepted decides what comes after it, and a refused one changes nothing.
+abbrev pub UpdatesAreJudgedInTurn : Type 0
+UpdatesAreJudgedInTurn =
+    replies serving bare (request_line (codes "script") ++ codes "\n" ++ adding (codes "7") ++ codes "\n" ++ adding (codes "7") ++ codes "\n{\"cmd\":\"sync\"}\n" ++ request_line (codes "script") ++ codes "\n")
+    ≡ codes "{\"line\":1,\"generation\":0,\"verdict\":\"none\"}\n"
+    ++ codes "{\"line\":2,\"accepted\":1}\n"
+    ++ codes "{\"line\":3,\"refused\":\"duplicate-id\",\"id\":7}\n"
+    ++ codes "{\"line\":4,\"sync\":1}\n"
+    ++ codes "{\"line\":5,\"generation\":1,\"verdict\":\"block\",\"rule\":[\"a\",\"_dynamic\",7]}\n"
+
+-- ---- rounds
+
+abbrev pub sync_line_text : List ℕ
+sync_line_text = codes "{\"cmd\":\"sync\"}"
+
+-- A `sync` ends its round. What stands after it is a round of its own, and no whole one before it has ended too.
+abbrev pub SyncEndsARound : Type 0
+SyncEndsARound =
+    (rounds_of (codes "x" ∷ sync_line_text ∷ codes "y" ∷ []) ≡ (codes "x" ∷ sync_line_text ∷ []) ∷ (codes "y" ∷ []) ∷ [])
+    × (whole_rounds_of (codes "x" ∷ sync_line_text ∷ codes "y" ∷ []) ≡ (codes "x" ∷ sync_line_text ∷ []) ∷ [])
+    × (rounds_of [] ≡ [])
+    × (ended_lines (codes "x\r\ny\nz") ≡ codes "x" ∷ codes "y" ∷ [])
 
 -- A priority that is null is not an absent one.
 abbrev pub NullIsPresent : Type 0
@@ -207,9 +237,10 @@ CompileTakesAFile =
 -- `serve` takes options in any order and then a script; what is installed keeps its order.
 abbrev pub ServeTakesOptions : Type 0
 ServeTakesOptions =
-    (task_of (codes "serve" ∷ codes "s" ∷ []) ≡ Some (serve_script (record { suffixes = None; installed = []; script = codes "s" })))
+    (task_of (codes "serve" ∷ codes "s" ∷ []) ≡ Some (serve_script (record { workers = 1; suffixes = None; installed = []; script = codes "s" })))
     × (task_of (codes "serve" ∷ codes "--list" ∷ codes "l=e=f" ∷ codes "--psl" ∷ codes "p.dat" ∷ codes "--ext" ∷ codes "shop" ∷ codes "s" ∷ [])
     ≡ Some (serve_script (record {
+      workers = 1;
       suffixes = Some (codes "p.dat");
       installed = from_list (codes "l") (codes "e=f") ∷ folder (codes "shop") ∷ [];
       script = codes "s";
@@ -260,22 +291,20 @@ CompiledListsAreReported =
 
 -- ---- statuses
 
--- a file `r.json` without rules, and a script `s.jsonl` of one request
+-- a file `r.json` without rules, and a script `s.jsonl` of one blank line
 abbrev pub two_files : Files
-two_files name = if bytes_eq name (codes "r.json") then Some (codes "[]") else (if bytes_eq name (codes "s.jsonl") then Some (request_line (codes "script") ++ codes "\n") else None)
+two_files name = if bytes_eq name (codes "r.json") then Some (codes "[]") else (if bytes_eq name (codes "s.jsonl") then Some (codes " \n") else None)
 
 -- no fault
 abbrev pub no_fault : Count
 no_fault = record { before = 0; now = 0 }
 
-abbrev pub none : Counts
-none = record { shelf = no_fault; sink = no_fault; hosts = no_fault ∷ no_fault ∷ [] }
+abbrev pub none : Outside
+none = record { shelf = no_fault; sink = no_fault; hosts = no_fault ∷ no_fault ∷ []; left = [] }
 
--- The two files are served, with the one line that says `none`.
+-- The two files are served, and a blank line prints nothing.
 abbrev pub TwoFilesAreServed : Type 0
-TwoFilesAreServed =
-    Out (codes "match" ∷ codes "r.json" ∷ codes "s.jsonl" ∷ []) two_files none status.Done
-    (codes "{\"line\":1,\"generation\":0,\"verdict\":\"none\"}\n")
+TwoFilesAreServed = Out (codes "match" ∷ codes "r.json" ∷ codes "s.jsonl" ∷ []) two_files none status.Done []
 
 -- A file without rules is counted.
 abbrev pub RulesAreCounted : Type 0

@@ -1,7 +1,11 @@
 pub mod Refusals
 pub mod Output
 pub mod Words
+pub mod LineExamples
+pub mod Said
+pub mod Rounds
 pub mod Answers
+pub mod InTurn
 pub mod Loading
 pub mod Out
 pub mod Examples

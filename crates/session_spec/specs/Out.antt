@@ -1,6 +1,6 @@
 -- What a command may do: the statuses that it may end with, and the bytes that it may write on each, for its words,
--- what the files hold, and how the counts of faults rose.
-use Rattle.std.specs.Prelude.{◌≡◌, ◌⊎◌, ℕ, List, [], ◌∷◌, ◌++◌, length, codes, slice_get, Bool, true, false, Option, Some, None, Ok, Err}
+-- what the files hold, and what came from outside.
+use Rattle.std.specs.Prelude.{◌≡◌, ◌⊎◌, ℕ, ◌+◌, List, [], ◌∷◌, ◌++◌, length, codes, slice_get, take, Bool, true, false, Option, Some, None, Ok, Err}
 use Rattle.dnr_spec.specs.declared.status.Status.{Status}
 use Rattle.dnr_spec.specs.declared.status.Status.TheVariants as status
 use Rattle.dnr_spec.specs.Lines.{lines_of, is_within_limits}
@@ -18,39 +18,44 @@ use Rattle.load_spec.specs.Files.{Files, HoldsRules, HoldsLongFile}
 use Rattle.update_spec.specs.Update.{NewExtension}
 use Rattle.update_spec.specs.Entries.{RefusedInstall, opening}
 use Rattle.session_spec.specs.Refusals.{install_line, count_line, unsupported_lines}
-use Rattle.session_spec.specs.Answers.{Setting, Answers}
+use Rattle.session_spec.specs.Answers.{Setting, Serves}
 use Rattle.session_spec.specs.Loading.{PrintsRefusedRules, HoldsList, PrintsRefusedList, Loaded, Loads, RefusesFile, HasLongFileIn}
+use Rattle.session_spec.specs.Rounds.{rounds_of, whole_rounds_of, short_lines, ended_lines}
 use Rattle.session_spec.specs.Words.{Serving, Task, match_files, check_file, compile_file, serve_script, task_of}
 
--- How often each thing outside had failed before the call, and after it. The first pattern host reads files, and each
--- other decides requests.
-pub record Counts : Type 0 where
+-- What came from outside in a call: how often each thing had failed before it and after it, and what the file that is
+-- read from first to last has left. The first pattern host reads files and lines, and each other decides requests.
+pub record Outside : Type 0 where
   pub shelf : Count
   pub sink : Count
   pub hosts : List Count
+  pub left : List ℕ
 
 abbrev pub HasRisen : Option Count → Type 0
 HasRisen None = ⊥
 HasRisen (Some count) = Rose count.before count.now
 
 -- the count of the host at this place rose
-abbrev pub HostRose : Counts → ℕ → Type 0
-HostRose counts place = HasRisen (slice_get counts.hosts place)
+abbrev pub HostRose : Outside → ℕ → Type 0
+HostRose outside place = HasRisen (slice_get outside.hosts place)
 
 -- ---- scripts
 
--- the file is a script of these lines
-pub record HoldsLines (files : Files) (name : List ℕ) (lines : List (List ℕ)) : Type 0 where
-  pub script : List ℕ
+-- the file is a script of these bytes, and within the limits
+pub record HoldsScript (files : Files) (name script : List ℕ) : Type 0 where
   pub held : files name ≡ Some script
   pub within : is_within_limits script ≡ true
-  pub same : lines ≡ lines_of script
 
 -- the file is a script with a line that is too long, or with too many lines
-pub record HoldsTooMuch (files : Files) (name : List ℕ) : Type 0 where
-  pub script : List ℕ
+pub record HoldsTooMuch (files : Files) (name script : List ℕ) : Type 0 where
   pub held : files name ≡ Some script
   pub beyond : is_within_limits script ≡ false
+
+-- the file is a script that gave these bytes, and has others left
+pub record HoldsGiven (files : Files) (name given left : List ℕ) : Type 0 where
+  pub script : List ℕ
+  pub held : files name ≡ Some script
+  pub split : script ≡ given ++ left
 
 -- ---- rules files
 
@@ -98,29 +103,67 @@ abbrev pub LoadsFor : Files → Session → Loaded → Type 0
 LoadsFor files (of_rules name) loaded = (rules : List Rule) × HoldsRules files Static name rules × (loaded ≡ loaded_with rules)
 LoadsFor files (of_words serving) loaded = Loads files serving loaded
 
--- `match` has no other commands than requests; `serve` will have updates
-abbrev pub postpones : Session → Bool
-postpones (of_rules name) = false
-postpones (of_words serving) = true
+-- `match` has no other commands than requests
+abbrev pub takes_updates : Session → Bool
+takes_updates (of_rules name) = false
+takes_updates (of_words serving) = true
 
--- the second host decides
-abbrev pub setting_for : Counts → Session → List SuffixRule → Setting
-setting_for counts session suffixes = record { suffixes = suffixes; rose = HostRose counts 1; postpones = postpones session }
+abbrev pub workers_of : Session → ℕ
+workers_of (of_rules name) = 1
+workers_of (of_words serving) = serving.workers
+
+abbrev pub setting_of : Session → List SuffixRule → Setting
+setting_of session suffixes = record {
+  suffixes = suffixes;
+  workers = workers_of session;
+  updates = takes_updates session;
+}
 
 -- all was read and installed, and the session begins in this state
 pub record Opens (files : Files) (session : Session) (loaded : Loaded) (state : State) : Type 0 where
   pub read : LoadsFor files session loaded
   pub installed : opening loaded.extensions ≡ Ok state
 
--- each line of the script was answered
-pub record IsServed (files : Files) (counts : Counts) (session : Session) (script_name written : List ℕ) : Type 0 where
+-- all was read and installed, and of a script that is so these rounds were served
+pub record IsServed (files : Files) (outside : Outside) (session : Session) (Script : List ℕ → Type 0) (rounds_in : List ℕ → List (List (List ℕ))) (written : List ℕ) : Type 0 where
   pub loaded : Loaded
   pub first : State
   pub opens : Opens files session loaded first
-  pub lines : List (List ℕ)
-  pub script : HoldsLines files script_name lines
-  pub last : State
-  pub output : Answers (setting_for counts session loaded.suffixes) first 1 lines written last
+  pub script : List ℕ
+  pub holds : Script script
+  pub serves : Serves outside.hosts (setting_of session loaded.suffixes) first (rounds_in script) written
+
+-- the script is within the limits, and all its rounds were served
+abbrev pub ServesAll : Files → Outside → Session → List ℕ → List ℕ → Type 0
+ServesAll files outside session name =
+    IsServed files outside session (HoldsScript files name) (λ script. rounds_of (lines_of script))
+
+-- the script is too long, and the rounds were served that are whole before what is too long
+abbrev pub ServesShort : Files → Outside → Session → List ℕ → List ℕ → Type 0
+ServesShort files outside session name =
+    IsServed files outside session (HoldsTooMuch files name) (λ script. whole_rounds_of (short_lines script))
+
+-- the rounds were served that are whole in what the script gave
+abbrev pub ServesGiven : Files → Outside → Session → List ℕ → List ℕ → Type 0
+ServesGiven files outside session name =
+    IsServed files outside session (λ given. HoldsGiven files name given outside.left) (λ given. whole_rounds_of (ended_lines given))
+
+-- the same where it gave all, and its end was told before the fault: then its last line needs no LF
+abbrev pub ServesToEnd : Files → Outside → Session → List ℕ → List ℕ → Type 0
+ServesToEnd files outside session name =
+    IsServed files outside session (λ script. (files name ≡ Some script) × (outside.left ≡ [])) (λ script. whole_rounds_of (short_lines script))
+
+-- what is written where a file can't be read on: nothing, where it is not the script, and of the script its whole rounds
+abbrev pub WritesUnread : Files → Outside → Session → List ℕ → List ℕ → Type 0
+WritesUnread files outside session name written =
+    (written ≡ [])
+    ⊎ ServesGiven files outside session name written
+    ⊎ ServesToEnd files outside session name written
+
+-- some first rounds were served of those that are whole, of a script that may be too long
+pub record ServesSome (files : Files) (outside : Outside) (session : Session) (name written : List ℕ) : Type 0 where
+  pub count : ℕ
+  pub served : IsServed files outside session (λ script. files name ≡ Some script) (λ script. take count (whole_rounds_of (short_lines script))) written
 
 -- all was read, and an extension is not installed
 pub record IsNotInstalled (files : Files) (session : Session) (written : List ℕ) : Type 0 where
@@ -131,97 +174,91 @@ pub record IsNotInstalled (files : Files) (session : Session) (written : List �
   pub output : written ≡ install_line refused
 
 -- a file is refused that is read before the script
-abbrev pub RefusesFileOf : Files → Counts → Session → List ℕ → Type 0
-RefusesFileOf files counts (of_rules name) written = PrintsRefusedRules files (HostRose counts 0) Static name written
-RefusesFileOf files counts (of_words serving) written = RefusesFile files (HostRose counts 0) serving written
+abbrev pub RefusesFileOf : Files → Outside → Session → List ℕ → Type 0
+RefusesFileOf files outside (of_rules name) written = PrintsRefusedRules files (HostRose outside 0) Static name written
+RefusesFileOf files outside (of_words serving) written = RefusesFile files (HostRose outside 0) serving written
 
 -- a file is too long that is read before the script
 abbrev pub HasLongFileOf : Files → Session → Type 0
 HasLongFileOf files (of_rules name) = HoldsLongFile files name
 HasLongFileOf files (of_words serving) = HasLongFileIn files serving
 
--- all was read and installed, and the script is too long
-pub record HasLongScript (files : Files) (session : Session) (script_name : List ℕ) : Type 0 where
-  pub loaded : Loaded
-  pub first : State
-  pub opens : Opens files session loaded first
-  pub script : HoldsTooMuch files script_name
+-- a file is refused that is read before the script, or an extension is not installed
+abbrev pub RefusesSession : Files → Outside → Session → List ℕ → Type 0
+RefusesSession files outside session written = RefusesFileOf files outside session written ⊎ IsNotInstalled files session written
 
 -- ---- what a command writes
 
--- What a command writes to the last byte, where it ends with Done and where it ends with Refused: the two statuses that
--- say all there is to say.
-abbrev pub SaysAll : (List ℕ → Type 0) → (List ℕ → Type 0) → Status → List ℕ → Type 0
-SaysAll Done Refused status.Done written = Done written
-SaysAll Done Refused status.Refused written = Refused written
-SaysAll Done Refused status.Usage written = ⊥
-SaysAll Done Refused status.ReadFault written = ⊥
-SaysAll Done Refused status.WriteFault written = ⊥
-SaysAll Done Refused status.NoMemory written = ⊥
-SaysAll Done Refused status.FileTooLong written = ⊥
+-- What a command writes where it ends with Done, where it ends with Refused, where a file can't be read on, and where a
+-- file is too long; and what it may have written at some moment, of which a failing sink has taken a beginning.
+pub record Conduct : Type 1 where
+  pub Done : List ℕ → Type 0
+  pub Refused : List ℕ → Type 0
+  pub Unread : List ℕ → Type 0
+  pub TooLong : List ℕ → Type 0
+  pub Meanwhile : List ℕ → Type 0
 
--- a file is refused that is read before the script, or an extension is not installed
-abbrev pub RefusesSession : Files → Counts → Session → List ℕ → Type 0
-RefusesSession files counts session written = RefusesFileOf files counts session written ⊎ IsNotInstalled files session written
+-- A command that writes one text when all is read. What is too long leaves nothing written.
+abbrev pub at_once : (List ℕ → Type 0) → (List ℕ → Type 0) → Type 0 → Conduct
+at_once Done Refused TooLong = record {
+  Done = Done;
+  Refused = Refused;
+  Unread = λ written. written ≡ [];
+  TooLong = λ written. TooLong × (written ≡ []);
+  Meanwhile = λ written. Done written ⊎ Refused written;
+}
 
-abbrev pub SessionWrites : Files → Counts → Session → List ℕ → Status → List ℕ → Type 0
-SessionWrites files counts session script = SaysAll (IsServed files counts session script) (RefusesSession files counts session)
+-- a session writes round by round
+abbrev pub in_rounds : Files → Outside → Session → List ℕ → Conduct
+in_rounds files outside session script = record {
+  Done = ServesAll files outside session script;
+  Refused = RefusesSession files outside session;
+  Unread = WritesUnread files outside session script;
+  TooLong = λ written. (HasLongFileOf files session × (written ≡ [])) ⊎ ServesShort files outside session script written;
+  Meanwhile = λ written. ServesAll files outside session script written ⊎ ServesSome files outside session script written ⊎ RefusesSession files outside session written;
+}
 
-abbrev pub Writes : Files → Counts → Task → Status → List ℕ → Type 0
-Writes files counts (match_files rules script) = SessionWrites files counts (of_rules rules) script
-Writes files counts (check_file kind rules) = SaysAll (IsCounted files kind rules) (PrintsRefusedRules files (HostRose counts 0) kind rules)
-Writes files counts (compile_file name) = SaysAll (IsCompiled files name) (PrintsRefusedList files (HostRose counts 0) name)
-Writes files counts (serve_script serving) = SessionWrites files counts (of_words serving) serving.script
+abbrev pub conduct_of : Files → Outside → Task → Conduct
+conduct_of files outside (match_files rules script) = in_rounds files outside (of_rules rules) script
+conduct_of files outside (check_file kind name) =
+    at_once (IsCounted files kind name) (PrintsRefusedRules files (HostRose outside 0) kind name) (HoldsLongFile files name)
+conduct_of files outside (compile_file name) =
+    at_once (IsCompiled files name) (PrintsRefusedList files (HostRose outside 0) name) (HoldsLongFile files name)
+conduct_of files outside (serve_script serving) = in_rounds files outside (of_words serving) serving.script
 
--- some first bytes of what a command writes that says all
-pub record IsBeginning (Writes : Status → List ℕ → Type 0) (written : List ℕ) : Type 0 where
+-- some first bytes of what may be written
+pub record IsBeginning (May : List ℕ → Type 0) (written : List ℕ) : Type 0 where
   pub rest : List ℕ
-  pub ended : Status
-  pub whole : Writes ended (written ++ rest)
+  pub whole : May (written ++ rest)
 
 -- ---- how it ends
 
--- a session has too much to read: a file, or its script after the files were read
-abbrev pub SessionHasTooMuch : Files → Session → List ℕ → Type 0
-SessionHasTooMuch files session script = HasLongFileOf files session ⊎ HasLongScript files session script
-
--- what is too long where a command ends so
-abbrev pub HasTooMuch : Files → Task → Type 0
-HasTooMuch files (match_files rules script) = SessionHasTooMuch files (of_rules rules) script
-HasTooMuch files (check_file kind rules) = HoldsLongFile files rules
-HasTooMuch files (compile_file name) = HoldsLongFile files name
-HasTooMuch files (serve_script serving) = SessionHasTooMuch files (of_words serving) serving.script
-
--- What a status says of a command that writes so, and that may have too much to read: the event that the status comes
--- from, and what was written.
-abbrev pub EndsBy : Counts → (Status → List ℕ → Type 0) → Type 0 → Status → List ℕ → Type 0
-EndsBy counts Writes TooMuch status.Done written = Writes status.Done written
-EndsBy counts Writes TooMuch status.Refused written = Writes status.Refused written
-EndsBy counts Writes TooMuch status.Usage written = ⊥
-EndsBy counts Writes TooMuch status.ReadFault written = Rose counts.shelf.before counts.shelf.now × (written ≡ [])
-EndsBy counts Writes TooMuch status.WriteFault written = Rose counts.sink.before counts.sink.now × IsBeginning Writes written
-EndsBy counts Writes TooMuch status.NoMemory written = (written ≡ []) ⊎ IsBeginning Writes written
-EndsBy counts Writes TooMuch status.FileTooLong written = TooMuch × (written ≡ [])
-
-abbrev pub Ends : Files → Counts → Task → Status → List ℕ → Type 0
-Ends files counts task = EndsBy counts (Writes files counts task) (HasTooMuch files task)
+-- What a status says of a command of this conduct: the event that the status comes from, and what was written.
+abbrev pub EndsBy : Outside → Conduct → Status → List ℕ → Type 0
+EndsBy outside conduct status.Done written = conduct.Done written
+EndsBy outside conduct status.Refused written = conduct.Refused written
+EndsBy outside conduct status.Usage written = ⊥
+EndsBy outside conduct status.ReadFault written = Rose outside.shelf.before outside.shelf.now × conduct.Unread written
+EndsBy outside conduct status.WriteFault written = Rose outside.sink.before outside.sink.now × IsBeginning conduct.Meanwhile written
+EndsBy outside conduct status.NoMemory written = (written ≡ []) ⊎ IsBeginning conduct.Meanwhile written
+EndsBy outside conduct status.FileTooLong written = conduct.TooLong written
 
 -- words that say no command end with Usage alone, and write nothing
-abbrev pub EndsFor : Files → Counts → Option Task → Status → List ℕ → Type 0
-EndsFor files counts None ended written = (ended ≡ status.Usage) × (written ≡ [])
-EndsFor files counts (Some task) ended written = Ends files counts task ended written
+abbrev pub EndsFor : Files → Outside → Option Task → Status → List ℕ → Type 0
+EndsFor files outside None ended written = (ended ≡ status.Usage) × (written ≡ [])
+EndsFor files outside (Some task) ended written = EndsBy outside (conduct_of files outside task) ended written
 
--- This status and these bytes are allowed for these words, files and faults. Done and Refused say what was written to
--- the last byte; of a run that stops in its output it is a beginning of that.
-abbrev pub Out : List (List ℕ) → Files → Counts → Status → List ℕ → Type 0
-Out words files counts ended written = EndsFor files counts (task_of words) ended written
+-- This status and these bytes are allowed for these words, files and faults.
+abbrev pub Out : List (List ℕ) → Files → Outside → Status → List ℕ → Type 0
+Out words files outside ended written = EndsFor files outside (task_of words) ended written
 
--- the statuses on which nothing is written, whatever the shelf tells: a script is read whole before it is answered
-abbrev pub IsSilent : Status → Type 0
-IsSilent status.Done = ⊥
-IsSilent status.Refused = ⊥
-IsSilent status.Usage = Unit {0}
-IsSilent status.ReadFault = Unit {0}
-IsSilent status.WriteFault = ⊥
-IsSilent status.NoMemory = ⊥
-IsSilent status.FileTooLong = Unit {0}
+-- one host reads files and lines, and each worker has one of its own
+abbrev pub hosts_of_task : Task → ℕ
+hosts_of_task (match_files rules script) = 2
+hosts_of_task (check_file kind name) = 2
+hosts_of_task (compile_file name) = 2
+hosts_of_task (serve_script serving) = serving.workers + 1
+
+abbrev pub hosts_needed : Option Task → ℕ
+hosts_needed None = 2
+hosts_needed (Some task) = hosts_of_task task

@@ -1,6 +1,7 @@
 -- How refusals are written. A refused rule has its code, its place and id, and the path or the reason where the code
 -- has one.
-use Rattle.std.specs.Prelude.{ℕ, List, [], ◌∷◌, ◌++◌, codes, decimal, Option, Some, None}
+use Rattle.std.specs.Prelude.{ℕ, List, [], ◌∷◌, ◌++◌, codes, decimal, ℤ, pos, Option, Some, None}
+use Rattle.std.specs.Fmt.{signed_decimal}
 use Rattle.json.specs.Print.{quoted}
 use Rattle.dnr_spec.specs.declared.pattern_refusal.PatternRefusal.{PatternRefusal}
 use Rattle.dnr_spec.specs.declared.pattern_refusal.PatternRefusal.TheVariants as pattern
@@ -109,11 +110,16 @@ abbrev pub id_text : Option ℕ → List ℕ
 id_text None = codes "null"
 id_text (Some id) = decimal id
 
+-- the ruleset that the list belongs to, where several are read at once
+abbrev pub ruleset_field : Option (List ℕ) → List ℕ
+ruleset_field None = []
+ruleset_field (Some id) = codes ",\"ruleset\":" ++ quoted id
+
 -- the code of a refused rule of a list, and its fields
 abbrev pub rule_fields : PlacedRefusal → List ℕ
 rule_fields refusal =
     codes "\"" ++ rule_code refusal.cause ++ codes "\",\"place\":" ++ decimal refusal.place ++ codes ",\"id\":" ++ id_text refusal.id
-    ++ detail_field (detail_of refusal.cause)
+    ++ detail_field (detail_of refusal.cause) ++ ruleset_field refusal.set
 
 abbrev pub file_fields : FileRefusal → List ℕ
 file_fields bad_json = codes "\"bad-json\""
@@ -181,36 +187,62 @@ update_code (update.DisabledLimit count) = codes "disabled-limit"
 update_code (update.TooManyUpdates count) = codes "too-many-updates"
 update_code update.NoMemory = no_memory
 
--- the count that a limit is compared with
-abbrev pub update_count : Refusal → Option ℕ
-update_count (update.NoExtension name) = None
-update_count (update.ExtensionThere name) = None
-update_count (update.NoRuleset id) = None
-update_count (update.DuplicateId id) = None
-update_count (update.NoStaticRule id) = None
-update_count (update.BothLists id) = None
-update_count (update.ExtensionLimit count) = Some count
-update_count (update.RulesetLimit count) = Some count
-update_count (update.RulesLimit count) = Some count
-update_count (update.EnabledLimit count) = Some count
-update_count (update.PoolLimit count) = Some count
-update_count (update.DynamicLimit count) = Some count
-update_count (update.UnsafeLimit count) = Some count
-update_count (update.SessionLimit count) = Some count
-update_count (update.RegexLimit count) = Some count
-update_count (update.DisabledLimit count) = Some count
-update_count (update.TooManyUpdates count) = Some count
-update_count update.NoMemory = None
+-- what a refusal of an update adds to its code: what it names, or the count that a limit is compared with
+pub data UpdateDetail : Type 0 where
+  alone : UpdateDetail
+  of_extension : List ℕ → UpdateDetail
+  of_ruleset : List ℕ → UpdateDetail
+  of_id : ℤ → UpdateDetail
+  of_count : ℕ → UpdateDetail
 
-abbrev pub count_field : Option ℕ → List ℕ
-count_field None = []
-count_field (Some count) = codes ",\"count\":" ++ decimal count
+abbrev pub update_detail : Refusal → UpdateDetail
+update_detail (update.NoExtension name) = of_extension name
+update_detail (update.ExtensionThere name) = of_extension name
+update_detail (update.NoRuleset id) = of_ruleset id
+update_detail (update.DuplicateId id) = of_id (pos id)
+update_detail (update.NoStaticRule id) = of_id id
+update_detail (update.BothLists id) = of_id id
+update_detail (update.ExtensionLimit count) = of_count count
+update_detail (update.RulesetLimit count) = of_count count
+update_detail (update.RulesLimit count) = of_count count
+update_detail (update.EnabledLimit count) = of_count count
+update_detail (update.PoolLimit count) = of_count count
+update_detail (update.DynamicLimit count) = of_count count
+update_detail (update.UnsafeLimit count) = of_count count
+update_detail (update.SessionLimit count) = of_count count
+update_detail (update.RegexLimit count) = of_count count
+update_detail (update.DisabledLimit count) = of_count count
+update_detail (update.TooManyUpdates count) = of_count count
+update_detail update.NoMemory = alone
 
--- what an extension prints that is not installed; its name is not said again where it is there already
+-- an id may be any whole number
+abbrev pub update_field : UpdateDetail → List ℕ
+update_field alone = []
+update_field (of_extension name) = codes ",\"extension\":" ++ quoted name
+update_field (of_ruleset id) = codes ",\"ruleset\":" ++ quoted id
+update_field (of_id id) = codes ",\"id\":" ++ signed_decimal id
+update_field (of_count count) = codes ",\"count\":" ++ decimal count
+
+abbrev pub code_text : List ℕ → List ℕ
+code_text code = codes "\"" ++ (code ++ codes "\"")
+
+-- the code of a refused update, and its field
+abbrev pub update_fields : Refusal → List ℕ
+update_fields refusal = code_text (update_code refusal) ++ update_field (update_detail refusal)
+
+-- the extension is not named twice
+abbrev pub unless_named : UpdateDetail → UpdateDetail
+unless_named alone = alone
+unless_named (of_extension name) = alone
+unless_named (of_ruleset id) = of_ruleset id
+unless_named (of_id id) = of_id id
+unless_named (of_count count) = of_count count
+
+-- what an extension prints that is not installed
 abbrev pub install_line : RefusedInstall → List ℕ
 install_line refused =
-    codes "{\"extension\":" ++ quoted refused.extension ++ codes ",\"refused\":\"" ++ update_code refused.cause ++ codes "\""
-    ++ count_field (update_count refused.cause) ++ codes "}\n"
+    codes "{\"extension\":" ++ (quoted refused.extension ++ (codes ",\"refused\":" ++ (code_text (update_code refused.cause)
+    ++ (update_field (unless_named (update_detail refused.cause)) ++ codes "}\n"))))
 
 -- ---- counts and reports
 

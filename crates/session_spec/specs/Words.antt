@@ -1,7 +1,9 @@
 -- The command that the words after the program's name say.
-use Rattle.std.specs.Prelude.{ℕ, suc, List, [], ◌∷◌, length, take, drop, slice_index, codes, filter_map, Bool, not, ◌==◌, ◌&&◌, ◌||◌, nat_lt, nat_le, Option, Some, None, option_map, option_and_then, if◌then◌else◌}
+use Rattle.std.specs.Prelude.{ℕ, suc, ◌-◌, ◌^◌, List, [], ◌∷◌, length, take, drop, slice_index, codes, filter_map, Bool, not, ◌==◌, ◌&&◌, ◌||◌, nat_lt, nat_le, Option, Some, None, option_map, option_and_then, unwrap_or, if◌then◌else◌}
 use Rattle.std.specs.List.{list_all, position_from}
 use Rattle.std.specs.Str.{bytes_eq}
+use Rattle.std.specs.Str.Parse.{digits_value}
+use Rattle.dnr_spec.specs.UrlFilter.{is_digit}
 use Rattle.rule_spec.specs.declared.rule_kind.RuleKind.{RuleKind}
 use Rattle.rule_spec.specs.declared.rule_kind.RuleKind.TheVariants.{Static, Dynamic, Session}
 
@@ -10,13 +12,15 @@ pub data Installed : Type 0 where
   folder : List ℕ → Installed
   list : List ℕ → List ℕ → Installed
 
--- a session: its suffix list if any, what is installed in order, and its script
+-- a session: how many answer requests, its suffix list if any, what is installed in order, and its script
 pub record Serving : Type 0 where
+  pub workers : ℕ
   pub suffixes : Option (List ℕ)
   pub installed : List Installed
   pub script : List ℕ
 
--- `match RULES REQUESTS`, `check KIND RULES`, `compile LIST`, and `serve [--psl F] [--ext NAME].. [--list NAME=F].. SCRIPT`
+-- `match RULES REQUESTS`, `check KIND RULES`, `compile LIST`, and
+-- `serve [--workers N] [--psl F] [--ext NAME].. [--list NAME=F].. SCRIPT`
 pub data Task : Type 0 where
   match_files : List ℕ → List ℕ → Task
   check_file : RuleKind → List ℕ → Task
@@ -36,6 +40,16 @@ is_name_byte b = (nat_le 97 b && nat_le b 122) || (nat_le 48 b && nat_le b 57) |
 -- a name of an extension has 1 to 64 of them
 abbrev pub is_extension_name : List ℕ → Bool
 is_extension_name word = nat_lt 0 (length word) && nat_le (length word) 64 && list_all is_name_byte word
+
+-- ---- numbers
+
+-- decimal digits without a leading zero, other than `0` itself
+abbrev pub is_number : List ℕ → Bool
+is_number word = nat_lt 0 (length word) && list_all is_digit word && (length word == 1 || not (slice_index word 0 == 48))
+
+-- the number that a word writes, up to this one
+abbrev pub number_up_to : ℕ → List ℕ → Option ℕ
+number_up_to most word = if is_number word && nat_le (digits_value 10 word) most then Some (digits_value 10 word) else None
 
 -- ---- `match`, `check` and `compile`
 
@@ -61,6 +75,7 @@ compile_of _ = None
 
 -- what an option chooses
 pub data Choice : Type 0 where
+  workers_of : ℕ → Choice
   suffixes_in : List ℕ → Choice
   install : Installed → Choice
 
@@ -74,12 +89,20 @@ list_at word (Some place) =
 abbrev pub list_named : List ℕ → Option Choice
 list_named word = list_at word (position_from (λ b. b == 61) 0 word)
 
+-- one to eight answer requests
+abbrev pub max_workers : ℕ
+max_workers = 8
+
+abbrev pub workers_named : List ℕ → Option Choice
+workers_named word = option_and_then (λ count. if nat_lt 0 count then Some (workers_of count) else None) (number_up_to max_workers word)
+
 -- an option and its value
 abbrev pub choice_of : List ℕ → List ℕ → Option Choice
 choice_of option value =
-    if bytes_eq option (codes "--psl") then (if is_file_name value then Some (suffixes_in value) else None)
+    if bytes_eq option (codes "--workers") then workers_named value
+    else (if bytes_eq option (codes "--psl") then (if is_file_name value then Some (suffixes_in value) else None)
     else (if bytes_eq option (codes "--ext") then (if is_extension_name value then Some (install (folder value)) else None)
-    else (if bytes_eq option (codes "--list") then list_named value else None))
+    else (if bytes_eq option (codes "--list") then list_named value else None)))
 
 -- options and their values, before the name of the script
 pub record Choices : Type 0 where
@@ -95,22 +118,62 @@ choices_of (script ∷ []) = if is_file_name script then Some (record { choices 
 choices_of (option ∷ value ∷ words) =
     option_and_then (λ choice. option_map (with_choice choice) (choices_of words)) (choice_of option value)
 
+abbrev pub workers_chosen : Choice → Option ℕ
+workers_chosen (workers_of count) = Some count
+workers_chosen (suffixes_in file) = None
+workers_chosen (install one) = None
+
 abbrev pub suffixes_chosen : Choice → Option (List ℕ)
+suffixes_chosen (workers_of count) = None
 suffixes_chosen (suffixes_in file) = Some file
 suffixes_chosen (install one) = None
 
 abbrev pub installs : Choice → Option Installed
+installs (workers_of count) = None
 installs (suffixes_in file) = None
 installs (install one) = Some one
 
--- at most one suffix list
-abbrev pub serving_with : List (List ℕ) → Choices → Option Task
-serving_with [] c = Some (serve_script (record { suffixes = None; installed = filter_map installs c.choices; script = c.script }))
-serving_with (file ∷ []) c = Some (serve_script (record { suffixes = Some file; installed = filter_map installs c.choices; script = c.script }))
-serving_with (file ∷ other ∷ files) c = None
+-- what is chosen once or not at all
+abbrev pub once : {X : Type 0} → List X → Option (Option X)
+once [] = Some None
+once (x ∷ []) = Some (Some x)
+once (x ∷ y ∷ xs) = None
+
+-- one answers requests where no number is named
+abbrev pub serving_with : Choices → Option ℕ → Option (List ℕ) → Task
+serving_with c workers suffixes =
+    serve_script (record {
+      workers = unwrap_or workers 1;
+      suffixes = suffixes;
+      installed = filter_map installs c.choices;
+      script = c.script;
+    })
+
+-- the number of workers and the suffix list are named at most once
+abbrev pub serving_of : Choices → Option Task
+serving_of c =
+    option_and_then (λ workers. option_map (serving_with c workers) (once (filter_map suffixes_chosen c.choices)))
+    (once (filter_map workers_chosen c.choices))
 
 abbrev pub serve_of : List (List ℕ) → Option Task
-serve_of words = option_and_then (λ c. serving_with (filter_map suffixes_chosen c.choices) c) (choices_of words)
+serve_of words = option_and_then serving_of (choices_of words)
+
+-- ---- `sample`
+
+-- a session that is made from a number: the seed, and how many rules, requests and updates it has
+pub record Sample : Type 0 where
+  pub seed : ℕ
+  pub rules : ℕ
+  pub requests : ℕ
+  pub updates : ℕ
+
+-- each number up to its limit
+abbrev pub sample_of : List (List ℕ) → Option Sample
+sample_of (seed ∷ rules ∷ requests ∷ updates ∷ []) =
+    option_and_then (λ seed. option_and_then (λ rules. option_and_then (λ requests.
+    option_map (λ updates. record { seed = seed; rules = rules; requests = requests; updates = updates })
+    (number_up_to 1000 updates)) (number_up_to 100000 requests)) (number_up_to 30000 rules)) (number_up_to (2 ^ 64 - 1) seed)
+sample_of _ = None
 
 -- ---- commands
 

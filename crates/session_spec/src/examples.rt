@@ -5,7 +5,8 @@ ghost use Rattle.session_spec.specs.Examples.{NoRulesDecideNothing, MainFrameIsL
 ghost use Rattle.session_spec.specs.Examples.{AllowPrevailsAtEqualPriority};
 ghost use Rattle.session_spec.specs.Examples.{GreaterPriorityPrevails, SmallerIdPrevails};
 ghost use Rattle.session_spec.specs.Examples.{BlankLinesCount, CrAloneIsNoBlankLine};
-ghost use Rattle.session_spec.specs.Examples.{BrokenLinesAreBad, ExplanationsAreLater};
+ghost use Rattle.session_spec.specs.Examples.{BrokenLinesAreBad, MatchTakesNoUpdates};
+ghost use Rattle.session_spec.specs.Examples.{UpdatesAreJudgedInTurn, SyncEndsARound};
 ghost use Rattle.session_spec.specs.Examples.{NullIsPresent, FractionIsNoId};
 ghost use Rattle.session_spec.specs.Examples.{LastValueOfAKeyCounts, SecondOfEqualIdsIsAtFault};
 ghost use Rattle.session_spec.specs.Examples.{FirstRuleAtFaultIsNamed};
@@ -65,10 +66,22 @@ pub fn broken_lines_are_bad()
     ensures { BrokenLinesAreBad }
 {}
 
-/// Explanations are not there yet, whatever stands beside their name; `match` has no updates.
-#[tactic(auto, using(crate::proofs::Computed::explanations_are_later))]
-pub fn explanations_are_later()
-    ensures { ExplanationsAreLater }
+/// `match` has no updates: what reads as one is a bad line, and what does not says its own fault.
+#[tactic(auto, using(crate::proofs::Computed::match_takes_no_updates))]
+pub fn match_takes_no_updates()
+    ensures { MatchTakesNoUpdates }
+{}
+
+/// An update that is accepted decides what comes after it, and a refused one changes nothing.
+#[tactic(auto, using(crate::proofs::Computed::updates_are_judged_in_turn))]
+pub fn updates_are_judged_in_turn()
+    ensures { UpdatesAreJudgedInTurn }
+{}
+
+/// A `sync` ends its round, and what stands after it is a round of its own.
+#[tactic(auto, using(crate::proofs::Computed::sync_ends_a_round))]
+pub fn sync_ends_a_round()
+    ensures { SyncEndsARound }
 {}
 
 /// A priority that is null is not an absent one.

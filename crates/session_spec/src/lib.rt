@@ -3,14 +3,23 @@
 #![tactic(auto)]
 
 mod examples;
+mod line_examples;
+mod reply;
 
 pub use examples::{
     allow_prevails_at_equal_priority, blank_lines_count, broken_lines_are_bad, check_takes_a_kind,
     compile_takes_a_file, compiled_lists_are_reported, cr_alone_is_no_blank_line,
-    explanations_are_later, filter_is_refused_with_its_reason, first_rule_at_fault_is_named,
-    fraction_is_no_id, greater_priority_prevails, last_value_of_a_key_counts,
-    main_frame_is_left_alone, match_takes_two_file_names, nesting_has_a_limit,
+    filter_is_refused_with_its_reason, first_rule_at_fault_is_named, fraction_is_no_id,
+    greater_priority_prevails, last_value_of_a_key_counts, main_frame_is_left_alone,
+    match_takes_no_updates, match_takes_two_file_names, nesting_has_a_limit,
     no_rules_decide_nothing, null_is_present, refused_files_say_why, refused_installs_say_why,
     rules_are_counted, second_of_equal_ids_is_at_fault, serve_is_strict, serve_takes_options,
-    smaller_id_prevails, two_files_are_served, unsupported_lines_say_why, usage_is_for_bad_words,
+    smaller_id_prevails, sync_ends_a_round, two_files_are_served, unsupported_lines_say_why,
+    updates_are_judged_in_turn, usage_is_for_bad_words,
 };
+pub use line_examples::{
+    bad_lines_say_why, counts_are_said, explanations_are_listed, faults_name_their_rule,
+    refused_batches_say_which, refused_rules_say_where, refused_updates_say_why,
+    samples_have_limits, workers_are_few,
+};
+pub use reply::Reply;

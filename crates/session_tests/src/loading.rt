@@ -1,6 +1,6 @@
 //! What the words of a command ask for, and what is read then.
 use crate::shelves::{shelf, words};
-use dnr_base::{Copied, Items, Text};
+use dnr_base::{Copied, Text};
 use dnr_rules::Rule;
 use dnr_words::{Installed, Task, read_words};
 use manifest_read::{ManifestPath, ManifestRefusal, read_extension};
@@ -9,6 +9,7 @@ use rule_spec::RuleKind;
 use ruleset_store::{Extension, Refusal, RuleSet, Store, Update};
 use session_load::{Loaded, Stop, load_list, load_local, load_rules, load_serving};
 use std::alloc::Global;
+use std::sync::Arc;
 use std::test::Fail;
 
 #[test]
@@ -38,14 +39,21 @@ fn has_id(rules: &[Rule], id: u32) -> bool {
     rules.len() == 1 && rules.iter().all(|rule| rule.id() == id)
 }
 
+// The ruleset `s`, which is not enabled and has the rule 5 alone.
+fn is_expected(set: &RuleSet) -> bool {
+    let rules = set.rules().shared();
+    let has_rule = rules.len() == 1 && rules.iter().all(|it| it.rule().id() == 5);
+    set.id() == "s" && !set.is_enabled() && has_rule
+}
+
 #[test]
 fn an_extension_has_its_rulesets(rt: HostRuntime) -> Result<(), Fail> {
     let mut host = PackHost::new(rt.alloc())?;
     let read = read_extension(rt.alloc(), &mut shelf(rt.alloc(), 0)?, "shop", &mut host);
     let shop = read.ok().ok_or("refused")?;
-    assert!(rt; shop.name.as_str() == "shop" && shop.access.is_none());
-    let set = shop.sets.as_slice().first().ok_or("no ruleset")?;
-    assert!(rt; set.id.as_str() == "s" && !set.enabled && has_id(set.rules.as_slice(), 5));
+    assert!(rt; shop.name() == "shop" && shop.access().is_none());
+    let set = shop.sets().first().ok_or("no ruleset")?;
+    assert!(rt; is_expected(set.set()));
     let read = read_extension(rt.alloc(), &mut shelf(rt.alloc(), 2)?, "shop", &mut host);
     assert!(rt; matches!(&read, Err(ManifestRefusal::ReadFault)));
     Ok(())
@@ -65,7 +73,7 @@ fn rules_are_loaded(rt: HostRuntime) -> Result<(), Fail> {
     assert!(rt; has_id(&loaded.ok().ok_or("refused")?, 7));
     let loaded = load_local(rt.alloc(), "r.json", &mut shelf, &mut host);
     let Loaded { extensions, .. } = loaded.ok().ok_or("refused")?;
-    assert!(rt; extensions.iter().all(|it| it.name.as_str() == "local"));
+    assert!(rt; extensions.iter().all(|it| it.name() == "local"));
     Ok(())
 }
 
@@ -99,7 +107,7 @@ fn a_session_is_loaded_in_the_order_of_its_words(rt: HostRuntime) -> Result<(), 
     assert!(rt;
         extensions
             .iter()
-            .map(|it| it.name.as_str())
+            .map(|it| it.name())
             .eq(["l", "shop"].iter().copied())
     );
     Ok(())
@@ -107,23 +115,17 @@ fn a_session_is_loaded_in_the_order_of_its_words(rt: HostRuntime) -> Result<(), 
 
 // An extension with one ruleset, which has no rules.
 fn bare(alloc: Global) -> Result<Extension, Fail> {
-    let set = RuleSet {
-        id: Text::build(String::from_str(alloc, "s")?),
-        enabled: true,
-        rules: Items::build(Vec::new(alloc)),
-        origins: Items::build(Vec::new(alloc)),
-    };
-    Ok(Extension {
-        name: Text::build(String::from_str(alloc, "bare")?),
-        sets: Items::build(vec![in alloc; set]?),
-        access: None,
-    })
+    let id = Text::build(String::from_str(alloc, "s")?);
+    let set = RuleSet::build(alloc, id, true, Vec::new(alloc), Vec::new(alloc))?;
+    let name = Text::build(String::from_str(alloc, "bare")?);
+    Ok(Extension::build(alloc, name, vec![in alloc; set]?, None)?)
 }
 
 #[test]
 fn an_extension_is_installed_once(rt: HostRuntime) -> Result<(), Fail> {
     let alloc = rt.alloc();
-    let update = Update::Install(bare(alloc)?.copied(alloc)?);
+    let extension = Arc::new(alloc, bare(alloc)?.copied(alloc)?)?;
+    let update = Update::Install { extension };
     let store = Store::empty(alloc);
     assert!(rt; store.judge(alloc, &update).is_ok());
     let next = store.apply(alloc, &update).ok().ok_or("refused")?;

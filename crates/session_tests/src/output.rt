@@ -1,13 +1,14 @@
 //! Lines as docs/FORMATS.md shows them.
 use compile_spec::Reported;
-use dnr_base::{Items, RuleName, Text};
+use dnr_base::{Items, RuleName, Text, Verb};
 use dnr_spec::{SuffixRefusal, ViewRefusal};
 use explain_report::{
-    Verdict, quoted_text, write_bad, write_bad_json, write_bad_manifest, write_count, write_fault,
-    write_install_refusal, write_list_fault, write_not_yet, write_refused_rule,
-    write_suffix_refusal, write_too_many_rules, write_unsupported, write_verdict,
+    Explanation, Reply, Verdict, Why, WhyRule, quoted_text, write_bad, write_bad_json,
+    write_bad_manifest, write_count, write_explain, write_fault, write_install_refusal,
+    write_list_fault, write_refused_rule, write_reply, write_suffix_refusal, write_too_many_rules,
+    write_unsupported, write_verdict,
 };
-use json_spec::{CommandPath, LineFault};
+use line_spec::{CommandPath, LineFault};
 use list_spec::Reason;
 use load_spec::ManifestPath;
 use rule_spec::{Outcome, PlacedRefusal, RuleRefusal};
@@ -37,12 +38,87 @@ fn a_request_has_one_line(rt: HostRuntime) -> Result<(), Fail> {
     let mut lines = String::new(alloc);
     write_verdict(alloc, 3, 0, &verdict, &mut lines)?;
     write_fault(alloc, 4, 0, &rule(alloc)?, &mut lines)?;
-    write_bad(5, &LineFault::BadJson, &mut lines)?;
+    write_bad(alloc, 5, &LineFault::BadJson, &mut lines)?;
     let url = LineFault::BadUrl(CommandPath::Url, ViewRefusal::BadHost);
-    write_bad(6, &url, &mut lines)?;
-    write_not_yet(7, &mut lines)?;
+    write_bad(alloc, 6, &url, &mut lines)?;
     let want =
-        "{\"line\":3,\"generation\":0,\"verdict\":\"allow\",\"rule\":[\"local\",\"rules\",7],\"responseHeaders\":[]}\n{\"line\":4,\"generation\":0,\"fault\":\"pattern-host\",\"rule\":[\"local\",\"rules\",7]}\n{\"line\":5,\"bad\":\"json\"}\n{\"line\":6,\"bad\":\"url\",\"path\":\"url\",\"why\":\"bad-host\"}\n{\"line\":7,\"bad\":\"not-yet-supported\"}\n";
+        "{\"line\":3,\"generation\":0,\"verdict\":\"allow\",\"rule\":[\"local\",\"rules\",7],\"responseHeaders\":[]}\n{\"line\":4,\"generation\":0,\"fault\":\"pattern-host\",\"rule\":[\"local\",\"rules\",7]}\n{\"line\":5,\"bad\":\"json\"}\n{\"line\":6,\"bad\":\"url\",\"path\":\"url\",\"why\":\"bad-host\"}\n";
+    assert_eq!(rt; lines.as_str(), want);
+    Ok(())
+}
+
+#[test]
+fn an_explanation_lists_extensions(rt: HostRuntime) -> Result<(), Fail> {
+    let alloc = rt.alloc();
+    let mut why = Vec::new(alloc);
+    why.push(Why {
+        ext: Text::build(String::from_str(alloc, "b")?),
+        winner: None,
+    })?;
+    why.push(Why {
+        ext: Text::build(String::from_str(alloc, "local")?),
+        winner: Some(WhyRule {
+            rule: rule(alloc)?,
+            verb: Verb::AllowAllRequests,
+            priority: 3,
+            frame: Some(0),
+            lines: Items::build(vec![in alloc; 2_u32, 9]?),
+        }),
+    })?;
+    let explanation = Explanation {
+        verdict: Verdict {
+            outcome: Outcome::Allow,
+            rule: Some(rule(alloc)?),
+            target: None,
+            ops: Items::build(Vec::new(alloc)),
+            request_headers: None,
+            response_headers: None,
+        },
+        why: Items::build(why),
+    };
+    let mut lines = String::new(alloc);
+    write_explain(alloc, 1, 2, &explanation, &mut lines)?;
+    let want =
+        "{\"line\":1,\"generation\":2,\"verdict\":\"allow\",\"rule\":[\"local\",\"rules\",7],\"why\":[{\"extension\":\"b\",\"rule\":null},{\"extension\":\"local\",\"rule\":[\"local\",\"rules\",7],\"action\":\"allowAllRequests\",\"priority\":3,\"frame\":0,\"lines\":[2,9]}]}\n";
+    assert_eq!(rt; lines.as_str(), want);
+    Ok(())
+}
+
+#[test]
+fn a_reply_says_what_became_of_an_update(rt: HostRuntime) -> Result<(), Fail> {
+    let alloc = rt.alloc();
+    let name = Text::build(String::from_str(alloc, "q")?);
+    let set = Text::build(String::from_str(alloc, "s")?);
+    let refusal = PlacedRefusal {
+        place: 1,
+        id: Some(7),
+        cause: RuleRefusal::DuplicateId,
+        set: Some(set),
+    };
+    let mut lines = String::new(alloc);
+    write_reply(alloc, 1, &Reply::Accepted(1), &mut lines)?;
+    write_reply(alloc, 2, &Reply::Sync(1), &mut lines)?;
+    write_reply(
+        alloc,
+        3,
+        &Reply::Refused(Refusal::NoExtension(name)),
+        &mut lines,
+    )?;
+    write_reply(
+        alloc,
+        4,
+        &Reply::Refused(Refusal::NoStaticRule(-5)),
+        &mut lines,
+    )?;
+    write_reply(alloc, 5, &Reply::BatchRule(2, refusal), &mut lines)?;
+    write_reply(
+        alloc,
+        6,
+        &Reply::BatchRefused(1, Refusal::DuplicateId(1)),
+        &mut lines,
+    )?;
+    let want =
+        "{\"line\":1,\"accepted\":1}\n{\"line\":2,\"sync\":1}\n{\"line\":3,\"refused\":\"no-extension\",\"extension\":\"q\"}\n{\"line\":4,\"refused\":\"no-static-rule\",\"id\":-5}\n{\"line\":5,\"refused\":\"duplicate-id\",\"place\":1,\"id\":7,\"ruleset\":\"s\",\"update\":2}\n{\"line\":6,\"refused\":\"duplicate-id\",\"id\":1,\"update\":1}\n";
     assert_eq!(rt; lines.as_str(), want);
     Ok(())
 }
@@ -87,7 +163,7 @@ fn a_report_names_lines(rt: HostRuntime) -> Result<(), Fail> {
     };
     let mut lines = String::new(rt.alloc());
     write_unsupported(rt.alloc(), &hides, &mut lines)?;
-    write_count(4, &mut lines)?;
+    write_count(rt.alloc(), 4, &mut lines)?;
     let want = "{\"line\":3,\"unsupported\":\"element-hiding\"}\n{\"rules\":4}\n";
     assert_eq!(rt; lines.as_str(), want);
     assert!(rt; quoted_text(rt.alloc(), "a\"b")?.as_str() == "\"a\\\"b\"");

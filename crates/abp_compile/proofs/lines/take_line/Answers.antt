@@ -3,8 +3,10 @@ use Rattle.std.specs.Prelude.{OnOk, IfErr}
 use Rattle.list_spec.specs.LineKind as lines
 use Rattle.list_spec.specs.Says.{filter_in, reason_of}
 use Rattle.compile_spec.specs.Report.{report_of}
-use Rattle.abp_compile.specs.Asked.{StopsOnlyAt}
+use Rattle.regex_host.specs.Asked.{AsksFor}
+use Rattle.abp_compile.specs.Asked.{StopsOnlyAt, asked_at}
 use Rattle.abp_compile.specs.Groups.{placed_in, Takes}
+use Rattle.abp_compile.proofs.Asking.{on_ok, all_first}
 use Rattle.abp_compile.proofs.lines.take_line.Goals as goal
 
 pub returns-clause-takes : goal.returns-clause-takes
@@ -18,3 +20,11 @@ returns-clause-reported g c =
 pub returns-clause-stops : goal.returns-clause-stops
 returns-clause-stops g c =
     subst (λ (l : lines.Line). IfErr c.take_parsed.result (StopsOnlyAt c.args.number l)) c.in_ok-parsed.ensures c.take_parsed.ensures.stops
+
+pub returns-clause-asked : goal.returns-clause-asked
+returns-clause-asked g c =
+    on_ok c.take_parsed.result _ (subst (λ (l : lines.Line). AsksFor g.H.RegexHost.asks c.args.host.now (asked_at l) c.take_parsed.new.host) c.in_ok-parsed.ensures c.take_parsed.ensures.asked)
+
+pub returns-clause-tried : goal.returns-clause-tried
+returns-clause-tried g c =
+    all_first g.H.RegexHost.asks c.args.host.now c.take_parsed.new.host _ (subst (λ (l : lines.Line). AsksFor g.H.RegexHost.asks c.args.host.now (asked_at l) c.take_parsed.new.host) c.in_ok-parsed.ensures c.take_parsed.ensures.asked)

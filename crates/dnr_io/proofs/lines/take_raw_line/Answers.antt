@@ -1,6 +1,6 @@
 use Rattle.std.proofs.Common.{◌<◌, length, arith, rules, ap}
 use Rattle.std.specs.Io.KnownBytes.{Consumes, prepend_known}
-use Rattle.dnr_io.proofs.Pieces.{ended, last, overflows}
+use Rattle.dnr_io.proofs.Pieces.{ended, last, overflows, stopped_within}
 use Rattle.dnr_io.proofs.lines.take_raw_line.Goals as goal
 
 pub returns-in_err-move_to-clause-too_long : goal.returns-in_err-move_to-clause-too_long
@@ -26,3 +26,10 @@ returns-then-branch-2-clause-raw g c =
     let taken : Consumes (prepend_known c.args.ahead.now (g.S.Source.left c.args.source.now)) (prepend_known c.look.new.self (g.S.Source.left c.look.new.source)) c.loop-ahead.line.items = rw looked.bytes was.taken in
     let moved = c.in_ok-move_to.ensures in
     ended _ c.look.new.self c.move_to.new.self c.loop-ahead.line.items c.move_to.new.line.items _ c.in_ok-move_to.field-0 c.if-branch-2.true taken was.plain moved.moved
+
+pub returns-in_err-look-clause-stopped : goal.returns-in_err-look-clause-stopped
+returns-in_err-look-clause-stopped g c =
+    let was = c.loop-ahead.invariant in
+    let looked = c.in_err-look.ensures in
+    let taken : Consumes (prepend_known c.args.ahead.now (g.S.Source.left c.args.source.now)) (prepend_known c.look.new.self (g.S.Source.left c.look.new.source)) c.loop-ahead.line.items = rw looked.bytes was.taken in
+    λ is. stopped_within _ (g.S.Source.left c.look.new.source) c.look.new.self c.loop-ahead.line.items looked.stopped taken was.plain

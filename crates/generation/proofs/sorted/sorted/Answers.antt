@@ -1,12 +1,17 @@
-use Rattle.std.proofs.Common.{◌-◌, length, refl}
-use Rattle.generation.proofs.Rest.{sorted_end, sorted_step}
+use Rattle.std.proofs.Common.{List, ◌∙◌, ap, filter, reverse, rules}
+use Rattle.std.specs.Prelude.{nat_le}
+use Rattle.std.specs.List.Sorted.{ties}
+use Rattle.std.proofs.lemmas.List.Sorted.{answers_always}
+use Rattle.rule_spec.specs.Scan.{comes_before}
+use Rattle.rule_spec.specs.State.{Live}
+use Rattle.generation.proofs.Ordered.{order_of_rules, rules_in_order}
 use Rattle.generation.proofs.sorted.sorted.Goals as goal
 
-pub loop-back-preserved : goal.loop-back-preserved
-loop-back-preserved c =
-    let lives = c.args.lives.now in
-    sorted_step c.args.allowed lives (length lives) c.loop-back.back (length lives - 1 - c.loop-back.back) c.index-lives-lives.result c.loop-back.sorted.items
-    c.in_ok-sorted.sorted.items refl c.loop-back-test.true refl c.index-lives-lives.is c.loop-back.invariant c.in_ok-sorted.ensures
-
 pub returns : goal.returns
-returns c = sorted_end c.args.allowed c.args.lives.now (length c.args.lives.now) c.loop-back.back c.loop-back.sorted.items c.loop-back-test.false c.loop-back.invariant
+returns c =
+    let list : List Live = filter (λ live. nat_le c.args.allowed live.rule.priority) c.args.lives.now in
+    rules_in_order list c.sort_by.new.self.items
+    (c.in_ok-sort_by.ensures.sorted comes_before order_of_rules (answers_always _ _ _ (λ f a r g h. search rules)))
+    (λ z.
+    c.sort_by.ensures.stable comes_before order_of_rules (answers_always _ _ _ (λ f a r g h. search rules)) z
+    ∙ ap (filter (ties comes_before z)) (c.last_first-sorted.ensures ∙ ap reverse c.in_ok-list.ensures))

@@ -16,7 +16,7 @@ loop-op-preserved c =
     let index = c.loop-op.op-index in
     let list = fold changed headers (take index ops) in
     let read : HeaderOp = record { name = c.name.result.now; operation = c.operation.result; value = option_copied c.value.result } in
-    let same : read ≡ op = same_op op c.name.result.now c.operation.result (option_copied c.value.result) c.name.ensures c.operation.ensures c.value.ensures in
+    let same : read ≡ op = same_op op c.name.result.now c.operation.result (option_copied c.value.result) c.name.ensures c.operation.ensures c.value.ensures.value in
     let more : fold changed headers (take (index + 1) ops) ≡ changed list read =
     ap (fold changed headers) (take_more ops index op (omega arith) ∙ ap (λ o. take index ops ++ o ∷ []) (sym c.op-item.is ∙ sym same))
     ∙ fold_more headers (take index ops) read in

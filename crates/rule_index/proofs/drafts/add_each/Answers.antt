@@ -13,15 +13,15 @@ loop-text-preserved-in_ok-insert c =
     let text : List ℕ = c.in-Some.text.now in
     let key : string_bytes c.in_ok-from_str.field-0 ≡ text = c.in_ok-from_str.ensures.ok ∙ c.as_str-then-not-contains-2.ensures in
     let has : contains_text c.loop-text.seen text ≡ false = grind (arith, common_steps, c.if-not-contains.true, c.contains.ensures, c.as_str.ensures) in
-    put c.args.place c.loop-text.draft c.add.new.self _ (contains_text c.loop-text.seen) (contains_text c.insert.new.self) text c.loop-text.left.now c.in-Some.rest.now
+    put (pair_for c.args.needed c.args.place) c.loop-text.draft c.add.new.self _ (contains_text c.loop-text.seen) (contains_text c.insert.new.self) text c.loop-text.left.now c.in-Some.rest.now
     c.in-Some.ensures.cases.0 has
     (λ other. btree_set_updates_text (string_bytes c.in_ok-from_str.field-0) c.loop-text.seen c.insert.new.self true c.in_ok-insert.ensures.updates other
     ∙ ap (λ key. cond (bytes_eq key other) true (contains_text c.loop-text.seen other)) key)
-    (c.in_ok-add.ensures.added ∙ ap (λ key. c.loop-text.draft ++ pair_for c.args.place key ∷ []) (c.as_bytes.ensures.value ∙ c.as_str-then-not-contains.ensures))
+    (c.in_ok-add.ensures.added ∙ ap (λ key. c.loop-text.draft ++ pair_for c.args.needed c.args.place key ∷ []) (c.as_bytes.ensures.value ∙ c.as_str-then-not-contains.ensures))
     c.loop-text.invariant
 
 pub loop-text-preserved : goal.loop-text-preserved
 loop-text-preserved c =
     let text : List ℕ = c.in-Some.text.now in
     let has : contains_text c.loop-text.seen text ≡ true = grind (arith, common_steps, c.if-not-contains.false, c.contains.ensures, c.as_str.ensures) in
-    passed_over c.args.place c.loop-text.draft _ (contains_text c.loop-text.seen) text c.loop-text.left.now c.in-Some.rest.now c.in-Some.ensures.cases.0 has c.loop-text.invariant
+    passed_over (pair_for c.args.needed c.args.place) c.loop-text.draft _ (contains_text c.loop-text.seen) text c.loop-text.left.now c.in-Some.rest.now c.in-Some.ensures.cases.0 has c.loop-text.invariant

@@ -5,7 +5,7 @@ use Rattle.rule_index.proofs.drafts.add_each.Given as goal
 
 abbrev pub invariant-loop-text : goal.invariant-loop-text
 invariant-loop-text l =
-    l.draft ++ map (pair_for l.place) (once_by (contains_text l.seen) l.left) ≡ l.fn.draft ++ pairs_for l.fn.texts l.place
+    l.draft ++ map (pair_for l.needed l.place) (once_by (contains_text l.seen) l.left) ≡ l.fn.draft ++ pairs_for l.needed l.fn.texts l.place
 
 abbrev pub decreases-loop-text : goal.decreases-loop-text
 decreases-loop-text l = length l.left

@@ -10,6 +10,9 @@ use Rattle.json_spec.specs.MayRefuse.{MayRefuse}
 use Rattle.rule_fields.specs.Seen.{fields_seen}
 use Rattle.rule_read.specs.Seen.{numbers_seen, lists_seen}
 use Rattle.rule_read.proofs.Chains.{handed_on}
+use Rattle.rule_read.proofs.Calm.{is_calm}
+use Rattle.rule_read.specs.Calm.{IsCalmBy}
+use Rattle.rule_spec.specs.declared.rule_refusal.RuleRefusal.TheVariants.{NoMemory}
 use Rattle.rule_read.specs.Asking.{asked_by, AsksOrNot}
 use Rattle.rule_read.proofs.Stages.{these, begins, filters_pass, domains_pass, lists_pass, frames_pass, tests_pass, tabs_pass, numbers_refuse, fields_refuse, filters_refuse, domains_refuse, lists_refuse, frames_refuse, tests_refuse, tabs_refuse, action_refuse, rule_is}
 use Rattle.rule_read.proofs.rules.read_among.Goals as goal
@@ -303,3 +306,45 @@ returns-clause-tried g c =
     let f = fields_seen c.in_ok-fields.fields in
     let begun = begins is_taken (view c.args.value.now) (view c.in_ok-numbers.numbers.condition.now) (numbers_seen c.in_ok-numbers.numbers) f numbers.ok numbers.condition c.in_ok-fields.ensures.ok in
     subst (λ f. AsksOrNot g.H.RegexHost.asks c.args.host.now (asked_by f) c.read_filters.new.host) (these is_taken (view c.args.value.now) (numbers_seen c.in_ok-numbers.numbers) f begun) c.read_filters.ensures.tried
+
+pub returns-in_err-lists-clause-quiet : goal.returns-in_err-lists-clause-quiet
+returns-in_err-lists-clause-quiet g c =
+    let before = g.H.RegexHost.faults c.args.host.now in
+    let now = g.H.RegexHost.faults c.read_filters.new.host in
+    handed_on _ _ (IsCalmBy before now) c.from_residual-in_err-lists.ensures.1 (is_calm before now _ c.in_ok-filters.ensures.calm)
+
+pub returns-in_err-test_lists-clause-quiet : goal.returns-in_err-test_lists-clause-quiet
+returns-in_err-test_lists-clause-quiet g c =
+    let before = g.H.RegexHost.faults c.args.host.now in
+    let now = g.H.RegexHost.faults c.read_filters.new.host in
+    handed_on _ _ (IsCalmBy before now) c.from_residual-in_err-test_lists.ensures.1 (is_calm before now _ c.in_ok-filters.ensures.calm)
+
+pub returns-in_err-test_frames-clause-quiet : goal.returns-in_err-test_frames-clause-quiet
+returns-in_err-test_frames-clause-quiet g c =
+    let before = g.H.RegexHost.faults c.args.host.now in
+    let now = g.H.RegexHost.faults c.read_filters.new.host in
+    handed_on _ _ (IsCalmBy before now) c.from_residual-in_err-test_frames.ensures.1 (is_calm before now _ c.in_ok-filters.ensures.calm)
+
+pub returns-in_err-tests-clause-quiet : goal.returns-in_err-tests-clause-quiet
+returns-in_err-tests-clause-quiet g c =
+    let before = g.H.RegexHost.faults c.args.host.now in
+    let now = g.H.RegexHost.faults c.read_filters.new.host in
+    handed_on _ _ (IsCalmBy before now) c.from_residual-in_err-tests.ensures.1 (is_calm before now _ c.in_ok-filters.ensures.calm)
+
+pub returns-in_err-test_tabs-clause-quiet : goal.returns-in_err-test_tabs-clause-quiet
+returns-in_err-test_tabs-clause-quiet g c =
+    let before = g.H.RegexHost.faults c.args.host.now in
+    let now = g.H.RegexHost.faults c.read_filters.new.host in
+    handed_on _ _ (IsCalmBy before now) c.from_residual-in_err-test_tabs.ensures.1 (is_calm before now _ c.in_ok-filters.ensures.calm)
+
+pub returns-in_err-action-clause-quiet : goal.returns-in_err-action-clause-quiet
+returns-in_err-action-clause-quiet g c =
+    let before = g.H.RegexHost.faults c.args.host.now in
+    let now = g.H.RegexHost.faults c.read_filters.new.host in
+    handed_on _ _ (IsCalmBy before now) c.from_residual-in_err-action.ensures.1 (is_calm before now _ c.in_ok-filters.ensures.calm)
+
+pub returns-in_err-condition-clause-quiet : goal.returns-in_err-condition-clause-quiet
+returns-in_err-condition-clause-quiet g c =
+    let before = g.H.RegexHost.faults c.args.host.now in
+    let now = g.H.RegexHost.faults c.read_filters.new.host in
+    handed_on _ NoMemory (IsCalmBy before now) c.from_residual-in_err-condition.ensures.1 c.in_ok-filters.ensures.calm

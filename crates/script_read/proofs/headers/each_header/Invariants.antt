@@ -1,5 +1,5 @@
 use Rattle.json_spec.proofs.Each.{IsReadSoFar}
-use Rattle.json_spec.specs.RequestLine.{as_header}
+use Rattle.line_spec.specs.RequestLine.{as_header}
 use Rattle.script_read.proofs.headers.each_header.Given as goal
 
 abbrev pub invariant-loop-value : goal.invariant-loop-value

@@ -1,6 +1,5 @@
 use Rattle.std.proofs.Common.{◌≡◌, [], take, fold}
-use Rattle.domain_set.specs.Table.{HasTexts}
-use Rattle.abp_compile.specs.Domains.{with_entry}
+use Rattle.abp_compile.specs.Domains.{with_entry, HasTexts}
 use Rattle.abp_compile.proofs.domains.Domains.read.Given as goal
 
 abbrev pub invariant-loop-entry : goal.invariant-loop-entry

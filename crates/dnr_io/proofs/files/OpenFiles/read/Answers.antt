@@ -1,5 +1,4 @@
 use Rattle.std.proofs.Common.{◌≡◌, ◌∙◌, ◌<◌, ◌^◌, ◌-◌, sym, take, length, drop, arith, length-drop, ap}
-use Rattle.std.proofs.lemmas.Grind.{common_steps}
 use Rattle.dnr_io.specs.Files.{bytes_at, left_in}
 use Rattle.dnr_io.proofs.OpenFilesLemmas.{taken}
 use Rattle.dnr_io.proofs.files.OpenFiles.read.Goals as goal

@@ -1,0 +1,3 @@
+pub mod RequestsComputed
+pub mod LineNumbers
+pub mod UpdatesComputed

@@ -1,0 +1,12 @@
+pub mod CommandName
+pub mod CommandPath
+pub mod Names
+pub mod Reading
+pub mod RequestLine
+pub mod Updates
+pub mod Batch
+pub mod Line
+pub mod Stops
+pub mod IsFault
+pub mod RequestExamples
+pub mod UpdateExamples

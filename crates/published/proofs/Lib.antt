@@ -1,0 +1,5 @@
+pub mod Beginnings
+pub mod Entering
+pub mod Next
+pub mod Coming
+pub mod Counted

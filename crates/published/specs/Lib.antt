@@ -1,0 +1,5 @@
+pub mod Content
+pub mod Shared
+pub mod Ahead
+pub mod Refused
+pub mod Counted

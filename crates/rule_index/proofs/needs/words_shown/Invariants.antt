@@ -1,0 +1,10 @@
+use Rattle.std.proofs.Common.{◌≡◌, length}
+use Rattle.index_spec.specs.Words as words
+use Rattle.rule_index.specs.Needs as spec
+use Rattle.rule_index.proofs.needs.words_shown.Given as goal
+
+abbrev pub invariant-loop-word : goal.invariant-loop-word
+invariant-loop-word l = spec.with_bits l.bits (spec.places_of_words l.words) ≡ spec.with_bits 0 (spec.places_of_words (words.words_of l.fn.text))
+
+abbrev pub decreases-loop-word : goal.decreases-loop-word
+decreases-loop-word l = length l.words

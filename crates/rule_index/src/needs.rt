@@ -1,0 +1,123 @@
+//! What rules need and parts show, as bits.
+ghost use Rattle.std.specs.Prelude.{◌≡◌, ◌<◌, [], ◌∷◌, fold, if◌then◌else◌, ◌&&◌};
+ghost use Rattle.dnr_base.specs.Kind.{all_kinds};
+ghost use Rattle.dnr_base.specs.KindSet.{kinds_of};
+ghost use Rattle.index_spec.specs.Words as words;
+ghost use Rattle.rule_index.specs.Needs as spec;
+
+use crate::pieces::pieces_of;
+use crate::token::{ends_firmly, is_firm, word_at};
+use dnr_base::{Kind, KindSet, Part};
+use dnr_rules::Condition;
+use key_table::{Asked, bucket_of};
+use key_walk::Words;
+
+// How many bits words have, before those of types.
+const WORDS: u32 = 48;
+
+fn with_bit(bits: u64, place: u32) -> u64
+    requires { place < 64 }
+    ensures { result ≡ spec.with_bit bits place }
+{
+    bits | (1 << place)
+}
+
+// The place of a word's bit.
+fn place_of_word(word: &[u8]) -> u32
+    ensures value { result ≡ spec.place_of_word word.now }
+    ensures small { result < 48 }
+{
+    bucket_of(WORDS, Asked::in_lower_case(word).tag()) as u32
+}
+
+// With the bit of the word that begins here, if both its ends are firm.
+fn with_word_here(bits: u64, left: bool, ends: bool, rest: &[u8]) -> u64
+    ensures { result ≡ spec.with_bits bits (spec.places_of_words
+        (if left && words.is_word_here ends rest.now then words.word_at rest.now ∷ [] else [])) }
+{
+    if left && !word_at(rest).is_empty() && ends_firmly(ends, rest) {
+        with_bit(bits, place_of_word(word_at(rest)))
+    } else {
+        bits
+    }
+}
+
+// With the bits of the firm words of a body.
+fn with_firm_words(bits: u64, anchored: bool, ends: bool, body: &[u8]) -> u64
+    ensures { result ≡ spec.with_bits bits (spec.places_of_words (words.firm_words anchored ends body.now)) }
+{
+    let mut bits = bits;
+    let mut left = anchored;
+    let mut rest = body;
+    while let Some((c, behind)) = rest.split_first() {
+        bits = with_word_here(bits, left, ends, rest);
+        left = is_firm(*c);
+        rest = behind;
+    }
+    bits
+}
+
+// With the bits of the types that are not in the set.
+fn with_others(bits: u64, kinds: KindSet) -> u64
+    ensures { result ≡ spec.with_bits bits (spec.places_of_others (kinds_of kinds) all_kinds) }
+{
+    let mut bits = bits;
+    let mut left: &[Kind] = &Kind::ALL;
+    while let Some((kind, rest)) = left.split_first() {
+        if !kinds.contains(*kind) {
+            bits = with_bit(bits, WORDS + kind.place());
+        }
+        left = rest;
+    }
+    bits
+}
+
+// The bits of the words of a text.
+fn words_shown(text: &[u8]) -> u64
+    ensures { result ≡ spec.with_bits 0 (spec.places_of_words (words.words_of text.now)) }
+{
+    let mut words = Words::new(text);
+    let mut bits = 0;
+    while let Some(word) = words.next() {
+        bits = with_bit(bits, place_of_word(word));
+    }
+    bits
+}
+
+// The bits of the words that a condition's filter needs.
+fn words_needed(condition: &Condition) -> u64
+    ensures { result ≡ spec.with_bits 0 (spec.places_of_words (spec.words_needed condition.now.url_filter)) }
+{
+    match condition.url_filter() {
+        Some(filter) => {
+            let pieces = pieces_of(filter.text().as_bytes());
+            with_firm_words(0, pieces.anchored, pieces.ends, pieces.body)
+        }
+        None => 0,
+    }
+}
+
+// With the bits of the types that are not this one.
+fn with_others_than(bits: u64, kind: Kind) -> u64
+    ensures { result ≡ spec.with_bits bits (spec.places_of_others (kind ∷ []) all_kinds) }
+{
+    let mut own = KindSet::empty();
+    own.insert(kind);
+    with_others(bits, own)
+}
+
+/// What a condition needs of a part, as bits.
+#[tactic(auto, unfolding(crate::specs::Needs::needs_of))]
+pub(crate) fn needs_of(condition: &Condition) -> u64
+    ensures { result ≡ spec.needs_of condition.now }
+{
+    with_others(words_needed(condition), condition.kinds())
+}
+
+/// What a part shows of what rules need, as bits: a rule that needs a bit which is not shown does not hold.
+#[tactic(auto, unfolding(crate::specs::Needs::shown_by))]
+pub fn shown_by(part: &Part<'_>) -> u64
+    ensures { result ≡ spec.shown_by part.now }
+{
+    with_others_than(words_shown(part.view.text().as_bytes()), part.kind)
+}

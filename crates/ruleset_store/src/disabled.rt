@@ -1,0 +1,49 @@
+ghost use Rattle.std.specs.Prelude.{◌≡◌, [], IfOk};
+ghost use Rattle.rule_spec.specs.State.{has_number};
+
+use crate::ids::{has_id, ids_among};
+use dnr_base::NoMemory;
+use std::alloc::Global;
+use std::collections::BTreeSet;
+use std::marker::Model;
+
+/// The ids of rules that are switched off, which are asked for in the time of a search. A clause sees the ids.
+#[derive(Debug, Drop)]
+pub struct DisabledIds {
+    ids: Vec<u32>,
+    known: BTreeSet<u32>,
+}
+
+impl Model for DisabledIds {
+    ghost use Rattle.std.specs.Prelude.{ℕ, List};
+    ghost use Rattle.ruleset_store.specs.Ids.{HasIds};
+
+    ghost Value = { List ℕ };
+
+    ghost view = { λ d. d.ids.items };
+
+    ghost invariant = { λ d. HasIds d.known d.ids.items };
+}
+
+impl DisabledIds {
+    pub(crate) fn of(alloc: Global, ids: Vec<u32>) -> Result<DisabledIds, NoMemory>
+        ensures { IfOk result (λ disabled. disabled ≡ ids.items) }
+    {
+        let known = ids_among(alloc, ids.as_slice())?;
+        Ok(DisabledIds { ids, known })
+    }
+
+    /// The ids, in the order of the rules.
+    pub fn ids(&self) -> &[u32]
+        ensures { result.now ≡ self.now }
+    {
+        self.ids.as_slice()
+    }
+
+    /// Whether the rules of this id are off.
+    pub fn has(&self, id: u32) -> bool
+        ensures { result ≡ has_number self.now id }
+    {
+        has_id(&self.known, id)
+    }
+}

@@ -1,0 +1,74 @@
+// The rules that an update brings.
+ghost use Rattle.std.specs.Prelude.{◌≡◌, ◌≤◌, Ok, IfOk, IfErr, OnOk};
+ghost use Rattle.serde_json.specs.Find.{as_array};
+ghost use Rattle.serde_json.specs.View.{view};
+ghost use Rattle.dnr_base.specs.Faults.{Rose};
+ghost use Rattle.json_spec.specs.RulesFile.{StopsInList, StopsInTree};
+ghost use Rattle.line_spec.specs.Updates as spec;
+ghost use Rattle.script_read.specs.Faults.{MayRefuse, IsQuiet, fault_of};
+
+use dnr_rules::{PlacedRefusal, Rule, RuleKind, RuleRefusal};
+use line_spec::{UpdateFault, UpdateField};
+use regex_host::RegexHost;
+use rule_read::read_rules;
+use serde_json::Value;
+use std::alloc::Global;
+
+// The rules to add, none where no list is given.
+#[tactic(auto, unfolding(line_spec::specs::Updates::add_in))]
+pub(crate) fn add_in<H: RegexHost>(
+    alloc: Global,
+    kind: RuleKind,
+    tree: &Value,
+    host: &mut H,
+) -> Result<Vec<Rule>, UpdateFault>
+    ensures read { IfOk result (λ rules. spec.add_in kind (view tree.now) ≡ Ok rules.items) }
+    ensures refused { IfErr result (MayRefuse (spec.add_in kind (view tree.now)) (λ refusal.
+        Rose (H.faults host.old) (H.faults host.new)
+        × StopsInTree kind (spec.value_at UpdateField.AddRules (view tree.now)) refusal)) }
+    ensures calm { OnOk result (H.faults host.new ≡ H.faults host.old) }
+    ensures quiet { IfErr result (IsQuiet (H.faults host.old) (H.faults host.new)) }
+    ensures later { H.faults host.old ≤ H.faults host.new }
+{
+    match tree.get(UpdateField::AddRules.name()) {
+        None => Ok(Vec::new(alloc)),
+        Some(list) => rules_of_list(alloc, UpdateField::AddRules, kind, list, host),
+    }
+}
+
+// The rules of the list in this field.
+#[tactic(auto, using(crate::proofs::RulesRead::rules_read, crate::proofs::RulesRead::rules_refused, crate::proofs::RulesRead::rules_quiet))]
+pub(crate) fn rules_of_list<H: RegexHost>(
+    alloc: Global,
+    field: UpdateField,
+    kind: RuleKind,
+    list: &Value,
+    host: &mut H,
+) -> Result<Vec<Rule>, UpdateFault>
+    ensures read { IfOk result (λ rules.
+        spec.rules_of_list field kind (as_array (view list.now)) ≡ Ok rules.items) }
+    ensures refused { IfErr result
+        (MayRefuse (spec.rules_of_list field kind (as_array (view list.now))) (λ refusal.
+        Rose (H.faults host.old) (H.faults host.new)
+        × StopsInList kind (as_array (view list.now)) refusal)) }
+    ensures calm { OnOk result (H.faults host.new ≡ H.faults host.old) }
+    ensures quiet { IfErr result (IsQuiet (H.faults host.old) (H.faults host.new)) }
+    ensures later { H.faults host.old ≤ H.faults host.new }
+{
+    if list.as_array().is_none() {
+        return Err(UpdateFault::BadField(field));
+    }
+    match read_rules(alloc, list, kind, host) {
+        Ok(rules) => Ok(rules),
+        Err(refusal) => Err(fault_of(refusal)),
+    }
+}
+
+fn fault_of(refusal: PlacedRefusal) -> UpdateFault
+    ensures { result ≡ fault_of refusal }
+{
+    match refusal.cause {
+        RuleRefusal::NoMemory => UpdateFault::NoMemory,
+        _ => UpdateFault::RuleRefused(refusal),
+    }
+}

@@ -1,0 +1,6 @@
+pub mod Turns
+pub mod Told
+pub mod Cut
+pub mod Rises
+pub mod Served
+pub mod Laws

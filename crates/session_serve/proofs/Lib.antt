@@ -1,0 +1,5 @@
+pub mod Short
+pub mod SoFar
+pub mod Line
+pub mod Told
+pub mod AtFault

@@ -1,0 +1,4 @@
+pub mod Round
+pub mod Told
+pub mod Serving
+pub mod Position

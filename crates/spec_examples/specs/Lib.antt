@@ -1,0 +1,4 @@
+pub mod Redirects
+pub mod Parties
+pub mod Methods
+pub mod Changes
