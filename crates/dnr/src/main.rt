@@ -58,7 +58,7 @@ fn hosts_of(alloc: Global) -> Result<Vec<PackHost>, NoMemory>
 {
     let mut hosts = Vec::new(alloc);
     hosts.push(PackHost::new(alloc)?)?;
-    for _worker in 0..WORKERS {
+    for _ in 0..WORKERS {
         hosts.push(PackHost::with_room(alloc, ROOM)?)?;
     }
     Ok(hosts)

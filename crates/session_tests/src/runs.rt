@@ -31,12 +31,14 @@ fn host(alloc: Global, failing: u64) -> Result<ListHost<PackHost>, NoMemory> {
     Ok(ListHost::new(alloc, PackHost::new(alloc)?, failing))
 }
 
+const AT_REST: usize = 7;
+
 // A host of files, one of requests, and others that are at rest.
 fn hosts(alloc: Global, failing: Failing) -> Result<Vec<ListHost<PackHost>>, NoMemory>
     ensures { IfOk result (λ hosts. length hosts.items ≡ 9) }
 {
     let mut hosts = vec![in alloc; host(alloc, failing.check)?, host(alloc, failing.find)?]?;
-    for _other in 0..7 {
+    for _ in 0..AT_REST {
         hosts.push(host(alloc, 0)?)?;
     }
     Ok(hosts)
