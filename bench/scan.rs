@@ -1,8 +1,11 @@
-//! The scan of `dnr match` as a plain Rust program with std alone, to measure against: `scan RULES REQUESTS`.
+//! What `dnr match` does as a plain Rust program with std alone, to measure against: `scan RULES REQUESTS [index]`.
 //!
-//! It reads only the lines that `bench/run` makes, with little checking. It tests each rule for each request and
-//! prints what `dnr` prints.
+//! It reads only the lines that `bench/run` makes, with little checking, and prints what `dnr` prints. It tests each rule
+//! for each request, or with a third word those that an index of words finds.
 
+mod index;
+
+use index::Index;
 use std::cmp::Reverse;
 use std::env;
 use std::fs;
@@ -74,6 +77,10 @@ struct Filter {
 }
 
 impl Filter {
+    fn is_anchored(&self) -> bool {
+        self.anchor != Anchor::Anywhere
+    }
+
     fn new(text: &str) -> Filter {
         let (anchor, rest) = if let Some(rest) = text.strip_prefix("||") {
             (Anchor::Domain, rest)
@@ -248,7 +255,10 @@ fn read_request(line: &str) -> Option<Request> {
         initiator,
         host,
         kind: bit_of(&TYPES, between(line, "\"type\":\"", "\"")?),
-        method: bit_of(&METHODS, between(line, "\"method\":\"", "\"").unwrap_or("get")),
+        method: bit_of(
+            &METHODS,
+            between(line, "\"method\":\"", "\"").unwrap_or("get"),
+        ),
         text,
     })
 }
@@ -284,11 +294,21 @@ fn holds(rule: &Rule, request: &Request) -> bool {
             .is_none_or(|third| third == request.third_party)
 }
 
-fn deciding<'a>(rules: &'a [Rule], request: &Request) -> Option<&'a Rule> {
+/// Of the rules that hold, the one that decides.
+fn deciding<'a>(rules: impl Iterator<Item = &'a Rule>, request: &Request) -> Option<&'a Rule> {
     rules
-        .iter()
         .filter(|rule| holds(rule, request))
         .min_by_key(|rule| (Reverse(rule.priority), rule.action, rule.id))
+}
+
+fn decide<'a>(rules: &'a [Rule], index: Option<&Index>, request: &Request) -> Option<&'a Rule> {
+    match index {
+        None => deciding(rules.iter(), request),
+        Some(index) => {
+            let places = index.candidates(request.text.as_bytes());
+            deciding(places.map(|place| &rules[place as usize]), request)
+        }
+    }
 }
 
 fn main() -> io::Result<()> {
@@ -297,15 +317,16 @@ fn main() -> io::Result<()> {
         .lines()
         .filter_map(read_rule)
         .collect();
+    let index = names.get(2).map(|_| Index::new(&rules));
     let script = fs::read_to_string(&names[1])?;
     let mut out = BufWriter::new(io::stdout().lock());
-    for (index, line) in script.lines().enumerate() {
+    for (place, line) in script.lines().enumerate() {
         write!(
             out,
             "{{\"line\":{},\"generation\":0,\"verdict\":",
-            index + 1
+            place + 1
         )?;
-        match read_request(line).and_then(|request| deciding(&rules, &request)) {
+        match read_request(line).and_then(|request| decide(&rules, index.as_ref(), &request)) {
             None => writeln!(out, "\"none\"}}")?,
             Some(rule) => {
                 let outcome = match rule.action {
