@@ -11,3 +11,5 @@ mod output;
 mod runs;
 #[cfg(test)]
 mod shelves;
+#[cfg(test)]
+mod tables;

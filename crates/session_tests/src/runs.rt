@@ -3,7 +3,7 @@ ghost use Rattle.std.specs.Prelude.{◌≡◌, length, IfOk};
 
 use crate::shelves::{shelf, words};
 use dnr_base::NoMemory;
-use dnr_io::{MemorySink, Status};
+use dnr_io::{MemoryShelf, MemorySink, Status};
 use dnr_top::run;
 use regex_host::{ListHost, PackHost};
 use session_laws::nine_hosts_are_enough;
@@ -12,14 +12,14 @@ use std::test::Fail;
 
 // The call of the shelf, of the sink, of the host of files and of that of requests that fails, from 1.
 #[derive(Clone, Copy)]
-struct Failing {
-    read: u64,
-    write: u64,
-    check: u64,
-    find: u64,
+pub struct Failing {
+    pub read: u64,
+    pub write: u64,
+    pub check: u64,
+    pub find: u64,
 }
 
-const NOTHING: Failing = Failing {
+pub const NOTHING: Failing = Failing {
     read: 0,
     write: 0,
     check: 0,
@@ -44,15 +44,26 @@ fn hosts(alloc: Global, failing: Failing) -> Result<Vec<ListHost<PackHost>>, NoM
     Ok(hosts)
 }
 
-// How a command ends, and what it writes.
-fn ended(alloc: Global, command: &str, failing: Failing) -> Result<(Status, Vec<u8>), NoMemory> {
+// How a command ends on this shelf, and what it writes, where a write takes at most so many bytes.
+pub fn ended_on(
+    alloc: Global,
+    command: &str,
+    shelf: &mut MemoryShelf,
+    most: usize,
+    failing: Failing,
+) -> Result<(Status, Vec<u8>), NoMemory> {
     let words = words(alloc, command)?;
-    let mut shelf = shelf(alloc, failing.read)?;
-    let mut sink = MemorySink::new(alloc, 4096, vec![in alloc; failing.write]?);
+    let mut sink = MemorySink::new(alloc, most.max(1), vec![in alloc; failing.write]?);
     let mut hosts = hosts(alloc, failing)?;
     nine_hosts_are_enough();
-    let status = run(alloc, &words, &mut shelf, &mut sink, &mut hosts);
+    let status = run(alloc, &words, shelf, &mut sink, &mut hosts);
     Ok((status, Vec::from_slice(alloc, sink.bytes())?))
+}
+
+// The same on the shelf of all tests.
+fn ended(alloc: Global, command: &str, failing: Failing) -> Result<(Status, Vec<u8>), NoMemory> {
+    let mut shelf = shelf(alloc, failing.read)?;
+    ended_on(alloc, command, &mut shelf, 4096, failing)
 }
 
 const BLOCKED: &str =

@@ -31,8 +31,17 @@ const FILES: &[(&str, &str)] = &[
 
 /// A shelf whose call of this number fails, from 1.
 pub fn shelf(alloc: Global, failing: u64) -> Result<MemoryShelf, NoMemory> {
+    shelf_of(alloc, FILES, failing)
+}
+
+/// The same over files of these names and texts.
+pub fn shelf_of(
+    alloc: Global,
+    all: &[(&str, &str)],
+    failing: u64,
+) -> Result<MemoryShelf, NoMemory> {
     let mut files = Vec::new(alloc);
-    for (name, text) in FILES {
+    for (name, text) in all {
         let name = String::from_str(alloc, name)?;
         files.push(MemoryFile::new(name, Vec::from_slice(alloc, text.as_bytes())?))?;
     }
