@@ -3,7 +3,7 @@ ghost use Rattle.std.specs.BTreeSet.{Updates, contains_by};
 ghost use Rattle.std.specs.Ordering.{int_cmp, nat_cmp};
 ghost use Rattle.ruleset_store.specs.Ids as spec;
 
-use crate::RuleList;
+use crate::SharedRule;
 use dnr_base::NoMemory;
 use std::alloc::Global;
 use std::collections::BTreeSet;
@@ -42,11 +42,11 @@ pub(crate) fn wholes_among(alloc: Global, ids: &[i128]) -> Result<BTreeSet<i128>
 
 // The ids of the rules.
 #[tactic(auto, using(crate::proofs::IdSets::more_ids_of))]
-pub(crate) fn ids_of(alloc: Global, rules: &RuleList) -> Result<BTreeSet<i128>, NoMemory>
+pub(crate) fn ids_of(alloc: Global, rules: &[SharedRule]) -> Result<BTreeSet<i128>, NoMemory>
     ensures { IfOk result (λ set. spec.HasIdsOf set rules.now) }
 {
     let mut set = BTreeSet::new(alloc);
-    for rule in rules.shared() {
+    for rule in rules {
         set.insert(i128::from(rule.rule().id()))?;
     }
     Ok(set)
@@ -68,11 +68,11 @@ pub(crate) fn has_whole(set: &BTreeSet<i128>, id: &i128) -> bool
 
 // The ids of the rules, as those of rules that come and go.
 #[tactic(auto, using(crate::proofs::IdSets::more_rule_ids))]
-pub(crate) fn rule_ids(alloc: Global, rules: &RuleList) -> Result<BTreeSet<u32>, NoMemory>
+pub(crate) fn rule_ids(alloc: Global, rules: &[SharedRule]) -> Result<BTreeSet<u32>, NoMemory>
     ensures { IfOk result (λ set. spec.HasRuleIds set rules.now) }
 {
     let mut set = BTreeSet::new(alloc);
-    for rule in rules.shared() {
+    for rule in rules {
         set.insert(rule.rule().id())?;
     }
     Ok(set)
@@ -83,12 +83,12 @@ pub(crate) fn rule_ids(alloc: Global, rules: &RuleList) -> Result<BTreeSet<u32>,
 pub(crate) fn taken_among(
     alloc: Global,
     ids: &BTreeSet<u32>,
-    rules: &RuleList,
+    rules: &[SharedRule],
 ) -> Result<BTreeSet<u32>, NoMemory>
     ensures { IfOk result (λ set. spec.HasTaken set ids.now rules.now) }
 {
     let mut set = BTreeSet::new(alloc);
-    for rule in rules.shared() {
+    for rule in rules {
         let id = rule.rule().id();
         if has_id(ids, id) {
             set.insert(id)?;

@@ -7,31 +7,35 @@
 mod changes;
 mod count;
 mod counts;
-mod disabled;
 mod extension;
 mod ids;
+mod indexed_rules;
 mod installed;
 mod installed_set;
 mod limits;
 mod names;
+mod off_ids;
 mod replacing;
 mod rule_list;
 mod rule_set;
+mod segment;
 mod shared_rule;
 mod store;
 #[cfg(test)]
 mod tests;
 mod update;
 
-pub use disabled::DisabledIds;
 pub use dnr_base::{Items, NoMemory, Text};
 pub use dnr_rules::Rule;
 pub use extension::Extension;
+pub use indexed_rules::IndexedRules;
 pub use installed::InstalledExtension;
 pub use installed_set::InstalledSet;
 pub use match_patterns::MatchPattern;
+pub use off_ids::OffIds;
 pub use rule_list::RuleList;
 pub use rule_set::{RuleSet, SharedSet};
+pub use segment::Segment;
 pub use shared_rule::SharedRule;
 pub use store::Store;
 pub use update::{BatchRefusal, Update};

@@ -9,7 +9,7 @@ ghost use Rattle.ruleset_store.specs.Seen.{Answers};
 ghost use Rattle.ruleset_store.specs.Tests as tests;
 
 use crate::ids::{has_id, has_whole, rule_ids, taken_among, wholes_among};
-use crate::{InstalledExtension, InstalledSet, RuleList, SharedRule};
+use crate::{InstalledExtension, InstalledSet, SharedRule};
 use dnr_base::{NoMemory, Text};
 use std::alloc::Global;
 use std::collections::BTreeSet;
@@ -172,10 +172,14 @@ fn judge_taken(taken: &BTreeSet<u32>, add: &[SharedRule]) -> Result<(), Refusal>
 }
 
 // The first rule to add is refused whose id one of the others has. Those are as a rule many, and few are added.
-pub(crate) fn judge_ids(alloc: Global, others: &RuleList, add: &RuleList) -> Result<(), Refusal>
+pub(crate) fn judge_ids(
+    alloc: Global,
+    others: &[SharedRule],
+    add: &[SharedRule],
+) -> Result<(), Refusal>
     ensures { Answers (tests.id_test others.now add.now) result }
 {
     let ids = rule_ids(alloc, add)?;
     let taken = taken_among(alloc, &ids, others)?;
-    judge_taken(&taken, add.shared())
+    judge_taken(&taken, add)
 }

@@ -2,7 +2,7 @@ ghost use Rattle.std.specs.Prelude.{◌≡◌, pos, IfOk};
 ghost use Rattle.std.specs.List.{list_any};
 ghost use Rattle.std.specs.Ordering.{int_eq};
 
-use crate::RuleList;
+use crate::IndexedRules;
 use crate::ids::{has_whole, ids_of};
 use dnr_base::{Copied, Items, NoMemory, Text};
 use dnr_rules::Rule;
@@ -17,7 +17,7 @@ use std::sync::Arc;
 pub struct RuleSet {
     id: Text,
     enabled: bool,
-    rules: RuleList,
+    rules: IndexedRules,
     origins: Items<Items<u32>>,
     ids: BTreeSet<i128>,
 }
@@ -48,8 +48,8 @@ impl RuleSet {
         ensures { IfOk result (λ set. set
             ≡ record { id = id; enabled = enabled; rules = rules.items; origins = origins.items }) }
     {
-        let rules = RuleList::of(alloc, rules)?;
-        let ids = ids_of(alloc, &rules)?;
+        let rules = IndexedRules::of(alloc, rules)?;
+        let ids = ids_of(alloc, rules.shared())?;
         Ok(RuleSet {
             id,
             enabled,
@@ -74,7 +74,7 @@ impl RuleSet {
     }
 
     /// Its rules, in their order.
-    pub fn rules(&self) -> &RuleList
+    pub fn rules(&self) -> &IndexedRules
         ensures { result.now ≡ self.now.rules }
     {
         &self.rules
@@ -100,8 +100,8 @@ impl RuleSet {
     pub fn copy(&self, alloc: Global) -> Result<RuleSet, NoMemory>
         ensures { IfOk result (λ copy. copy ≡ self.now) }
     {
-        let rules = self.rules.again(alloc)?;
-        let ids = ids_of(alloc, &rules)?;
+        let rules = self.rules.again()?;
+        let ids = ids_of(alloc, rules.shared())?;
         Ok(RuleSet {
             id: self.id.copy(alloc)?,
             enabled: self.enabled,

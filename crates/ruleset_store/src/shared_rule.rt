@@ -2,6 +2,7 @@ ghost use Rattle.std.specs.Prelude.{◌≡◌, IfOk};
 
 use dnr_base::NoMemory;
 use dnr_rules::Rule;
+use rule_index::LendsRule;
 use std::alloc::Global;
 use std::marker::Model;
 use std::sync::Arc;
@@ -44,5 +45,13 @@ impl SharedRule {
         ensures { result.now ≡ self.now }
     {
         &self.rule
+    }
+}
+
+impl LendsRule for SharedRule {
+    ghost lent = { λ shared. shared };
+
+    fn lent(&self) -> &Rule {
+        self.rule()
     }
 }

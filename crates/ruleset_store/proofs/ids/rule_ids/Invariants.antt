@@ -3,4 +3,4 @@ use Rattle.ruleset_store.specs.Ids.{HasRuleIds}
 use Rattle.ruleset_store.proofs.ids.rule_ids.Given as goal
 
 abbrev pub invariant-loop-rule : goal.invariant-loop-rule
-invariant-loop-rule l = HasRuleIds l.set (take l.rule-index l.rule-items)
+invariant-loop-rule l = HasRuleIds l.set (take l.rule-index l.rules)

@@ -3,4 +3,4 @@ use Rattle.ruleset_store.specs.Ids.{HasTaken}
 use Rattle.ruleset_store.proofs.ids.taken_among.Given as goal
 
 abbrev pub invariant-loop-rule : goal.invariant-loop-rule
-invariant-loop-rule l = HasTaken l.set l.ids (take l.rule-index l.rule-items)
+invariant-loop-rule l = HasTaken l.set l.ids (take l.rule-index l.rules)

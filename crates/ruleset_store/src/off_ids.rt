@@ -7,14 +7,15 @@ use std::alloc::Global;
 use std::collections::BTreeSet;
 use std::marker::Model;
 
-/// The ids of rules that are switched off, which are asked for in the time of a search. A clause sees the ids.
+/// The ids of rules that are off, disabled or removed, which are asked for in the time of a search. A clause sees the
+/// ids.
 #[derive(Debug, Drop)]
-pub struct DisabledIds {
+pub struct OffIds {
     ids: Vec<u32>,
     known: BTreeSet<u32>,
 }
 
-impl Model for DisabledIds {
+impl Model for OffIds {
     ghost use Rattle.std.specs.Prelude.{ℕ, List};
     ghost use Rattle.ruleset_store.specs.Ids.{HasIds};
 
@@ -25,15 +26,15 @@ impl Model for DisabledIds {
     ghost invariant = { λ d. HasIds d.known d.ids.items };
 }
 
-impl DisabledIds {
-    pub(crate) fn of(alloc: Global, ids: Vec<u32>) -> Result<DisabledIds, NoMemory>
-        ensures { IfOk result (λ disabled. disabled ≡ ids.items) }
+impl OffIds {
+    pub(crate) fn of(alloc: Global, ids: Vec<u32>) -> Result<OffIds, NoMemory>
+        ensures { IfOk result (λ off. off ≡ ids.items) }
     {
         let known = ids_among(alloc, ids.as_slice())?;
-        Ok(DisabledIds { ids, known })
+        Ok(OffIds { ids, known })
     }
 
-    /// The ids, in the order of the rules.
+    /// The ids, in their order.
     pub fn ids(&self) -> &[u32]
         ensures { result.now ≡ self.now }
     {
