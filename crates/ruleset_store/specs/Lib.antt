@@ -1,6 +1,4 @@
-pub mod Counts
 pub mod Ids
 pub mod Installed
 pub mod Seen
-pub mod Segments
 pub mod Tests

@@ -6,10 +6,8 @@ ghost use Rattle.update_spec.specs.Update as spec;
 ghost use Rattle.ruleset_store.specs.Installed.{is_off_by, off_in};
 
 use crate::ids::{has_number, wholes_among};
-use crate::off_ids::OffIds;
 use crate::rule_set::SharedSet;
-use crate::shared_rule::SharedRule;
-use crate::{IndexedRules, RuleSet};
+use crate::{IndexedRules, OffIds, RuleSet, SharedRule};
 use dnr_base::{Items, NoMemory, Text};
 use std::alloc::Global;
 use std::collections::BTreeSet;
