@@ -11,12 +11,12 @@ pub record AreCounts (rules : List Rule) (with_regex risky : ℕ) : Type 0 where
   pub unsafe_rules : risky ≡ count_unsafe rules
 
 -- the index and the counts are those of the rules
-pub record AreHeld (rules : List Rule) (index : ListIndex) (with_regex risky : ℕ) : Type 0 where
-  pub index : IsListIndexOf rules index
+pub record AreHeld (rules : List Rule) (by_key : ListIndex) (with_regex risky : ℕ) : Type 0 where
+  pub index : IsListIndexOf rules by_key
   pub counts : AreCounts rules with_regex risky
 
 -- the counts are those of the live rules, and the segments are few
-pub record AreListed (segments : List Segment) (count with_regex risky : ℕ) : Type 0 where
-  pub count : count ≡ length (live_among segments)
+pub record AreListed (segments : List Segment) (number with_regex risky : ℕ) : Type 0 where
+  pub count : number ≡ length (live_among segments)
   pub counts : AreCounts (live_among segments) with_regex risky
   pub few : AreFew segments

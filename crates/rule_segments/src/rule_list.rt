@@ -1,7 +1,8 @@
 ghost use Rattle.std.specs.Prelude.{◌≡◌, ◌++◌, [], ◌∷◌, length, count_by, IfOk, OnOk};
+ghost use Rattle.std.specs.List.{list_any};
 ghost use Rattle.update_spec.specs.Judge.{uses_regex, count_unsafe, has_id};
 ghost use Rattle.update_spec.specs.Update.{without_ids};
-ghost use Rattle.rule_segments.specs.Segments.{AreFew, live_among};
+ghost use Rattle.rule_segments.specs.Segments.{AreFew, live_among, live_in};
 
 use crate::indexed_rules::IndexedRules;
 use crate::off_ids::OffIds;
@@ -61,6 +62,13 @@ fn extend(rules: &mut Vec<SharedRule>, others: &[SharedRule]) -> Result<(), NoMe
     Ok(())
 }
 
+// Whether a live rule of one of the segments has this id.
+fn has_live(segments: &[Segment], id: u32) -> bool
+    ensures { result ≡ list_any (λ segment. has_id (live_in segment) id) segments.now }
+{
+    segments.iter().any(|segment| segment.has_live(id))
+}
+
 impl RuleList {
     /// No rules. It takes no memory.
     pub fn empty(alloc: Global) -> RuleList
@@ -78,7 +86,7 @@ impl RuleList {
     fn of_handles(alloc: Global, rules: Vec<SharedRule>) -> Result<RuleList, NoMemory>
         ensures { IfOk result (λ list. list ≡ rules.items) }
     {
-        if rules.is_empty() {
+        if rules.as_slice().is_empty() {
             return Ok(RuleList::empty(alloc));
         }
         let rules = IndexedRules::of_handles(alloc, rules)?;
@@ -139,7 +147,7 @@ impl RuleList {
     pub fn has_id(&self, id: u32) -> bool
         ensures { result ≡ has_id self.now id }
     {
-        self.segments.iter().any(|segment| segment.has_live(id))
+        has_live(self.segments(), id)
     }
 
     /// The rules that stay when those of these ids are removed.

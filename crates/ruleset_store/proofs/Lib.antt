@@ -1,5 +1,6 @@
 pub mod Batches
 pub mod Firsts
 pub mod IdSets
+pub mod Kept
 pub mod Rows
 pub mod Tested

@@ -9,6 +9,7 @@ use std::alloc::Global;
 use update_spec::Refusal;
 
 // The rules once those of these ids are removed and these are added.
+#[tactic(auto, using(crate::proofs::Kept::refused_so))]
 pub(crate) fn replaced(
     alloc: Global,
     rules: &RuleList,
@@ -20,6 +21,8 @@ pub(crate) fn replaced(
     ensures refused { IfErr result (IsRefusalOf (spec.first_duplicate remove.now add.now rules.now)) }
 {
     let kept = rules.without(alloc, remove)?;
-    judge_ids(&kept, add.shared())?;
-    Ok(kept.with(alloc, add)?)
+    match judge_ids(&kept, add.shared()) {
+        Ok(()) => Ok(kept.with(alloc, add)?),
+        Err(refusal) => Err(refusal),
+    }
 }
