@@ -138,6 +138,7 @@ module _ {K : Type 0} (reaches : ℕ → ℕ → Bool) (with_hit : K → ℕ × 
         where
           own_is : own ≤ q → q < own + 1 → own ≡ q
           own_is upper less = omega arith
+
       others : (q : ℕ) → own + 1 ≤ q → HasPart (own ∷ parts) q → HasPart parts q
       others q more (inl is) = absurd (omega (arith, is))
       others q more (inr has) = has
@@ -163,6 +164,7 @@ module _ {K : Type 0} (reaches : ℕ → ℕ → Bool) (with_hit : K → ℕ × 
           by : ((place ≡ place) × HasPart s.parts q) ⊎ HasHit s.later place q → HasPart s.parts q
           by (inl is) = is.1
           by (inr there) = absurd (let b = place_below (place + 1) 0 s.later place q s.on there in omega arith)
+
       others : (s : Split place 0 hits) (p q : ℕ) → place + 1 ≤ p → HasHit (of_place place s.parts ++ s.later) p q → HasHit s.later p q
       others s p q more has = by (part_in place s.parts s.later p q has)
         where

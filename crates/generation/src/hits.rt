@@ -47,11 +47,7 @@ fn push_frame(
 }
 
 // Puts the hits of the frames behind the others.
-fn push_frames(
-    hits: &mut Vec<Hit>,
-    index: &ListIndex,
-    request: &Request,
-) -> Result<(), NoMemory>
+fn push_frames(hits: &mut Vec<Hit>, index: &ListIndex, request: &Request) -> Result<(), NoMemory>
     requires { length request.now.frames ≤ max_frames }
     ensures hits { OnOk result (hits.new.items
         ≡ hits.old.items ++ spec.frame_hits index.now.framing request.now 0 request.now.frames) }
@@ -65,7 +61,12 @@ fn push_frames(
 }
 
 // Puts the hits of the request itself behind the others. None that reaches by it is left out.
-fn push_own(hits: &mut Vec<Hit>, index: &ListIndex, request: &Request, shown: u64) -> Result<(), NoMemory>
+fn push_own(
+    hits: &mut Vec<Hit>,
+    index: &ListIndex,
+    request: &Request,
+    shown: u64,
+) -> Result<(), NoMemory>
     ensures hits { OnOk result (hits.new.items
         ≡ hits.old.items ++ spec.hits_by (near index.now.whole (Some shown) (own_part request.now)) 0) }
     ensures view { IsView request.now.view }
