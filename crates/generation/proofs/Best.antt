@@ -40,7 +40,7 @@ module _ {X : Type 0} where
   find_in test (y ∷ before) x behind none passes = cond-false (test y) (Some y) (find test (before ++ x ∷ behind)) none.0 ∙ find_in test before x behind none.1 passes
 
 module _ {X : Type 0} (order_of : X → X → Bool) (order : IsOrder order_of) where
-  never_itself : (a : X) → order_of a a ≡ false
+  pub never_itself : (a : X) → order_of a a ≡ false
   never_itself a = ⊎_elim (λ yes. absurd (true≢false (sym yes ∙ order.one_way a a yes))) (λ no. no) (cases_Bool (order_of a a))
 
   best_found : (before : List X) (best : X) (behind : List X) → AllByRecursion (λ x. order_of best x ≡ true) before → AllByRecursion (λ x. order_of x best ≡ false) behind → unbeaten_of order_of (before ++ best ∷ behind) ≡ Some best

@@ -1,18 +1,29 @@
 -- Rules that stand together, as a list of rules in force.
-use Rattle.std.proofs.Common.{◌≡◌, ℕ, zero, suc, ◌+◌, ◌<◌, ◌≤◌, List, [], ◌∷◌, ◌++◌, length, drop, get_or, Option, true, refl, sym, ap, ◌∙◌, arith, add-one}
+use Rattle.std.proofs.Common.{◌≡◌, ℕ, zero, suc, ◌+◌, ◌<◌, ◌≤◌, List, [], ◌∷◌, ◌++◌, length, drop, get_or, Bool, true, false, not, cond, Option, Some, None, refl, sym, ap, ◌∙◌, arith, add-one}
 use Rattle.std.specs.List.{filter_map, cons_option}
-use Rattle.std.proofs.lemmas.List.{drop_more, drop_all}
+use Rattle.std.proofs.lemmas.List.{drop_more, drop_all, map-append}
 use Rattle.std.proofs.lemmas.Bool.{cond-true}
 use Rattle.dnr_base.specs.declared.rank.Rank.{Rank}
 use Rattle.dnr_base.specs.declared.rank.Rank.TheVariants.{Static}
 use Rattle.rule_spec.specs.Rule.{Rule}
-use Rattle.rule_spec.specs.State.{Live, RuleSet, live_with, with_lines, live_of, live_from}
+use Rattle.rule_spec.specs.State.{Live, RuleSet, has_number, live_with, with_lines, live_of, live_from}
+use Rattle.rule_segments.specs.Segments.{Segment, live_among, live_in}
+use Rattle.update_spec.specs.Update.{without_ids}
 use Rattle.generation.specs.Block.{lives_at, lines_at}
 
--- none is switched off, and none comes from a line
-pub lives_with : (rank : Rank) (set : List ℕ) (rules : List Rule) → lives_at rank set [] rules [] ≡ live_with rank set rules
-lives_with rank set [] = refl
-lives_with rank set (rule ∷ rules) = ap (λ (lives : List Live). record { rank = rank; set = set; rule = rule; lines = [] } ∷ lives) (lives_with rank set rules)
+-- ---- of a segment
+
+live_case : (off : Bool) (rank : Rank) (set : List ℕ) (rule : Rule) (lives : List Live) (rules : List Rule) → lives ≡ live_with rank set rules
+    → cons_option (cond off None (Some (record { rank = rank; set = set; rule = rule; lines = [] }))) lives ≡ live_with rank set (cond (not off) (rule ∷ rules) rules)
+live_case true rank set rule lives rules h = h
+live_case false rank set rule lives rules h = ap (λ (l : List Live). record { rank = rank; set = set; rule = rule; lines = [] } ∷ l) h
+
+-- none comes from a line
+pub segment_lives : (rank : Rank) (set off : List ℕ) (rules : List Rule) → lives_at rank set off rules [] ≡ live_with rank set (without_ids off rules)
+segment_lives rank set off [] = refl
+segment_lives rank set off (rule ∷ rules) = live_case (has_number off rule.id) rank set rule (lives_at rank set off rules []) (without_ids off rules) (segment_lives rank set off rules)
+
+-- ---- of a ruleset
 
 drop_none : {X : Type 0} (i : ℕ) → drop {A = X} i [] ≡ []
 drop_none zero = refl
@@ -48,3 +59,18 @@ sets_end sets i h = ap (live_from i) (drop_all i sets h)
 
 pub set_lives : (place : ℕ) (set : RuleSet) → set.enabled ≡ true → lives_at (Static place) set.id set.disabled set.rules set.origins ≡ live_of place set
 set_lives place set h = sym (cond-true set.enabled (lives_at (Static place) set.id set.disabled set.rules set.origins) [] h)
+
+-- ---- of segments
+
+-- the segments from a place on, by the one that stands there
+pub segments_step : (rank : Rank) (set : List ℕ) (segments : List Segment) (i : ℕ) (segment : Segment) (lives : List Live) → i < length segments → segment ≡ get_or segments i segment
+    → lives ≡ live_with rank set (live_in segment)
+    → live_with rank set (live_among (drop i segments)) ≡ lives ++ live_with rank set (live_among (drop (i + 1) segments))
+segments_step rank set segments i segment lives h is are =
+    ap (λ s. live_with rank set (live_among s)) (drop_more segments i segment h)
+    ∙ ap (λ s. live_with rank set (live_in s ++ live_among (drop (i + 1) segments))) (sym is)
+    ∙ map-append (λ rule. record { rank = rank; set = set; rule = rule; lines = [] }) (live_in segment) (live_among (drop (i + 1) segments))
+    ∙ ap (λ l. l ++ live_with rank set (live_among (drop (i + 1) segments))) (sym are)
+
+pub segments_end : (rank : Rank) (set : List ℕ) (segments : List Segment) (i : ℕ) → length segments ≤ i → live_with rank set (live_among (drop i segments)) ≡ []
+segments_end rank set segments i h = ap (λ s. live_with rank set (live_among s)) (drop_all i segments h)

@@ -1,6 +1,11 @@
 mod Blocks
 mod Walked
 mod Best
+mod Walks
+mod Parts
+mod Served
+mod Gathered
+mod Once
 mod Said
 mod Offered
 mod Scanned

@@ -1,7 +1,6 @@
 -- Rules that stand together: those of a static ruleset, the dynamic ones or the session's.
-use Rattle.std.specs.Prelude.{ℕ, List, [], ◌++◌, codes, Option, Some, None, unwrap_or, slice_get, if◌then◌else◌}
+use Rattle.std.specs.Prelude.{ℕ, List, [], ◌++◌, codes, Option, Some, None, unwrap_or, slice_get, option_and_then, if◌then◌else◌}
 use Rattle.std.specs.List.{filter_map}
-use Rattle.std.specs.Option.{option_copied}
 use Rattle.dnr_base.specs.declared.rank.Rank.{Rank}
 use Rattle.dnr_base.specs.declared.rank.Rank.TheVariants.{Session, Dynamic}
 use Rattle.rule_spec.specs.Rule.{Rule}
@@ -21,16 +20,16 @@ lives_at rank set disabled rules origins = filter_map (live_at rank set disabled
 abbrev pub lines_at : List (List ℕ) → ℕ → List ℕ
 lines_at origins place = unwrap_or (slice_get origins place) []
 
--- the ids of its rules that are switched off
-abbrev pub switched_off : Block → List ℕ
-switched_off block = unwrap_or (option_copied block.disabled) []
-
 -- the rule at a place of a block, if it is in force
 abbrev pub live_in : Block → ℕ → Rule → Option Live
-live_in block place rule = live_at block.rank block.set.now (switched_off block) (rule, lines_at block.origins.now place)
+live_in block place rule = live_at block.rank block.set.now block.off.now (rule, lines_at block.origins.now place)
+
+-- the same, if one stands there
+abbrev pub live_there : Block → ℕ → Option Live
+live_there block place = option_and_then (live_in block place) (slice_get block.rules.now place)
 
 abbrev pub lives_in : Block → List Live
-lives_in block = lives_at block.rank block.set.now (switched_off block) block.rules.now block.origins.now
+lives_in block = lives_at block.rank block.set.now block.off.now block.rules.now block.origins.now
 
 -- the rules that were added to an extension since it was installed
 abbrev pub added_to : Extension → List Live

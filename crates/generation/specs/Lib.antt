@@ -4,5 +4,6 @@ pub mod Refused
 pub mod Targets
 pub mod Block
 pub mod Kept
+pub mod Hits
 pub mod Choice
 pub mod Explained

@@ -1,21 +1,20 @@
-ghost use Rattle.std.specs.Prelude.{◌≡◌, codes, true};
-ghost use Rattle.dnr_base.specs.declared.rank.Rank.TheVariants as rank;
+ghost use Rattle.std.specs.Prelude.{◌≡◌, true};
+ghost use Rattle.rule_segments.specs.Segments.{live_in as live_in_segment};
 ghost use Rattle.rule_spec.specs.State as spec;
-ghost use Rattle.generation.specs.Block.{lines_at, lives_in, switched_off};
+ghost use Rattle.generation.specs.Block.{lines_at, live_there, lives_in};
 
 use crate::live::Live;
 use dnr_base::{Items, Rank};
-use dnr_rules::Rule;
-use ruleset_store::{DisabledIds, InstalledExtension, InstalledSet, RuleList, SharedRule};
+use ruleset_store::{IndexedRules, InstalledSet, OffIds, Segment};
 
-// Rules that stand together, with the lines that each comes from, if any, and the ids of those that are switched off.
+// Rules that stand together, with the lines that each comes from, if any, and the ids of those that are off.
 #[derive(Drop)]
 pub(crate) struct Block<'a> {
     rank: Rank,
     set: &'a str,
-    pub rules: &'a [SharedRule],
+    pub rules: &'a IndexedRules,
     origins: &'a [Items<u32>],
-    disabled: Option<&'a DisabledIds>,
+    off: &'a OffIds,
 }
 
 // The lines of the rule at a place.
@@ -29,31 +28,17 @@ fn lines_at(origins: &[Items<u32>], place: usize) -> &[u32]
 }
 
 impl<'a> Block<'a> {
-    // Rules that were added to an extension.
-    fn added(rank: Rank, set: &'a str, rules: &'a RuleList) -> Block<'a>
-        ensures { lives_in result ≡ spec.live_with rank set.now rules.now }
+    // The live rules of a segment of those that were added to an extension.
+    pub(crate) fn of_segment(rank: Rank, set: &'a str, segment: &'a Segment) -> Block<'a>
+        ensures { lives_in result ≡ spec.live_with rank set.now (live_in_segment segment.now) }
     {
         Block {
             rank,
             set,
-            rules: rules.shared(),
+            rules: segment.rules(),
             origins: &[],
-            disabled: None,
+            off: segment.removed(),
         }
-    }
-
-    // The session rules of an extension.
-    pub(crate) fn session(extension: &'a InstalledExtension) -> Block<'a>
-        ensures { lives_in result ≡ spec.live_with rank.Session (codes "_session") extension.now.session }
-    {
-        Block::added(Rank::Session, "_session", extension.session())
-    }
-
-    // The dynamic rules of an extension.
-    pub(crate) fn dynamic(extension: &'a InstalledExtension) -> Block<'a>
-        ensures { lives_in result ≡ spec.live_with rank.Dynamic (codes "_dynamic") extension.now.dynamic }
-    {
-        Block::added(Rank::Dynamic, "_dynamic", extension.dynamic())
     }
 
     // The rules of the enabled ruleset at this place of its manifest.
@@ -65,31 +50,27 @@ impl<'a> Block<'a> {
         Block {
             rank: Rank::Static(place),
             set: set.id(),
-            rules: set.rules().shared(),
+            rules: set.rules(),
             origins: set.origins(),
-            disabled: Some(set.disabled()),
+            off: set.disabled(),
         }
     }
 
-    // Whether the rule is switched off.
-    pub(crate) fn is_off(&self, rule: &Rule) -> bool
-        ensures { result ≡ spec.has_number (switched_off self.now) rule.now.id }
+    // The rule at a place, if one stands there and is in force.
+    pub(crate) fn live_at(&self, place: usize) -> Option<Live<'a>>
+        ensures { result ≡ live_there self.now place }
     {
-        match self.disabled {
-            Some(ids) => ids.has(rule.id()),
-            None => false,
+        let Some(rule) = self.rules.get(place) else {
+            return None;
+        };
+        if self.off.has(rule.id()) {
+            return None;
         }
-    }
-
-    // The rule, which stands at this place and is in force.
-    pub(crate) fn live(&self, place: usize, rule: &'a Rule) -> Live<'a>
-        ensures { result ≡ record { rank = self.now.rank; set = self.now.set.now; rule = rule.now; lines = lines_at self.now.origins.now place } }
-    {
-        Live {
+        Some(Live {
             rank: self.rank,
             set: self.set,
             rule,
             lines: lines_at(self.origins, place),
-        }
+        })
     }
 }

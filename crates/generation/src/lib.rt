@@ -10,6 +10,7 @@ mod decision;
 mod explanation;
 mod first;
 mod generation;
+mod hits;
 mod kept;
 mod live;
 mod offer;

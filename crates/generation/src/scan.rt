@@ -1,11 +1,12 @@
-ghost use Rattle.std.specs.Prelude.{◌≡◌, ◌≤◌, [], ◌∷◌, length, option_to_list, is_some, Some, IsSome, OnOk, IfOk, IfSome, IsErrOf};
+ghost use Rattle.std.specs.Prelude.{◌≡◌, ◌≤◌, ◌+◌, [], ◌∷◌, length, fold, option_to_list, Some, IsSome, OnOk, IfOk, IfSome, IsErrOf};
+ghost use Rattle.std.specs.List.{sum_by};
 ghost use Rattle.dnr_base.specs.Faults.{HasCauseOf};
 ghost use Rattle.rule_match.specs.Answers.{IsCalm};
 ghost use Rattle.explain_spec.specs.Explanation.{frame_of};
-ghost use Rattle.rule_spec.specs.Reaches.{reach_of};
-ghost use Rattle.rule_spec.specs.Scan.{is_candidate};
-ghost use Rattle.rule_spec.specs.State.{live_from, live_of, live_rules};
-ghost use Rattle.generation.specs.Block.{added_to, live_in, lives_in};
+ghost use Rattle.rule_segments.specs.Segments.{live_among};
+ghost use Rattle.rule_spec.specs.State.{live_from, live_of, live_rules, live_with};
+ghost use Rattle.generation.specs.Block.{added_to, live_there, lives_in};
+ghost use Rattle.generation.specs.Hits.{acts_by, live_count, part_at, with_hit, with_part};
 ghost use Rattle.generation.specs.Kept as spec;
 ghost use Rattle.generation.specs.Refused.{Ends, IsPattern, IsPatternOf, IsRefusalAt};
 ghost use Rattle.dnr_base.specs.Request.{max_frames};
@@ -13,36 +14,42 @@ ghost use Rattle.dnr_base.specs.Request.{max_frames};
 use crate::DecideRefusal;
 use crate::access::has_access;
 use crate::block::Block;
+use crate::hits::{Hit, find, shown};
 use crate::kept::Kept;
 use crate::live::Live;
 use crate::targets::may_act;
-use dnr_base::{Request, Steps};
+use dnr_base::{Rank, Request, Steps};
 use dnr_rules::Rule;
 use regex_host::RegexHost;
 use rule_match::{MatchRefusal, PreparedRequest, Reach};
-use ruleset_store::{InstalledExtension, InstalledSet};
+use ruleset_store::{InstalledExtension, InstalledSet, Segment};
 use std::alloc::Global;
 use std::marker::Model;
 use std::sync::ledger::Ledger;
 use suffix_list::SuffixList;
 
-// A request that is scanned for. A clause sees the request and the suffix rules.
+// A request that is scanned for, and what it shows of what rules need. A clause sees the request and the suffix rules.
 #[derive(Drop)]
 pub(crate) struct Scan<'r> {
     pub alloc: Global,
     pub request: &'r Request,
     prepared: PreparedRequest<'r>,
+    shown: u64,
 }
 
 impl<'r> Model for Scan<'r> {
-    ghost use Rattle.std.specs.Prelude.{◌≡◌};
+    ghost use Rattle.std.specs.Prelude.{◌≡◌, ◌≤◌, length};
+    ghost use Rattle.dnr_base.specs.Request.{max_frames, own_part};
+    ghost use Rattle.rule_index.specs.Needs.{shown_by};
     ghost use Rattle.rule_match.specs.Prepared.{PreparedRequest};
 
     ghost Value = { PreparedRequest };
 
     ghost view = { λ s. s.prepared };
 
-    ghost invariant = { λ s. s.prepared.request ≡ s.request.now };
+    ghost invariant = { λ s. (s.prepared.request ≡ s.request.now)
+        × (length s.request.now.frames ≤ max_frames)
+        × (s.shown ≡ shown_by (own_part s.request.now)) };
 }
 
 // The number, if it fits.
@@ -80,6 +87,17 @@ pub(crate) fn refusal_at(
     }
 }
 
+// The part of this number: the request itself, and behind it its frames.
+fn part_at(part: u32) -> Reach
+    ensures { result ≡ part_at part }
+{
+    if part == 0 {
+        Reach::Own
+    } else {
+        Reach::Frame(part - 1)
+    }
+}
+
 impl<'r> Scan<'r> {
     pub(crate) fn new(alloc: Global, request: &'r Request, list: &'r SuffixList) -> Scan<'r>
         requires { length request.now.frames ≤ max_frames }
@@ -89,96 +107,143 @@ impl<'r> Scan<'r> {
             alloc,
             request,
             prepared: PreparedRequest::new(request, list),
+            shown: shown(request),
         }
     }
 
-    // How the rule reaches the request, if it is a candidate.
-    fn candidate_reach<H: RegexHost, L: Ledger>(
+    // Whether the rule reaches the request by this part and may act on it.
+    fn acts_by<H: RegexHost, L: Ledger>(
         &self,
-        extension: &str,
-        access: bool,
+        kept: &Kept<'_>,
         rule: &Rule,
+        part: Reach,
         host: &mut H,
         steps: &mut Steps<L>,
-    ) -> Result<Option<Reach>, MatchRefusal>
-        ensures candidate { IfOk result (λ reach. is_some reach ≡ is_candidate self.now.suffixes extension.now access self.now.request rule.now) }
-        ensures reach { IfOk result (λ reach. IfSome reach (λ by. reach_of self.now.suffixes rule.now self.now.request ≡ Some by)) }
+    ) -> Result<bool, MatchRefusal>
+        ensures value { IfOk result (λ acts. acts ≡ acts_by self.now.suffixes self.now.request part kept.now rule.now) }
+        ensures few { steps.new ≤ steps.old + 1 }
         ensures asked { IsErrOf result MatchRefusal.HostFault → IsSome rule.now.condition.regex_filter }
         ensures cause { HasCauseOf MatchRefusal.HostFault (H.faults host.old) (H.faults host.new) result }
         ensures calm { IsCalm (H.faults host.old) (H.faults host.new) result }
     {
-        let Some(reach) = self.prepared.reaches(rule, host, steps)? else {
-            return Ok(None);
-        };
-        let acts = may_act(
+        if !self.prepared.reaches_by(part, rule, host, steps)? {
+            return Ok(false);
+        }
+        may_act(
             self.alloc,
-            extension,
-            access,
+            kept.name,
+            kept.access,
             rule,
             &self.request.view,
             host,
-        )?;
-        if acts { Ok(Some(reach)) } else { Ok(None) }
+        )
     }
 
-    // Takes a rule in force in, if it is a candidate.
+    // Takes a rule in force in, if it acts by this part.
     fn take_live<'a, H: RegexHost, L: Ledger>(
         &self,
         kept: &mut Kept<'a>,
         live: Live<'a>,
+        part: Reach,
         host: &mut H,
         steps: &mut Steps<L>,
     ) -> Result<(), DecideRefusal>
-        ensures kept { OnOk result (kept.new ≡ spec.with_live self.now.suffixes self.now.request kept.old live.entry) }
+        ensures kept { OnOk result (kept.new ≡ with_part self.now.suffixes self.now.request part kept.old live.entry) }
+        ensures few { steps.new ≤ steps.old + 1 }
         ensures ends { Ends (IsPattern kept.old.name (live.entry ∷ [])) (H.faults host.old) (H.faults host.new) result }
     {
         if kept.outdoes(&live) {
             return Ok(());
         }
-        match self.candidate_reach(kept.name, kept.access, live.rule, host, steps) {
-            Ok(Some(reach)) => match kept.add(live, frame_of(reach)) {
+        match self.acts_by(kept, live.rule, part, host, steps) {
+            Ok(true) => match kept.add(live, frame_of(part)) {
                 Ok(()) => Ok(()),
                 Err(_) => Err(DecideRefusal::NoMemory),
             },
-            Ok(None) => Ok(()),
+            Ok(false) => Ok(()),
             Err(refusal) => Err(refusal_at(self.alloc, refusal, kept.name, &live)),
         }
     }
 
-    // Takes the rule at a place of a block in, if it is in force and a candidate.
-    fn take_at<'a, H: RegexHost, L: Ledger>(
+    // Takes the rule of a hit in, if it is in force and acts by this part.
+    fn take_hit<'a, H: RegexHost, L: Ledger>(
         &self,
         kept: &mut Kept<'a>,
         block: &Block<'a>,
-        place: usize,
-        rule: &'a Rule,
+        hit: Hit,
         host: &mut H,
         steps: &mut Steps<L>,
     ) -> Result<(), DecideRefusal>
-        ensures kept { OnOk result (kept.new ≡ spec.with_some self.now.suffixes self.now.request kept.old (live_in block.now place rule.now)) }
-        ensures ends { Ends (IsPattern kept.old.name (option_to_list (live_in block.now place rule.now))) (H.faults host.old) (H.faults host.new) result }
+        ensures kept { OnOk result (kept.new ≡ with_hit self.now.suffixes self.now.request block.now kept.old hit) }
+        ensures few { steps.new ≤ steps.old + live_count block.now hit }
+        ensures ends { Ends (IsPattern kept.old.name (option_to_list (live_there block.now hit.0))) (H.faults host.old) (H.faults host.new) result }
     {
-        if block.is_off(rule) {
-            return Ok(());
+        match block.live_at(hit.0 as usize) {
+            Some(live) => self.take_live(kept, live, part_at(hit.1), host, steps),
+            None => Ok(()),
         }
-        self.take_live(kept, block.live(place, rule), host, steps)
     }
 
-    // Takes the rules of a block in.
+    // Takes the rules of the hits in, one after another.
+    fn take_hits<'a, H: RegexHost, L: Ledger>(
+        &self,
+        kept: Kept<'a>,
+        block: &Block<'a>,
+        hits: &[Hit],
+        host: &mut H,
+        steps: &mut Steps<L>,
+    ) -> Result<Kept<'a>, DecideRefusal>
+        ensures kept { IfOk result (λ new. new ≡ fold (with_hit self.now.suffixes self.now.request block.now) kept.entry hits.now) }
+        ensures few { steps.new ≤ steps.old + sum_by (live_count block.now) hits.now }
+        ensures ends { Ends (IsPattern kept.entry.name (lives_in block.now)) (H.faults host.old) (H.faults host.new) result }
+    {
+        let mut kept = kept;
+        for hit in hits {
+            match self.take_hit(&mut kept, block, *hit, host, steps) {
+                Ok(()) => {}
+                Err(refusal) => return Err(refusal),
+            }
+        }
+        Ok(kept)
+    }
+
+    // Takes the rules of a block in. Those that do not reach the request are not walked.
     fn take_block<'a, H: RegexHost, L: Ledger>(
         &self,
         kept: Kept<'a>,
         block: &Block<'a>,
+        hits: &mut Vec<Hit>,
         host: &mut H,
         steps: &mut Steps<L>,
     ) -> Result<Kept<'a>, DecideRefusal>
         ensures kept { IfOk result (λ new. new ≡ spec.with_lives self.now.suffixes self.now.request kept.entry (lives_in block.now)) }
         ensures ends { Ends (IsPattern kept.entry.name (lives_in block.now)) (H.faults host.old) (H.faults host.new) result }
     {
+        match find(hits, block.rules, self.request, self.shown) {
+            Ok(()) => self.take_hits(kept, block, hits.as_slice(), host, steps),
+            Err(_) => Err(DecideRefusal::NoMemory),
+        }
+    }
+
+    // Takes the rules of segments in that were added to an extension.
+    fn take_segments<'a, H: RegexHost, L: Ledger>(
+        &self,
+        kept: Kept<'a>,
+        rank: Rank,
+        set: &'a str,
+        segments: &'a [Segment],
+        hits: &mut Vec<Hit>,
+        host: &mut H,
+        steps: &mut Steps<L>,
+    ) -> Result<Kept<'a>, DecideRefusal>
+        ensures kept { IfOk result (λ new. new ≡ spec.with_lives self.now.suffixes self.now.request kept.entry (live_with rank set.now (live_among segments.now))) }
+        ensures ends { Ends (IsPattern kept.entry.name (live_with rank set.now (live_among segments.now))) (H.faults host.old) (H.faults host.new) result }
+    {
         let mut kept = kept;
-        for (place, rule) in block.rules.iter().enumerate() {
-            match self.take_at(&mut kept, block, place, rule.rule(), host, steps) {
-                Ok(()) => {}
+        for segment in segments {
+            let block = Block::of_segment(rank, set, segment);
+            match self.take_block(kept, &block, hits, host, steps) {
+                Ok(more) => kept = more,
                 Err(refusal) => return Err(refusal),
             }
         }
@@ -191,6 +256,7 @@ impl<'r> Scan<'r> {
         kept: Kept<'a>,
         place: usize,
         set: &'a InstalledSet,
+        hits: &mut Vec<Hit>,
         host: &mut H,
         steps: &mut Steps<L>,
     ) -> Result<Kept<'a>, DecideRefusal>
@@ -204,7 +270,7 @@ impl<'r> Scan<'r> {
         let Some(place) = narrow(place) else {
             return Err(DecideRefusal::NoMemory);
         };
-        self.take_block(kept, &Block::of_set(place, set), host, steps)
+        self.take_block(kept, &Block::of_set(place, set), hits, host, steps)
     }
 
     // Takes the rules of the static rulesets in.
@@ -212,6 +278,7 @@ impl<'r> Scan<'r> {
         &self,
         kept: Kept<'a>,
         sets: &'a [InstalledSet],
+        hits: &mut Vec<Hit>,
         host: &mut H,
         steps: &mut Steps<L>,
     ) -> Result<Kept<'a>, DecideRefusal>
@@ -220,7 +287,7 @@ impl<'r> Scan<'r> {
     {
         let mut kept = kept;
         for (place, set) in sets.iter().enumerate() {
-            match self.take_set(kept, place, set, host, steps) {
+            match self.take_set(kept, place, set, hits, host, steps) {
                 Ok(more) => kept = more,
                 Err(refusal) => return Err(refusal),
             }
@@ -233,16 +300,19 @@ impl<'r> Scan<'r> {
         &self,
         kept: Kept<'a>,
         extension: &'a InstalledExtension,
+        hits: &mut Vec<Hit>,
         host: &mut H,
         steps: &mut Steps<L>,
     ) -> Result<Kept<'a>, DecideRefusal>
         ensures kept { IfOk result (λ new. new ≡ spec.with_lives self.now.suffixes self.now.request kept.entry (added_to extension.now)) }
         ensures ends { Ends (IsPattern kept.entry.name (added_to extension.now)) (H.faults host.old) (H.faults host.new) result }
     {
-        let session = Block::session(extension);
-        let dynamic = Block::dynamic(extension);
-        match self.take_block(kept, &session, host, steps) {
-            Ok(kept) => self.take_block(kept, &dynamic, host, steps),
+        let session = extension.session().segments();
+        let dynamic = extension.dynamic().segments();
+        match self.take_segments(kept, Rank::Session, "_session", session, hits, host, steps) {
+            Ok(kept) => {
+                self.take_segments(kept, Rank::Dynamic, "_dynamic", dynamic, hits, host, steps)
+            }
             Err(refusal) => Err(refusal),
         }
     }
@@ -252,6 +322,7 @@ impl<'r> Scan<'r> {
         &self,
         age: usize,
         extension: &'a InstalledExtension,
+        hits: &mut Vec<Hit>,
         host: &mut H,
         steps: &mut Steps<L>,
     ) -> Result<Kept<'a>, DecideRefusal>
@@ -264,8 +335,8 @@ impl<'r> Scan<'r> {
         };
         let access = has_access(extension.access(), self.request);
         let kept = Kept::new(self.alloc, extension, age, access);
-        match self.take_added(kept, extension, host, steps) {
-            Ok(kept) => self.take_sets(kept, extension.sets(), host, steps),
+        match self.take_added(kept, extension, hits, host, steps) {
+            Ok(kept) => self.take_sets(kept, extension.sets(), hits, host, steps),
             Err(refusal) => Err(refusal),
         }
     }
@@ -280,9 +351,10 @@ impl<'r> Scan<'r> {
         ensures kept { IfOk result (λ kepts. kepts.items ≡ spec.kept_from self.now.suffixes self.now.request 0 extensions.now) }
         ensures ends { Ends (IsPatternOf extensions.now) (H.faults host.old) (H.faults host.new) result }
     {
+        let mut hits = Vec::new(self.alloc);
         let mut kepts = Vec::new(self.alloc);
         for (age, extension) in extensions.iter().enumerate() {
-            match self.take_extension(age, extension, host, steps) {
+            match self.take_extension(age, extension, &mut hits, host, steps) {
                 Ok(kept) => {
                     if kepts.push(kept).is_err() {
                         return Err(DecideRefusal::NoMemory);

@@ -1,3 +1,2 @@
 pub mod PatternLast
 pub mod FrameSteps
-pub mod ThirdFrames

@@ -9,13 +9,12 @@ use Rattle.rule_spec.specs.Rule.{Condition}
 use Rattle.rule_spec.specs.Holds.{is_by, is_not_by, has_tab, is_in, is_among, is_from, is_not_from, is_party, has_response, has_no_response}
 use Rattle.rule_match.specs.Prepared.{is_third}
 
--- by its type, its method and its party
-abbrev pub holds_by_type : List SuffixRule → Condition → Part → Bool
-holds_by_type suffixes condition part =
+-- by its type and its method
+abbrev pub holds_by_type : Condition → Part → Bool
+holds_by_type condition part =
     has_kind condition.kinds part.kind
     && is_by condition.methods part.view.scheme part.method
     && is_not_by condition.not_methods part.view.scheme part.method
-    && is_party condition.third_party (is_third suffixes part)
 
 -- by the domains where it goes and from which it comes
 abbrev pub holds_by_domains : Condition → Part → Bool
@@ -36,3 +35,7 @@ abbrev pub holds_by_response : Condition → Part → Bool
 holds_by_response condition part =
     has_response condition.header_tests part.response_headers
     && has_no_response condition.not_header_tests part.response_headers
+
+-- by its party
+abbrev pub holds_by_party : List SuffixRule → Condition → Part → Bool
+holds_by_party suffixes condition part = is_party condition.third_party (is_third suffixes part)

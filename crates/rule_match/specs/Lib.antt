@@ -1,5 +1,4 @@
 pub mod Prepared
-pub mod Frames
 pub mod Patterns
 pub mod Groups
 pub mod Tested

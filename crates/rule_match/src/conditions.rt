@@ -97,15 +97,6 @@ pub(crate) fn is_not_from(domains: &DomainSet, initiator: Option<&Text>) -> bool
     }
 }
 
-pub(crate) fn is_party(asked: Option<bool>, third: bool) -> bool
-    ensures { result ≡ spec.is_party asked third }
-{
-    match asked {
-        None => true,
-        Some(asked) => asked == third,
-    }
-}
-
 // ---- the headers of the response
 
 pub(crate) fn has_response(

@@ -11,7 +11,7 @@ ghost use Rattle.rule_match.specs.Patterns.{without_pattern, asks_for_match};
 use crate::MatchRefusal;
 use crate::conditions::{
     fits, has_no_response, has_response, has_tab, is_among, is_by, is_from, is_in, is_not_among,
-    is_not_by, is_not_from, is_party,
+    is_not_by, is_not_from,
 };
 use dnr_base::{Part, Steps, Text};
 use dnr_rules::{Condition, Rule};
@@ -22,51 +22,38 @@ use std::sync::ledger::Ledger;
 use suffix_list::SuffixList;
 
 // Whether the part is third party.
-pub(crate) fn is_third(part: &Part<'_>, list: &SuffixList) -> bool
+fn is_third(part: &Part<'_>, list: &SuffixList) -> bool
     ensures { result ≡ prepared.is_third list.now part.now }
 {
     third_party(list, part.view.host(), part.initiator.map(Text::as_str))
 }
 
-/// A part of a request on which many rules are tested: its party is told once. A clause sees the part and the
-/// suffix rules.
+/// A part of a request on which many rules are tested. Its party is told where a rule asks for it of which all else
+/// holds. A clause sees the part and the suffix rules.
 #[derive(Drop)]
 pub struct PreparedPart<'a> {
     part: Part<'a>,
     list: &'a SuffixList,
-    third: bool,
 }
 
 impl<'a> Model for PreparedPart<'a> {
-    ghost use Rattle.std.specs.Prelude.{◌≡◌};
-    ghost use Rattle.rule_match.specs.Prepared.{PreparedPart, is_third};
+    ghost use Rattle.rule_match.specs.Prepared.{PreparedPart};
 
     ghost Value = { PreparedPart };
 
     ghost view = { λ p. record { suffixes = p.list.now; part = p.part } };
-
-    ghost invariant = { λ p. p.third ≡ is_third p.list.now p.part };
 }
 
 impl<'a> PreparedPart<'a> {
-    /// Tells the party of a part by a suffix list. It takes no memory.
+    /// A part, and the suffix list by which its party is told. It takes no memory.
     pub fn new(part: Part<'a>, list: &'a SuffixList) -> PreparedPart<'a>
         ensures { result ≡ record { suffixes = list.now; part = part.entry } }
     {
-        let third = is_third(&part, list);
-        PreparedPart { part, list, third }
+        PreparedPart { part, list }
     }
 
-    // A part whose party is known.
-    pub(crate) fn of_party(part: Part<'a>, list: &'a SuffixList, third: bool) -> PreparedPart<'a>
-        requires { third ≡ prepared.is_third list.now part }
-        ensures { result ≡ record { suffixes = list.now; part = part.entry } }
-    {
-        PreparedPart { part, list, third }
-    }
-
-    // Whether all of the condition holds but for its pattern. Cheap tests come first, and last the urlFilter and what
-    // very few rules ask for.
+    // Whether all of the condition holds but for its pattern. Cheap tests come first, and last the urlFilter, what very
+    // few rules ask for, and the party, which takes more to tell than the rest.
     #[tactic(auto, using(crate::proofs::PatternLast::holds_by_groups))]
     fn holds_but_pattern(&self, condition: &Condition) -> bool
         ensures { result
@@ -81,16 +68,16 @@ impl<'a> PreparedPart<'a> {
                 self.part.view,
             )
             && self.holds_by_response(condition)
+            && self.holds_by_party(condition)
     }
 
     fn holds_by_type(&self, condition: &Condition) -> bool
-        ensures { result ≡ groups.holds_by_type self.now.suffixes condition.now self.now.part }
+        ensures { result ≡ groups.holds_by_type condition.now self.now.part }
     {
         let part = &self.part;
         condition.kinds().contains(part.kind)
             && is_by(condition.methods(), part.view.scheme(), part.method)
             && is_not_by(condition.not_methods(), part.view.scheme(), part.method)
-            && is_party(condition.third_party(), self.third)
     }
 
     fn holds_by_domains(&self, condition: &Condition) -> bool
@@ -116,6 +103,15 @@ impl<'a> PreparedPart<'a> {
         let headers = self.part.response_headers;
         has_response(condition.header_tests(), headers)
             && has_no_response(condition.not_header_tests(), headers)
+    }
+
+    fn holds_by_party(&self, condition: &Condition) -> bool
+        ensures { result ≡ groups.holds_by_party self.now.suffixes condition.now self.now.part }
+    {
+        match condition.third_party() {
+            None => true,
+            Some(asked) => asked == is_third(&self.part, self.list),
+        }
     }
 
     // Whether a pattern has a match in the URL.

@@ -5,12 +5,9 @@ ghost use Rattle.dnr_base.specs.Request.{own_part, frame_part, max_frames};
 ghost use Rattle.rule_spec.specs.Reaches.{reach_of, first_frame, holds_on_part};
 ghost use Rattle.dnr_rules.specs.Seen.{action_seen};
 ghost use Rattle.rule_match.specs.Answers.{IsCalm};
-ghost use Rattle.rule_match.specs.Frames.{AreThirdFrames};
-ghost use Rattle.rule_match.specs.Prepared as prepared;
 ghost use Rattle.rule_match.specs.Tested as tested;
-ghost use Rattle.rule_match.specs.Tested.{parts_tested, frames_tested, part_count};
+ghost use Rattle.rule_match.specs.Tested.{parts_tested, frames_tested, part_count, reaches_by};
 
-use crate::prepared_part::is_third;
 use crate::{MatchRefusal, PreparedPart};
 use dnr_base::{Request, Steps};
 use dnr_rules::{Action, Rule};
@@ -20,58 +17,30 @@ use std::marker::Model;
 use std::sync::ledger::Ledger;
 use suffix_list::SuffixList;
 
-// The most frames of a request.
-const MAX_FRAMES: usize = 64;
-
-// Which frames are third party.
-fn third_frames(request: &Request, list: &SuffixList) -> [bool; MAX_FRAMES]
-    requires { length request.now.frames ≤ max_frames }
-    ensures { AreThirdFrames list.now request.now result }
-{
-    let mut thirds = [true; MAX_FRAMES];
-    for place in 0..request.frames.as_slice().len() {
-        thirds[place] = is_third_frame(request, list, place);
-    }
-    thirds
-}
-
-// Whether the frame at a place is third party; what is told of one that has no URL decides nothing.
-fn is_third_frame(request: &Request, list: &SuffixList, place: usize) -> bool
-    ensures { result ≡ prepared.is_third_frame list.now request.now place }
-{
-    match request.frame_part(place) {
-        Some(part) => is_third(&part, list),
-        None => true,
-    }
-}
-
-/// A request on which many rules are tested: the parties of its parts are told once. A clause sees the request and
+/// A request on which many rules are tested, and the suffix list by which parties are told. A clause sees the request and
 /// the suffix rules.
 #[derive(Drop)]
 pub struct PreparedRequest<'a> {
     request: &'a Request,
     list: &'a SuffixList,
     own: PreparedPart<'a>,
-    third_frames: [bool; MAX_FRAMES],
 }
 
 impl<'a> Model for PreparedRequest<'a> {
     ghost use Rattle.std.specs.Prelude.{◌≡◌, ◌≤◌, length};
     ghost use Rattle.dnr_base.specs.Request.{own_part, max_frames};
     ghost use Rattle.rule_match.specs.Prepared.{PreparedRequest};
-    ghost use Rattle.rule_match.specs.Frames.{AreThirdFrames};
 
     ghost Value = { PreparedRequest };
 
     ghost view = { λ r. record { suffixes = r.list.now; request = r.request.now } };
 
     ghost invariant = { λ r. (length r.request.now.frames ≤ max_frames)
-        × (r.own ≡ record { suffixes = r.list.now; part = own_part r.request.now })
-        × AreThirdFrames r.list.now r.request.now r.third_frames };
+        × (r.own ≡ record { suffixes = r.list.now; part = own_part r.request.now }) };
 }
 
 impl<'a> PreparedRequest<'a> {
-    /// Tells the parties of a request and of its frames by a suffix list. It takes no memory.
+    /// A request, and the suffix list by which the parties of its parts are told. It takes no memory.
     pub fn new(request: &'a Request, list: &'a SuffixList) -> PreparedRequest<'a>
         requires { length request.now.frames ≤ max_frames }
         ensures { result ≡ record { suffixes = list.now; request = request.now } }
@@ -80,7 +49,6 @@ impl<'a> PreparedRequest<'a> {
             request,
             list,
             own: PreparedPart::new(request.own_part(), list),
-            third_frames: third_frames(request, list),
         }
     }
 
@@ -98,7 +66,7 @@ impl<'a> PreparedRequest<'a> {
             (λ part. record { suffixes = self.now.suffixes; part = part }) (frame_part self.now.request place) }
     {
         let part = self.request.frame_part(place)?;
-        Some(PreparedPart::of_party(part, self.list, self.third_frames[place]))
+        Some(PreparedPart::new(part, self.list))
     }
 
     // Whether the rule holds on the frame at a place, if that has a URL.
@@ -146,6 +114,37 @@ impl<'a> PreparedRequest<'a> {
             }
         }
         Ok(None)
+    }
+
+    /// Whether the rule reaches the request by this part: by the request itself or, where it is an `allowAllRequests`, by
+    /// the frame at this place, whether or not it does so by another part too. It is one step at most.
+    ///
+    /// # Errors
+    ///
+    /// Those of `reaches`.
+    pub fn reaches_by<H: RegexHost, L: Ledger>(
+        &self,
+        part: Reach,
+        rule: &Rule,
+        host: &mut H,
+        steps: &mut Steps<L>,
+    ) -> Result<bool, MatchRefusal>
+        ensures value { IfOk result (λ is_so. is_so ≡ reaches_by self.now.suffixes rule.now self.now.request part) }
+        ensures few { steps.new ≤ steps.old + 1 }
+        ensures asked { OnErr result (IsTrue (is_some rule.now.condition.regex_filter)) }
+        ensures cause { HasCauseOf MatchRefusal.HostFault (H.faults host.old) (H.faults host.new) result }
+        ensures calm { IsCalm (H.faults host.old) (H.faults host.new) result }
+    {
+        match part {
+            Reach::Own => self.own.matches(rule, host, steps),
+            Reach::Frame(place) => {
+                if reaches_by_frames(rule.action()) {
+                    self.matches_frame(place as usize, rule, host, steps)
+                } else {
+                    Ok(false)
+                }
+            }
+        }
     }
 
     /// How the rule reaches the request: by the request itself, or, where it is an `allowAllRequests`, by the

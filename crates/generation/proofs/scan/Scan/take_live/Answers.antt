@@ -1,6 +1,7 @@
-use Rattle.std.proofs.Common.{refl, sym}
-use Rattle.rule_spec.specs.Scan.{is_candidate}
-use Rattle.generation.specs.Kept.{frame_by, with_candidate}
+use Rattle.std.proofs.Common.{Some, refl, sym}
+use Rattle.explain_spec.specs.Explanation.{frame_of}
+use Rattle.generation.specs.Hits.{acts_by}
+use Rattle.generation.specs.Kept.{with_candidate}
 use Rattle.generation.proofs.Outdone.{stays}
 use Rattle.generation.proofs.scan.Scan.take_live.Goals as goal
 
@@ -10,5 +11,5 @@ returns-then-outdoes-clause-kept g c =
     let request = c.args.self.now.request in
     let kept = c.args.kept.now in
     let live = c.args.live in
-    let frame = frame_by suffixes request live in
-    sym (stays (is_candidate suffixes kept.name kept.access request live.rule) (with_candidate kept live frame) kept (c.if-outdoes.ensures refl frame))
+    let frame = frame_of (Some c.args.part) in
+    sym (stays (acts_by suffixes request c.args.part kept live.rule) (with_candidate kept live frame) kept (c.if-outdoes.ensures refl frame))

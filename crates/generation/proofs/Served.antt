@@ -1,0 +1,164 @@
+-- The hits of a block give what all of its rules in force give.
+use Rattle.std.proofs.Common.{◌≡◌, ℕ, zero, suc, ◌+◌, ◌<◌, ◌≤◌, List, [], ◌∷◌, length, drop, get_or, Bool, true, false, cond, fold, inl, inr, option_to_list, Option, Some, None, refl, sym, ap, ◌∙◌, subst, arith}
+use Rattle.std.specs.Prelude.{slice_get, option_and_then}
+use Rattle.std.specs.List.{filter_map, cons_option, sum_by, Contains}
+use Rattle.std.proofs.lemmas.Bool.{cases_Bool}
+use Rattle.std.proofs.lemmas.List.{drop_more}
+use Rattle.std.proofs.lemmas.List.Sums.{sum_by-cons}
+use Rattle.std.proofs.lemmas.Option.{slice_get_cases, slice_get_within}
+use Rattle.dnr_base.specs.declared.request.Request.{Request}
+use Rattle.dnr_base.specs.declared.rule_name.RuleName.{RuleName}
+use Rattle.dnr_spec.specs.Suffixes.{SuffixRule}
+use Rattle.explain_spec.specs.Explanation.{frame_of}
+use Rattle.rule_match.specs.Tested.{reaches_by}
+use Rattle.rule_spec.specs.declared.reach.Reach.{Reach}
+use Rattle.rule_spec.specs.Rule.{Rule}
+use Rattle.rule_spec.specs.State.{Live, has_number, with_lines}
+use Rattle.generation.specs.declared.block.Block.{Block}
+use Rattle.generation.specs.Block.{live_at, live_in, live_there, lines_at, lives_in}
+use Rattle.generation.specs.Hits.{AreHits, acts_by, live_count, part_at, with_hit, with_part_of}
+use Rattle.generation.specs.Kept.{Kept, with_candidate, with_lives, with_some}
+use Rattle.generation.specs.Refused.{IsPattern}
+use Rattle.generation.proofs.Blocks.{block_end, block_step}
+use Rattle.generation.proofs.Parts.{by_part, left_out, passed_by, reaches_there, taken_first, taken_once}
+use Rattle.generation.proofs.Walked.{candidate_name, pattern_in}
+use Rattle.generation.proofs.Walks.{counted, hit_there, hits_serve, sorted_rise}
+
+-- ---- the rule of a hit
+
+module _ (suffixes : List SuffixRule) (request : Request) where
+  in_force_case : (off : Bool) (live : Live) (part : ℕ) → reaches_there suffixes request (cond off None (Some live)) part ≡ true → by_part suffixes request live.rule part ≡ true
+  in_force_case true live part h = cc
+  in_force_case false live part h = h
+
+  record Reaches (rules : List Rule) (place part : ℕ) : Type 0 where
+    rule : Rule
+    there : slice_get rules place ≡ Some rule
+    reaches : reaches_by suffixes rule request (part_at part) ≡ true
+
+  found_case : (block : Block) (place part : ℕ) (o : Option Rule) → slice_get block.rules.now place ≡ o → reaches_there suffixes request (option_and_then (live_in block place) o) part ≡ true → Reaches block.rules.now place part
+  found_case block place part None is h = cc
+  found_case block place part (Some rule) is h = record {
+    rule = rule;
+    there = is;
+    reaches = in_force_case (has_number block.off.now rule.id) (record { rank = block.rank; set = block.set.now; rule = rule; lines = lines_at block.origins.now place }) part h;
+  }
+
+  found : (block : Block) (place part : ℕ) → reaches_there suffixes request (live_there block place) part ≡ true → Reaches block.rules.now place part
+  found block place part h = found_case block place part (slice_get block.rules.now place) refl h
+
+  nothing_past : (block : Block) (place part : ℕ) → length block.rules.now ≤ place → reaches_there suffixes request (live_there block place) part ≡ false
+  nothing_past block place part past =
+      elim (cases_Bool (reaches_there suffixes request (live_there block place) part)) [
+        | inl reached ↦
+            let rule = found block place part reached in
+            let within = slice_get_within block.rules.now place rule.rule rule.there in
+            absurd (omega (arith, within, past))
+        | inr fails ↦ fails
+      ]
+
+  -- ---- all places
+
+  cons_some : (kept : Kept) (o : Option Live) (lives : List Live) → with_lives suffixes request kept (cons_option o lives) ≡ with_lives suffixes request (with_some suffixes request kept o) lives
+  cons_some kept None lives = refl
+  cons_some kept (Some live) lives = refl
+
+  abbrev with_place : Block → Kept → ℕ → Kept
+  with_place block kept place = with_some suffixes request kept (live_there block place)
+
+  abbrev behind : Block → ℕ → List Live
+  behind block place = filter_map (live_at block.rank block.set.now block.off.now) (with_lines (drop place block.rules.now) (drop place block.origins.now))
+
+  places_are : (block : Block) (left place : ℕ) (kept : Kept) → place + left ≡ length block.rules.now → fold (with_place block) kept (counted place left) ≡ with_lives suffixes request kept (behind block place)
+  places_are block zero place kept all =
+      sym (ap (with_lives suffixes request kept) (block_end (live_at block.rank block.set.now block.off.now) block.rules.now block.origins.now place (omega (arith, all))))
+  places_are block (suc left) place kept all =
+      elim (slice_get_cases block.rules.now place).1 [
+        | inl here ↦
+            let next = with_place block kept place in
+            places_are block left (place + 1) next (omega (arith, all))
+            ∙ ap (λ o. with_lives suffixes request (with_some suffixes request kept (option_and_then (live_in block place) o)) (behind block (place + 1))) here.2
+            ∙ sym (cons_some kept (live_in block place here.0) (behind block (place + 1)))
+            ∙ sym (ap (with_lives suffixes request kept) (block_step (live_at block.rank block.set.now block.off.now) block.rules.now block.origins.now place here.0 here.1 (sym here.3)))
+        | inr past ↦ absurd (let over = past.0 in omega (arith, all))
+      ]
+
+  pub block_served : (block : Block) (hits : List (ℕ × ℕ)) (kept : Kept) → AreHits block.rules.now request hits → fold (with_hit suffixes request block) kept hits ≡ with_lives suffixes request kept (lives_in block)
+  block_served block hits kept are =
+      hits_serve (λ place part. reaches_there suffixes request (live_there block place) part) (with_hit suffixes request block) (with_place block)
+      (λ k place part fails. passed_by suffixes request (live_there block place) k part fails)
+      (λ k place none. left_out suffixes request (live_there block place) k none)
+      (λ k place part here before. taken_first suffixes request (live_there block place) k part here before)
+      (λ k place first part here less. taken_once suffixes request (live_there block place) k first part here less)
+      kept (length block.rules.now) 0 hits (sorted_rise hits are.sorted)
+      (λ place part more reached. let rule = found block place part reached in hit_there hits place part (are.all suffixes place part rule.rule rule.there rule.reaches))
+      (λ place part past. nothing_past block place part (omega (arith, past)))
+      ∙ places_are block (length block.rules.now) 0 kept (omega arith)
+
+-- ---- its name
+
+name_case : (b : Bool) (new kept : Kept) → new.name ≡ kept.name → (cond b new kept).name ≡ kept.name
+name_case true new kept h = h
+name_case false new kept h = refl
+
+part_name : (suffixes : List SuffixRule) (request : Request) (part : Reach) (kept : Kept) (o : Option Live) → (with_part_of suffixes request part kept o).name ≡ kept.name
+part_name suffixes request part kept None = refl
+part_name suffixes request part kept (Some live) =
+    name_case (acts_by suffixes request part kept live.rule) (with_candidate kept live (frame_of (Some part))) kept (candidate_name kept live (frame_of (Some part)))
+
+hit_name : (suffixes : List SuffixRule) (request : Request) (block : Block) (kept : Kept) (hit : ℕ × ℕ) → (with_hit suffixes request block kept hit).name ≡ kept.name
+hit_name suffixes request block kept hit = part_name suffixes request (part_at hit.1) kept (live_there block hit.0)
+
+-- ---- faults
+
+head_there : (o : Option Live) (lives : List Live) (live : Live) → o ≡ Some live → Contains (cons_option o lives) live
+head_there None lives live is = cc
+head_there (Some own) lives live is = (0, omega arith, own_is own live is)
+  where
+    own_is : (own live : Live) → Some own ≡ Some live → own ≡ live
+    own_is own live is = cc
+
+tail_there : (o : Option Live) (lives : List Live) (live : Live) → Contains lives live → Contains (cons_option o lives) live
+tail_there None lives live has = has
+tail_there (Some own) lives live has = let within = has.1 in (suc has.0, omega (arith, within), has.2)
+
+in_force_at : (test : Rule × List ℕ → Option Live) (rules : List Rule) (origins : List (List ℕ)) (place : ℕ) (live : Live)
+    → option_and_then (λ rule. test (rule, lines_at origins place)) (slice_get rules place) ≡ Some live → Contains (filter_map test (with_lines rules origins)) live
+in_force_at test [] origins zero live is = cc
+in_force_at test [] origins (suc place) live is = cc
+in_force_at test (rule ∷ rules) [] zero live is = head_there (test (rule, [])) (filter_map test (with_lines rules [])) live is
+in_force_at test (rule ∷ rules) (lines ∷ origins) zero live is = head_there (test (rule, lines)) (filter_map test (with_lines rules origins)) live is
+in_force_at test (rule ∷ rules) [] (suc place) live is = tail_there (test (rule, [])) (filter_map test (with_lines rules [])) live (in_force_at test rules [] place live is)
+in_force_at test (rule ∷ rules) (lines ∷ origins) (suc place) live is =
+    tail_there (test (rule, lines)) (filter_map test (with_lines rules origins)) live (in_force_at test rules origins place live is)
+
+one_there : (o : Option Live) (live : Live) → Contains (option_to_list o) live → o ≡ Some live
+one_there None live has = absurd (let within = has.1 in omega arith)
+one_there (Some own) live (zero, within, is) = ap (λ (l : Live). Some l) is
+one_there (Some own) live (suc k, within, is) = absurd (omega (arith, within))
+
+-- the rule of a hit is among those of the block
+pub hit_pattern : (block : Block) (place : ℕ) (name start : List ℕ) → name ≡ start → (rule : RuleName) → IsPattern name (option_to_list (live_there block place)) rule → IsPattern start (lives_in block) rule
+hit_pattern block place name start same =
+    pattern_in name start (option_to_list (live_there block place)) (lives_in block) same
+    (λ live has. in_force_at (live_at block.rank block.set.now block.off.now) block.rules.now block.origins.now place live (one_there (live_there block place) live has))
+
+-- ---- one hit further
+
+hit_next : (hits : List (ℕ × ℕ)) (i : ℕ) (d : ℕ × ℕ) → i < length hits → drop i hits ≡ get_or hits i d ∷ drop (i + 1) hits
+hit_next hits i d h = drop_more hits i d h
+
+pub hits_step : (suffixes : List SuffixRule) (request : Request) (block : Block) (hits : List (ℕ × ℕ)) (i : ℕ) (d : ℕ × ℕ) (kept new : Kept)
+    → i < length hits → new ≡ with_hit suffixes request block kept (get_or hits i d)
+    → fold (with_hit suffixes request block) new (drop (i + 1) hits) ≡ fold (with_hit suffixes request block) kept (drop i hits)
+hits_step suffixes request block hits i d kept new h is =
+    ap (λ (k : Kept). fold (with_hit suffixes request block) k (drop (i + 1) hits)) is
+    ∙ sym (ap (fold (with_hit suffixes request block) kept) (hit_next hits i d h))
+
+pub counts_step : (block : Block) (hits : List (ℕ × ℕ)) (i : ℕ) (d : ℕ × ℕ) → i < length hits
+    → sum_by (live_count block) (drop i hits) ≡ live_count block (get_or hits i d) + sum_by (live_count block) (drop (i + 1) hits)
+counts_step block hits i d h =
+    ap (sum_by (live_count block)) (hit_next hits i d h) ∙ sum_by-cons (live_count block) (get_or hits i d) (drop (i + 1) hits)
+
+pub next_name : (suffixes : List SuffixRule) (request : Request) (block : Block) (kept new : Kept) (hit : ℕ × ℕ) → new ≡ with_hit suffixes request block kept hit → new.name ≡ kept.name
+next_name suffixes request block kept new hit is = ap (λ (k : Kept). k.name) is ∙ hit_name suffixes request block kept hit
