@@ -1,5 +1,4 @@
 pub mod Batches
-pub mod Counted
 pub mod Firsts
 pub mod IdSets
 pub mod Kept

@@ -1,4 +1,3 @@
-pub mod Counts
 pub mod Ids
 pub mod Installed
 pub mod Seen

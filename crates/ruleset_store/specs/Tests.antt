@@ -1,8 +1,7 @@
 -- The tests of an update whose extension is there, without those that pass for every update of its kind.
-use Rattle.std.specs.Prelude.{ℕ, ℤ, List, [], ◌∷◌, ◌++◌, length, map, filter, count_by, Option, not, nat_le}
+use Rattle.std.specs.Prelude.{ℕ, ℤ, List, [], ◌∷◌, ◌++◌, length, map, count_by, Option, nat_le}
 use Rattle.std.specs.List.{list_any}
-use Rattle.std.specs.Ordering.{int_eq, nat_cmp}
-use Rattle.std.specs.BTreeSet.{BTreeSet, contains_by}
+use Rattle.std.specs.Ordering.{int_eq}
 use Rattle.rule_spec.specs.Rule.{Rule}
 use Rattle.rule_spec.specs.State.{RuleSet, Extension}
 use Rattle.update_spec.specs.declared.refusal.Refusal.{Refusal}
@@ -18,14 +17,6 @@ count_test count = refused_if (nat_le max_updates count) (TooManyUpdates max_upd
 -- the first of these rules whose id one of the others has
 abbrev pub id_test : List Rule → List Rule → Option Refusal
 id_test others add = first_refused (λ (rule : Rule). has_id others rule.id) (λ rule. DuplicateId rule.id) add
-
--- the first of these rules whose id the set has
-abbrev pub taken_test : BTreeSet ℕ → List Rule → Option Refusal
-taken_test set add = first_refused (λ (rule : Rule). contains_by (nat_cmp rule.id) set) (λ rule. DuplicateId rule.id) add
-
--- the rules whose ids the set has not
-abbrev pub kept_by : BTreeSet ℕ → List Rule → List Rule
-kept_by set rules = filter (λ rule. not (contains_by (nat_cmp rule.id) set)) rules
 
 abbrev pub dynamic_limits : ℕ → List Rule → List (Option Refusal)
 dynamic_limits count rules =

@@ -15,7 +15,7 @@ use crate::names::{
     judge_both, judge_name, judge_rule_ids, judge_set_ids, named, set_named, text_of,
 };
 use crate::replacing::replaced;
-use crate::{Extension, InstalledExtension, InstalledSet, RuleList};
+use crate::{Extension, IndexedRules, InstalledExtension, InstalledSet};
 use dnr_base::{NoMemory, Text};
 use std::alloc::Global;
 use std::sync::Arc;
@@ -125,7 +125,7 @@ fn dynamic_after(
     extension: &InstalledExtension,
     count: u32,
     remove: &[u32],
-    add: &RuleList,
+    add: &IndexedRules,
 ) -> Result<InstalledExtension, Refusal>
     ensures judged { OnOk result (spec.first_refusal (tests.dynamic_tests count remove.now add.now extension.now.dynamic) ≡ None) }
     ensures next { IfOk result (λ next. next ≡ record extension.now { dynamic = update.replaced remove.now add.now extension.now.dynamic }) }
@@ -142,7 +142,7 @@ fn session_after(
     extension: &InstalledExtension,
     count: u32,
     remove: &[u32],
-    add: &RuleList,
+    add: &IndexedRules,
 ) -> Result<InstalledExtension, Refusal>
     ensures judged { OnOk result (spec.first_refusal (tests.session_tests count remove.now add.now extension.now.session) ≡ None) }
     ensures next { IfOk result (λ next. next ≡ record extension.now { session = update.replaced remove.now add.now extension.now.session }) }
@@ -161,7 +161,7 @@ pub(crate) fn after_dynamic(
     count: u32,
     name: &str,
     remove: &[u32],
-    add: &RuleList,
+    add: &IndexedRules,
 ) -> Result<Vec<InstalledExtension>, Refusal>
     ensures made { IfOk result (λ next. IsMadeIn extensions.now count (update.dynamic name.now remove.now add.now) next.items) }
     ensures refused { IfErr result (IsRefusalOf (judge_in extensions.now count (update.dynamic name.now remove.now add.now))) }
@@ -183,7 +183,7 @@ pub(crate) fn after_session(
     count: u32,
     name: &str,
     remove: &[u32],
-    add: &RuleList,
+    add: &IndexedRules,
 ) -> Result<Vec<InstalledExtension>, Refusal>
     ensures made { IfOk result (λ next. IsMadeIn extensions.now count (update.session name.now remove.now add.now) next.items) }
     ensures refused { IfErr result (IsRefusalOf (judge_in extensions.now count (update.session name.now remove.now add.now))) }

@@ -5,11 +5,9 @@ ghost use Rattle.rule_spec.specs.State as state;
 ghost use Rattle.update_spec.specs.Update as spec;
 ghost use Rattle.ruleset_store.specs.Installed.{is_off_by, off_in};
 
-use crate::disabled::DisabledIds;
 use crate::ids::{has_number, wholes_among};
 use crate::rule_set::SharedSet;
-use crate::shared_rule::SharedRule;
-use crate::{RuleList, RuleSet};
+use crate::{IndexedRules, OffIds, RuleSet, SharedRule};
 use dnr_base::{Items, NoMemory, Text};
 use std::alloc::Global;
 use std::collections::BTreeSet;
@@ -21,7 +19,7 @@ use std::sync::Arc;
 pub struct InstalledSet {
     brought: SharedSet,
     enabled: bool,
-    disabled: Arc<DisabledIds>,
+    disabled: Arc<OffIds>,
 }
 
 impl Model for InstalledSet {
@@ -53,7 +51,7 @@ impl InstalledSet {
     pub(crate) fn of(alloc: Global, set: &SharedSet) -> Result<InstalledSet, NoMemory>
         ensures { IfOk result (λ installed. installed ≡ spec.installed_set set.now) }
     {
-        let disabled = DisabledIds::of(alloc, Vec::new(alloc))?;
+        let disabled = OffIds::of(alloc, Vec::new(alloc))?;
         Ok(InstalledSet {
             brought: set.again()?,
             enabled: set.set().is_enabled(),
@@ -84,14 +82,14 @@ impl InstalledSet {
     }
 
     /// Its rules, in their order.
-    pub fn rules(&self) -> &RuleList
+    pub fn rules(&self) -> &IndexedRules
         ensures { result.now ≡ self.now.rules }
     {
         self.set().rules()
     }
 
     /// The ids of the rules that are switched off, in the order of the rules.
-    pub fn disabled(&self) -> &DisabledIds
+    pub fn disabled(&self) -> &OffIds
         ensures { result.now ≡ self.now.disabled }
     {
         &self.disabled
@@ -156,7 +154,7 @@ impl InstalledSet {
         let enable = wholes_among(alloc, enable)?;
         let off = self.off_after(alloc, &disable, &enable)?;
         let mut next = self.again()?;
-        next.disabled = Arc::new(alloc, DisabledIds::of(alloc, off)?)?;
+        next.disabled = Arc::new(alloc, OffIds::of(alloc, off)?)?;
         Ok(next)
     }
 

@@ -7,7 +7,6 @@
 mod changes;
 mod count;
 mod counts;
-mod disabled;
 mod extension;
 mod ids;
 mod installed;
@@ -15,24 +14,20 @@ mod installed_set;
 mod limits;
 mod names;
 mod replacing;
-mod rule_list;
 mod rule_set;
-mod shared_rule;
 mod store;
 #[cfg(test)]
 mod tests;
 mod update;
 
-pub use disabled::DisabledIds;
 pub use dnr_base::{Items, NoMemory, Text};
 pub use dnr_rules::Rule;
 pub use extension::Extension;
 pub use installed::InstalledExtension;
 pub use installed_set::InstalledSet;
 pub use match_patterns::MatchPattern;
-pub use rule_list::RuleList;
 pub use rule_set::{RuleSet, SharedSet};
-pub use shared_rule::SharedRule;
+pub use rule_segments::{IndexedRules, OffIds, RuleList, Segment, SharedRule};
 pub use store::Store;
 pub use update::{BatchRefusal, Update};
 pub use update_spec::Refusal;

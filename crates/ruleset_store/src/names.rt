@@ -1,14 +1,15 @@
 ghost use Rattle.std.specs.Prelude.{◌≡◌, ◌++◌, find, not, IfOk, option_copied};
 ghost use Rattle.std.specs.BTreeSet.{contains_by};
 ghost use Rattle.std.specs.List.{list_any};
-ghost use Rattle.std.specs.Ordering.{int_cmp, nat_cmp};
+ghost use Rattle.std.specs.Ordering.{int_cmp};
 ghost use Rattle.update_spec.specs.declared.refusal.Refusal.TheVariants as refusal;
 ghost use Rattle.update_spec.specs.Judge as spec;
+ghost use Rattle.update_spec.specs.Judge.{has_id};
 ghost use Rattle.update_spec.specs.Update.{has_name, has_set_id};
 ghost use Rattle.ruleset_store.specs.Seen.{Answers};
 ghost use Rattle.ruleset_store.specs.Tests as tests;
 
-use crate::ids::{has_id, has_whole, rule_ids, taken_among, wholes_among};
+use crate::ids::{has_whole, wholes_among};
 use crate::{InstalledExtension, InstalledSet, RuleList, SharedRule};
 use dnr_base::{NoMemory, Text};
 use std::alloc::Global;
@@ -147,35 +148,19 @@ pub(crate) fn judge_both(alloc: Global, disable: &[i128], enable: &[i128]) -> Re
     }
 }
 
-// Whether the rule's id is taken.
-fn is_taken(taken: &BTreeSet<u32>, rule: &SharedRule) -> bool
-    ensures { result ≡ contains_by (nat_cmp rule.now.id) taken.now }
+// The first of the rules whose id one of the others has.
+fn first_taken<'a>(others: &RuleList, add: &'a [SharedRule]) -> Option<&'a SharedRule>
+    ensures { option_copied result ≡ find (λ rule. has_id others.now rule.id) add.now }
 {
-    has_id(taken, rule.rule().id())
+    add.iter().find(|rule| others.has_id(rule.rule().id()))
 }
 
-// The first of the rules whose id is taken.
-fn first_taken<'a>(taken: &BTreeSet<u32>, add: &'a [SharedRule]) -> Option<&'a SharedRule>
-    ensures { option_copied result ≡ find (λ rule. contains_by (nat_cmp rule.id) taken.now) add.now }
+// The first rule to add is refused whose id one of the others has.
+pub(crate) fn judge_ids(others: &RuleList, add: &[SharedRule]) -> Result<(), Refusal>
+    ensures { Answers (tests.id_test others.now add.now) result }
 {
-    add.iter().find(|rule| is_taken(taken, rule))
-}
-
-// The first of the rules is refused whose id is taken.
-fn judge_taken(taken: &BTreeSet<u32>, add: &[SharedRule]) -> Result<(), Refusal>
-    ensures { Answers (tests.taken_test taken.now add.now) result }
-{
-    match first_taken(taken, add) {
+    match first_taken(others, add) {
         Some(rule) => Err(Refusal::DuplicateId(rule.rule().id())),
         None => Ok(()),
     }
-}
-
-// The first rule to add is refused whose id one of the others has. Those are as a rule many, and few are added.
-pub(crate) fn judge_ids(alloc: Global, others: &RuleList, add: &RuleList) -> Result<(), Refusal>
-    ensures { Answers (tests.id_test others.now add.now) result }
-{
-    let ids = rule_ids(alloc, add)?;
-    let taken = taken_among(alloc, &ids, others)?;
-    judge_taken(&taken, add.shared())
 }

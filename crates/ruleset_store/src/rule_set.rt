@@ -2,12 +2,10 @@ ghost use Rattle.std.specs.Prelude.{◌≡◌, pos, IfOk};
 ghost use Rattle.std.specs.List.{list_any};
 ghost use Rattle.std.specs.Ordering.{int_eq};
 
-use crate::RuleList;
-use crate::ids::{has_whole, ids_of};
+use crate::IndexedRules;
 use dnr_base::{Copied, Items, NoMemory, Text};
 use dnr_rules::Rule;
 use std::alloc::Global;
-use std::collections::BTreeSet;
 use std::marker::Model;
 use std::sync::Arc;
 
@@ -17,20 +15,16 @@ use std::sync::Arc;
 pub struct RuleSet {
     id: Text,
     enabled: bool,
-    rules: RuleList,
+    rules: IndexedRules,
     origins: Items<Items<u32>>,
-    ids: BTreeSet<i128>,
 }
 
 impl Model for RuleSet {
     ghost use Rattle.update_spec.specs.Update as spec;
-    ghost use Rattle.ruleset_store.specs.Ids.{HasIdsOf};
 
     ghost Value = { spec.NewRuleSet };
 
     ghost view = { λ s. record { id = s.id; enabled = s.enabled; rules = s.rules; origins = s.origins } };
-
-    ghost invariant = { λ s. HasIdsOf s.ids s.rules };
 }
 
 impl RuleSet {
@@ -48,14 +42,12 @@ impl RuleSet {
         ensures { IfOk result (λ set. set
             ≡ record { id = id; enabled = enabled; rules = rules.items; origins = origins.items }) }
     {
-        let rules = RuleList::of(alloc, rules)?;
-        let ids = ids_of(alloc, &rules)?;
+        let rules = IndexedRules::of(alloc, rules)?;
         Ok(RuleSet {
             id,
             enabled,
             rules,
             origins: Items::build(origins),
-            ids,
         })
     }
 
@@ -74,7 +66,7 @@ impl RuleSet {
     }
 
     /// Its rules, in their order.
-    pub fn rules(&self) -> &RuleList
+    pub fn rules(&self) -> &IndexedRules
         ensures { result.now ≡ self.now.rules }
     {
         &self.rules
@@ -91,7 +83,7 @@ impl RuleSet {
     pub(crate) fn has_rule(&self, id: &i128) -> bool
         ensures { result ≡ list_any (λ rule. int_eq id.now (pos rule.id)) self.now.rules }
     {
-        has_whole(&self.ids, id)
+        self.rules.has_whole(id)
     }
 
     /// An equal ruleset, which shares its rules.
@@ -100,14 +92,12 @@ impl RuleSet {
     pub fn copy(&self, alloc: Global) -> Result<RuleSet, NoMemory>
         ensures { IfOk result (λ copy. copy ≡ self.now) }
     {
-        let rules = self.rules.again(alloc)?;
-        let ids = ids_of(alloc, &rules)?;
+        let rules = self.rules.again()?;
         Ok(RuleSet {
             id: self.id.copy(alloc)?,
             enabled: self.enabled,
             rules,
             origins: Items::build(lists_again(alloc, self.origins())?),
-            ids,
         })
     }
 }

@@ -4,7 +4,7 @@ ghost use Rattle.rule_spec.specs.IsRule.{IsCondition, is_number};
 ghost use Rattle.dnr_rules.specs.Seen.{condition_seen};
 
 use crate::{
-    Extension, InstalledExtension, Items, Refusal, Rule, RuleList, RuleSet, Store, Text, Update,
+    Extension, IndexedRules, InstalledExtension, Items, Refusal, Rule, RuleSet, Store, Text, Update,
 };
 use dnr_base::KindSet;
 use dnr_rules::{Action, ConditionParts, RuleParts};
@@ -99,7 +99,7 @@ fn replaces(alloc: Global) -> Option<Update> {
     Some(Update::Dynamic {
         extension: text(alloc, "a")?,
         remove: Items::build(vec![in alloc; 1, 7].ok()?),
-        add: RuleList::of(alloc, vec![in alloc; block(1)].ok()?).ok()?,
+        add: IndexedRules::of(alloc, vec![in alloc; block(1)].ok()?).ok()?,
     })
 }
 
@@ -108,7 +108,7 @@ fn adds(alloc: Global) -> Option<Update> {
     Some(Update::Session {
         extension: text(alloc, "a")?,
         remove: Items::build(Vec::new(alloc)),
-        add: RuleList::of(alloc, vec![in alloc; block(1)].ok()?).ok()?,
+        add: IndexedRules::of(alloc, vec![in alloc; block(1)].ok()?).ok()?,
     })
 }
 

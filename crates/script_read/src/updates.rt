@@ -21,7 +21,7 @@ use dnr_rules::RuleKind;
 use line_spec::{UpdateFault, UpdateField, UpdateName};
 use match_patterns::MatchPattern;
 use regex_host::RegexHost;
-use ruleset_store::{Extension, RuleList, Update};
+use ruleset_store::{Extension, IndexedRules, Update};
 use serde_json::Value;
 use std::alloc::Global;
 use std::sync::Arc;
@@ -73,7 +73,7 @@ fn replacing_in<H: RegexHost>(
     let extension = text_in(alloc, UpdateField::Extension, tree)?;
     let remove = remove_in(alloc, tree)?;
     let add = add_in(alloc, kind, tree, host)?;
-    let add = RuleList::of(alloc, add)?;
+    let add = IndexedRules::of(alloc, add)?;
     match kind {
         RuleKind::Session => Ok(Update::Session {
             extension,
