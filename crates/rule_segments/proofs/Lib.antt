@@ -1,2 +1,3 @@
-pub mod IdSets
-pub mod Live
+pub mod Known
+pub mod Removed
+pub mod Tapered

@@ -1,22 +1,20 @@
--- What is counted of rules, so that a limit asks for no pass over them.
-use Rattle.std.specs.Prelude.{◌≡◌, ℕ, List, count_by, length}
+-- What is kept of rules, so that no update asks for a pass over them.
+use Rattle.std.specs.Prelude.{◌≡◌, List, map}
+use Rattle.std.specs.List.Sorted.{IsPermutation}
 use Rattle.rule_spec.specs.Rule.{Rule}
-use Rattle.update_spec.specs.Judge.{uses_regex, count_unsafe}
 use Rattle.rule_index.specs.Lists.{ListIndex, IsListIndexOf}
-use Rattle.rule_segments.specs.Segments.{Segment, live_among, AreFew}
+use Rattle.rule_ids.specs.Counted.{counts_of, known_of}
+use Rattle.rule_ids.specs.declared.counts.Counts.{Counts}
+use Rattle.rule_ids.specs.declared.known_rule.KnownRule.{KnownRule}
+use Rattle.rule_segments.specs.Segments.{Segment, live_among, AreTapered}
 
--- so many of the rules have a `regexFilter`, and so many are unsafe
-pub record AreCounts (rules : List Rule) (with_regex risky : ℕ) : Type 0 where
-  pub patterns : with_regex ≡ count_by uses_regex rules
-  pub unsafe_rules : risky ≡ count_unsafe rules
-
--- the index and the counts are those of the rules
-pub record AreHeld (rules : List Rule) (by_key : ListIndex) (with_regex risky : ℕ) : Type 0 where
+-- the index, what is known and the counts are those of the rules
+pub record AreHeld (rules : List Rule) (by_key : ListIndex) (by_id : List KnownRule) (number : Counts) : Type 0 where
   pub index : IsListIndexOf rules by_key
-  pub counts : AreCounts rules with_regex risky
+  pub known : IsPermutation (map known_of rules) by_id
+  pub counts : number ≡ counts_of rules
 
--- the counts are those of the live rules, and the segments are few
-pub record AreListed (segments : List Segment) (number with_regex risky : ℕ) : Type 0 where
-  pub count : number ≡ length (live_among segments)
-  pub counts : AreCounts (live_among segments) with_regex risky
-  pub few : AreFew segments
+-- the counts are those of the live rules, and the segments taper
+pub record AreListed (segments : List Segment) (number : Counts) : Type 0 where
+  pub counts : number ≡ counts_of (live_among segments)
+  pub taper : AreTapered segments

@@ -1,7 +1,8 @@
 -- Rules that stand in segments, oldest first, of which some are removed.
-use Rattle.std.specs.Prelude.{ℕ, ◌+◌, ◌*◌, ◌^◌, ◌≤◌, List, flat_map, length}
+use Rattle.std.specs.Prelude.{◌≡◌, ℕ, ◌+◌, ◌*◌, ◌^◌, ◌<◌, ◌≤◌, ◌==◌, List, [], ◌∷◌, filter, flat_map, length, map, slice_index_or}
 use Rattle.rule_spec.specs.Rule.{Rule}
 use Rattle.update_spec.specs.Update.{without_ids}
+use Rattle.index_laws.specs.Segments as law
 
 pub record Segment : Type 0 where
   pub rules : List Rule
@@ -18,3 +19,25 @@ live_among segments = flat_map live_in segments
 -- the segments are few for so many rules
 abbrev pub AreFew : List Segment → Type 0
 AreFew segments = 2 ^ length segments ≤ 2 * length (live_among segments) + 1
+
+abbrev pub of_id : ℕ → List Rule → List Rule
+of_id id rules = filter (λ rule. id == rule.id) rules
+
+-- ---- segments that taper
+
+-- a segment, counted by its live rules alone
+abbrev pub weight : Segment → law.Segment
+weight segment = record { rules = length (live_in segment); live = length (live_in segment) }
+
+-- each has live rules, and more than twice as many as the next
+abbrev pub AreTapered : List Segment → Type 0
+AreTapered segments = law.AreTapered (map weight segments)
+
+-- a segment before these would have more than twice as many live rules as the first of them
+abbrev pub IsAbove : ℕ → List Segment → Type 0
+IsAbove count [] = Unit {0}
+IsAbove count (first ∷ segments) = 2 * length (live_in first) < count
+
+-- the last of the segments on the left is above those on the right
+abbrev pub LastIsAbove : List Segment → List Segment → Type 0
+LastIsAbove left right = (k : ℕ) (last : Segment) → k + 1 ≡ length left → IsAbove (length (live_in (slice_index_or left k last))) right

@@ -1,12 +1,16 @@
-ghost use Rattle.std.specs.Prelude.{◌≡◌, ◌++◌, [], ◌∷◌, length, count_by, slice_get, IfOk, option_copied, pos};
+ghost use Rattle.std.specs.Prelude.{◌≡◌, length, count_by, map, pos, slice_get, IfOk, option_copied};
 ghost use Rattle.std.specs.List.{list_any};
+ghost use Rattle.std.specs.List.Sorted.{IsPermutation};
 ghost use Rattle.std.specs.Ordering.{int_eq};
 ghost use Rattle.update_spec.specs.Judge.{uses_regex, count_unsafe, has_id};
 ghost use Rattle.rule_index.specs.Lists.{IsListIndexOf};
+ghost use Rattle.rule_ids.specs.Counted as spec;
+ghost use Rattle.rule_segments.specs.Segments.{of_id};
 
 use crate::shared_rule::SharedRule;
 use dnr_base::NoMemory;
 use dnr_rules::Rule;
+use rule_ids::{Counts, KnownDraft, KnownIds};
 use rule_index::ListIndex;
 use std::alloc::Global;
 use std::marker::Model;
@@ -29,13 +33,13 @@ impl Model for IndexedRules {
     ghost view = { λ r. arc_value r.held };
 }
 
-// The rules themselves, their index, and how many of them count for a limit. A clause sees the rules.
+// The rules themselves, their index, what is known of them by their ids, and what they count for. A clause sees the rules.
 #[derive(Debug, Drop)]
 struct HeldRules {
     rules: Vec<SharedRule>,
     index: ListIndex,
-    patterns: usize,
-    unsafe_rules: usize,
+    known: KnownIds,
+    counts: Counts,
 }
 
 impl Model for HeldRules {
@@ -47,7 +51,7 @@ impl Model for HeldRules {
 
     ghost view = { λ h. h.rules.items };
 
-    ghost invariant = { λ h. AreHeld h.rules.items h.index h.patterns h.unsafe_rules };
+    ghost invariant = { λ h. AreHeld h.rules.items h.index h.known h.counts };
 }
 
 // How many of the rules have a `regexFilter`.
@@ -62,6 +66,17 @@ fn count_unsafe(rules: &[SharedRule]) -> usize
     ensures { result ≡ count_unsafe rules.now }
 {
     rules.iter().filter(|rule| rule.rule().is_unsafe()).count()
+}
+
+// What is known of the rules by their ids.
+fn known_of(alloc: Global, rules: &[SharedRule]) -> Result<KnownIds, NoMemory>
+    ensures { IfOk result (λ known. IsPermutation (map spec.known_of rules.now) known) }
+{
+    let mut known = KnownDraft::new(alloc);
+    for rule in rules {
+        known.add(rule.rule())?;
+    }
+    known.finish()
 }
 
 // The index of the rules.
@@ -87,13 +102,17 @@ impl HeldRules {
         ensures { IfOk result (λ held. held ≡ rules.items) }
     {
         let index = index_of(alloc, rules.as_slice())?;
-        let patterns = count_patterns(rules.as_slice());
-        let unsafe_rules = count_unsafe(rules.as_slice());
+        let known = known_of(alloc, rules.as_slice())?;
+        let counts = Counts {
+            rules: rules.len(),
+            patterns: count_patterns(rules.as_slice()),
+            unsafe_rules: count_unsafe(rules.as_slice()),
+        };
         Ok(HeldRules {
             rules,
             index,
-            patterns,
-            unsafe_rules,
+            known,
+            counts,
         })
     }
 
@@ -109,16 +128,16 @@ impl HeldRules {
         &self.index
     }
 
-    fn patterns(&self) -> usize
-        ensures { result ≡ count_by uses_regex self.now }
+    fn known(&self) -> &KnownIds
+        ensures { IsPermutation (map spec.known_of self.now) result.now }
     {
-        self.patterns
+        &self.known
     }
 
-    fn unsafe_rules(&self) -> usize
-        ensures { result ≡ count_unsafe self.now }
+    fn counts(&self) -> Counts
+        ensures { result ≡ spec.counts_of self.now }
     {
-        self.unsafe_rules
+        self.counts
     }
 }
 
@@ -176,18 +195,18 @@ impl IndexedRules {
         }
     }
 
+    /// How many there are, and how many of them count for a limit.
+    pub fn counts(&self) -> Counts
+        ensures { result ≡ spec.counts_of self.now }
+    {
+        self.held.counts()
+    }
+
     /// How many of them have a `regexFilter`.
     pub fn patterns(&self) -> usize
         ensures { result ≡ count_by uses_regex self.now }
     {
-        self.held.patterns()
-    }
-
-    /// How many of them are unsafe.
-    pub fn unsafe_rules(&self) -> usize
-        ensures { result ≡ count_unsafe self.now }
-    {
-        self.held.unsafe_rules()
+        self.counts().patterns
     }
 
     /// The same rules once more, of which none is copied. It takes no memory.
@@ -201,19 +220,26 @@ impl IndexedRules {
         })
     }
 
-    /// Whether one of the rules has this id.
+    /// Whether one of the rules has this id. It is asked in the time of a search.
+    #[tactic(auto, using(crate::proofs::Known::has_known))]
     pub fn has_id(&self, id: u32) -> bool
         ensures { result ≡ has_id self.now id }
     {
-        self.shared().iter().any(|rule| id == rule.rule().id())
+        self.held.known().has(id)
     }
 
     /// Whether one of the rules has this whole number as its id.
     pub fn has_whole(&self, id: &i128) -> bool
         ensures { result ≡ list_any (λ rule. int_eq id.now (pos rule.id)) self.now }
     {
-        self.shared()
-            .iter()
-            .any(|rule| *id == i128::from(rule.rule().id()))
+        self.held.known().has_whole(id)
+    }
+
+    // What the rules of this id count for.
+    #[tactic(auto, using(crate::proofs::Known::counts_known))]
+    pub(crate) fn counts_of_id(&self, id: u32) -> Counts
+        ensures { result ≡ spec.counts_of (of_id id self.now) }
+    {
+        self.held.known().counts(id)
     }
 }

@@ -5,7 +5,7 @@
 #![tactic(auto)]
 
 mod indexed_rules;
-mod off_ids;
+mod joining;
 mod rule_list;
 mod segment;
 mod shared_rule;
@@ -13,7 +13,7 @@ mod shared_rule;
 pub use dnr_base::NoMemory;
 pub use dnr_rules::Rule;
 pub use indexed_rules::IndexedRules;
-pub use off_ids::OffIds;
+pub use rule_ids::OffIds;
 pub use rule_index::ListIndex;
 pub use rule_list::RuleList;
 pub use segment::Segment;

@@ -1,14 +1,16 @@
-ghost use Rattle.std.specs.Prelude.{◌≡◌, ◌++◌, [], ◌∷◌, length, count_by, IfOk, OnOk};
+ghost use Rattle.std.specs.Prelude.{◌≡◌, ◌++◌, [], ◌∷◌, length, count_by, flat_map, IfOk};
 ghost use Rattle.std.specs.List.{list_any};
 ghost use Rattle.update_spec.specs.Judge.{uses_regex, count_unsafe, has_id};
 ghost use Rattle.update_spec.specs.Update.{without_ids};
+ghost use Rattle.rule_ids.specs.Counted.{counts_of};
+ghost use Rattle.rule_ids.specs.Off.{AreApart};
 ghost use Rattle.rule_segments.specs.Segments.{AreFew, live_among, live_in};
 
 use crate::indexed_rules::IndexedRules;
-use crate::off_ids::OffIds;
+use crate::joining::{tapered, total};
 use crate::segment::Segment;
-use crate::shared_rule::SharedRule;
 use dnr_base::NoMemory;
+use rule_ids::{Counts, distinct};
 use std::alloc::Global;
 use std::marker::Model;
 
@@ -17,9 +19,7 @@ use std::marker::Model;
 #[derive(Debug, Drop)]
 pub struct RuleList {
     segments: Vec<Segment>,
-    count: usize,
-    patterns: usize,
-    unsafe_rules: usize,
+    counts: Counts,
 }
 
 impl Model for RuleList {
@@ -32,34 +32,31 @@ impl Model for RuleList {
 
     ghost view = { λ l. live_among l.segments.items };
 
-    ghost invariant = { λ l. AreListed l.segments.items l.count l.patterns l.unsafe_rules };
+    ghost invariant = { λ l. AreListed l.segments.items l.counts };
 }
 
-// The rules that stay when those of these ids are removed.
-fn without(
-    alloc: Global,
-    rules: &[SharedRule],
-    remove: &OffIds,
-) -> Result<Vec<SharedRule>, NoMemory>
-    ensures { IfOk result (λ kept. kept.items ≡ without_ids remove.now rules.now) }
+// The same segments once more.
+fn again(alloc: Global, segments: &[Segment]) -> Result<Vec<Segment>, NoMemory>
+    ensures { IfOk result (λ again. again.items ≡ segments.now) }
 {
-    let mut kept = Vec::new(alloc);
-    for rule in rules {
-        if !remove.has(rule.rule().id()) {
-            kept.push(rule.again()?)?;
-        }
+    let mut again = Vec::with_capacity(alloc, segments.len().saturating_add(1))?;
+    for segment in segments {
+        again.push(segment.again()?)?;
     }
-    Ok(kept)
+    Ok(again)
 }
 
-// Puts the handles of others at the end.
-fn extend(rules: &mut Vec<SharedRule>, others: &[SharedRule]) -> Result<(), NoMemory>
-    ensures { OnOk result (rules.new.items ≡ rules.old.items ++ others.now) }
+// The segments without the rules of these ids.
+#[tactic(auto, using(crate::proofs::Removed::without_more))]
+fn without(alloc: Global, segments: &[Segment], remove: &[u32]) -> Result<Vec<Segment>, NoMemory>
+    requires { AreApart remove.now }
+    ensures { IfOk result (λ next. live_among next.items ≡ without_ids remove.now (live_among segments.now)) }
 {
-    for rule in others {
-        rules.push(rule.again()?)?;
+    let mut next = Vec::with_capacity(alloc, segments.len())?;
+    for segment in segments {
+        next.push(segment.without(alloc, remove)?)?;
     }
-    Ok(())
+    Ok(next)
 }
 
 // Whether a live rule of one of the segments has this id.
@@ -76,41 +73,35 @@ impl RuleList {
     {
         RuleList {
             segments: Vec::new(alloc),
-            count: 0,
-            patterns: 0,
-            unsafe_rules: 0,
+            counts: Counts::none(),
         }
     }
 
-    // The rules of these handles.
-    fn of_handles(alloc: Global, rules: Vec<SharedRule>) -> Result<RuleList, NoMemory>
-        ensures { IfOk result (λ list. list ≡ rules.items) }
+    // The live rules of the segments.
+    fn of(alloc: Global, segments: &[Segment]) -> Result<RuleList, NoMemory>
+        ensures { IfOk result (λ list. list ≡ live_among segments.now) }
     {
-        if rules.as_slice().is_empty() {
-            return Ok(RuleList::empty(alloc));
-        }
-        let rules = IndexedRules::of_handles(alloc, rules)?;
-        let count = rules.len();
-        let patterns = rules.patterns();
-        let unsafe_rules = rules.unsafe_rules();
-        let mut segments = Vec::new(alloc);
-        segments.push(Segment::of(alloc, rules)?)?;
-        Ok(RuleList {
-            segments,
-            count,
-            patterns,
-            unsafe_rules,
-        })
+        let segments = tapered(alloc, segments)?;
+        let counts = total(segments.as_slice())?;
+        Ok(RuleList { segments, counts })
+    }
+
+    // How many rules there are, and how many of them count for a limit.
+    fn counts(&self) -> Counts
+        ensures { result ≡ counts_of self.now }
+    {
+        self.counts
     }
 
     /// How many rules there are.
     pub fn len(&self) -> usize
         ensures { result ≡ length self.now }
     {
-        self.count
+        self.counts().rules
     }
 
     /// The segments, oldest first. The rules are those of all segments that are live.
+    #[tactic(auto, using(crate::proofs::Tapered::tapered_are_few))]
     pub fn segments(&self) -> &[Segment]
         ensures live { live_among result.now ≡ self.now }
         ensures few { AreFew result.now }
@@ -122,28 +113,17 @@ impl RuleList {
     pub fn patterns(&self) -> usize
         ensures { result ≡ count_by uses_regex self.now }
     {
-        self.patterns
+        self.counts().patterns
     }
 
     /// How many of them are unsafe.
     pub fn unsafe_rules(&self) -> usize
         ensures { result ≡ count_unsafe self.now }
     {
-        self.unsafe_rules
+        self.counts().unsafe_rules
     }
 
-    // The handles of the rules.
-    fn handles(&self, alloc: Global) -> Result<Vec<SharedRule>, NoMemory>
-        ensures { IfOk result (λ handles. handles.items ≡ self.now) }
-    {
-        let mut handles = Vec::new(alloc);
-        for segment in self.segments() {
-            segment.push_live(&mut handles)?;
-        }
-        Ok(handles)
-    }
-
-    /// Whether one of the rules has this id.
+    /// Whether one of the rules has this id. It is asked in the time of a search in each segment.
     pub fn has_id(&self, id: u32) -> bool
         ensures { result ≡ has_id self.now id }
     {
@@ -156,20 +136,19 @@ impl RuleList {
     pub fn without(&self, alloc: Global, remove: &[u32]) -> Result<RuleList, NoMemory>
         ensures { IfOk result (λ kept. kept ≡ without_ids remove.now self.now) }
     {
-        let remove = OffIds::of(alloc, Vec::from_slice(alloc, remove)?)?;
-        let rules = self.handles(alloc)?;
-        let kept = without(alloc, rules.as_slice(), &remove)?;
-        RuleList::of_handles(alloc, kept)
+        let remove = distinct(alloc, remove)?;
+        let segments = without(alloc, self.segments(), remove.as_slice())?;
+        RuleList::of(alloc, segments.as_slice())
     }
 
-    /// The rules and these behind them.
+    /// The rules and these behind them, which are a segment of their own or part of one.
     ///
     /// `NoMemory`: no memory is left for what changes.
     pub fn with(&self, alloc: Global, add: &IndexedRules) -> Result<RuleList, NoMemory>
         ensures { IfOk result (λ next. next ≡ self.now ++ add.now) }
     {
-        let mut rules = self.handles(alloc)?;
-        extend(&mut rules, add.shared())?;
-        RuleList::of_handles(alloc, rules)
+        let mut segments = again(alloc, self.segments())?;
+        segments.push(Segment::of(alloc, add.again()?)?)?;
+        RuleList::of(alloc, segments.as_slice())
     }
 }

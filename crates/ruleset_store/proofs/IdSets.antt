@@ -1,16 +1,11 @@
 -- Ids that are put into a set one after another.
-use Rattle.std.proofs.Common.{◌≡◌, ℕ, ℤ, pos, List, [], ◌∷◌, ◌++◌, Bool, true, false, cond, ◌&&◌, ◌||◌, refl, subst, sym, ap, ◌∙◌, nat_cmp, int_cmp, int_eq, arith, ◌<◌, ◌^◌, FitsSigned}
+use Rattle.std.proofs.Common.{◌≡◌, ℕ, ℤ, pos, List, [], ◌∷◌, ◌++◌, Bool, true, false, cond, ◌||◌, refl, sym, ap, ◌∙◌, int_cmp, int_eq, arith, ◌<◌, ◌^◌, FitsSigned}
 use mir.Syntax.{w128}
-use Rattle.std.specs.Prelude.{◌==◌}
 use Rattle.std.specs.List.{list_any}
 use Rattle.std.specs.BTreeSet.{BTreeSet, contains_by, Updates}
-use Rattle.std.specs.Cmp.{nat_eq_equiv, int_eq_equiv, unsigned_tied}
-use Rattle.std.proofs.lemmas.Bool.{eqb-true}
+use Rattle.std.specs.Cmp.{int_eq_equiv}
 use Rattle.std.proofs.lemmas.List.Folds.{list_any-append}
-use Rattle.rule_spec.specs.Rule.{Rule}
-use Rattle.rule_spec.specs.State.{has_number}
 use Rattle.ruleset_store.specs.Ids.{HasWholes}
-use Rattle.update_spec.specs.Judge.{has_id}
 
 or_cond : (c b : Bool) → cond c true b ≡ (b || (c || false))
 or_cond true true = refl

@@ -1,6 +1,7 @@
 use Rattle.std.proofs.Common.{◌≡◌, take}
 use Rattle.update_spec.specs.Update.{without_ids}
+use Rattle.rule_segments.specs.Segments.{live_among}
 use Rattle.rule_segments.proofs.rule_list.without.Given as goal
 
-abbrev pub invariant-loop-rule : goal.invariant-loop-rule
-invariant-loop-rule l = l.kept.items ≡ without_ids l.remove (take l.rule-index l.rules)
+abbrev pub invariant-loop-segment : goal.invariant-loop-segment
+invariant-loop-segment l = live_among l.next.items ≡ without_ids l.remove (live_among (take l.segment-index l.segments))

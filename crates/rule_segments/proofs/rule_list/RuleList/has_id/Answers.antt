@@ -1,7 +1,7 @@
 use Rattle.std.proofs.Common.{List, ap, ◌∙◌}
 use Rattle.rule_spec.specs.Rule.{Rule}
 use Rattle.update_spec.specs.Judge.{has_id}
-use Rattle.rule_segments.proofs.Live.{has_among}
+use Rattle.rule_segments.proofs.Tapered.{has_among}
 use Rattle.rule_segments.proofs.rule_list.RuleList.has_id.Goals as goal
 
 pub returns : goal.returns

@@ -1,10 +1,8 @@
 use Rattle.std.proofs.Common.{ℕ, List, Bool, ◌≡◌, not, ◌&&◌, true, false, sym, ap, ◌∙◌}
-use Rattle.std.specs.Arc.{arc_value}
-use Rattle.rule_spec.specs.Rule.{Rule}
 use Rattle.rule_spec.specs.State.{has_number}
 use Rattle.update_spec.specs.Judge.{has_id}
-use Rattle.rule_segments.specs.Segments.{Segment, live_in}
-use Rattle.rule_segments.proofs.Live.{has_live}
+use Rattle.rule_segments.specs.Segments.{Segment}
+use Rattle.rule_segments.proofs.Removed.{has_live}
 use Rattle.rule_segments.proofs.segment.Segment.has_live.Goals as goal
 
 pub returns-then-not-has : goal.returns-then-not-has
