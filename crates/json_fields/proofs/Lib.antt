@@ -6,3 +6,4 @@ pub mod Apart
 pub mod Whole
 pub mod Asked
 pub mod Keeping
+pub mod Times

@@ -2,3 +2,4 @@ pub mod Behind
 pub mod Held
 pub mod Fields
 pub mod Chosen
+pub mod Last

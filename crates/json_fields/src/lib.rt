@@ -10,6 +10,8 @@ mod chosen;
 mod field;
 mod fields;
 mod held;
+mod last;
+mod list;
 mod number;
 mod passed;
 #[cfg(test)]
@@ -20,6 +22,8 @@ pub use chosen::next_chosen;
 pub use field::Field;
 pub use fields::{Form, read_fields, text_fields};
 pub use held::Held;
+pub use last::{count_members, pass_others, seek_last};
+pub use list::open_list;
 pub use number::read_number;
 pub use passed::pass_value;
 pub use tree::{Fault, next_value};

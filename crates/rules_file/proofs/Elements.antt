@@ -44,35 +44,35 @@ bad_item : (j : json.Json) → of_json j ≡ None → (o : Option (json.Items ×
 bad_item j e None = refl
 bad_item j e (Some p) = rw e
 
-pub item_read : (n : ℕ) (ts r : List Token) (d : Data) → 0 < n → after_end_array ts ≡ None → HasValue ts d r → items_in n ts ≡ parse_map (item d) (items_in (n - 1) r)
-item_read n ts r d some going e =
-    let j = converted_some of_json (value 126 ts) d r e in
-    ap (converted of_items) (items_more (value 126) n ts r j.0 some going j.1) ∙ good_item j.0 d j.2 _
+pub item_read : (depth n : ℕ) (ts r : List Token) (d : Data) → 0 < n → after_end_array ts ≡ None → HasValue depth ts d r → items_in depth n ts ≡ parse_map (item d) (items_in depth (n - 1) r)
+item_read depth n ts r d some going e =
+    let j = converted_some of_json (value depth ts) d r e in
+    ap (converted of_items) (items_more (value depth) n ts r j.0 some going j.1) ∙ good_item j.0 d j.2 _
 
 none_next : (more : json.Parse json.Items) (o : Option (json.Json × List Token)) → converted of_json o ≡ None → converted of_items (option_and_then (λ q. parse_map (json.item q.0) (more q.1)) o) ≡ None
 none_next more None e = refl
 none_next more (Some q) e = bad_item q.0 (no_pair q.1 (of_json q.0) e) (more q.1)
 
-pub item_missing : (n : ℕ) (ts : List Token) → after_end_array ts ≡ None → value_in ts ≡ None → items_in n ts ≡ None
+pub item_missing : (depth n : ℕ) (ts : List Token) → after_end_array ts ≡ None → value_in depth ts ≡ None → items_in depth n ts ≡ None
 unfolding items
-item_missing zero ts going e = refl
-item_missing (suc n) ts going e =
-    ap (λ o. converted of_items (items_step (value 126) (items (value 126) n) ts o)) going ∙ none_next (items (value 126) n) (value 126 ts) e
+item_missing depth zero ts going e = refl
+item_missing depth (suc n) ts going e =
+    ap (λ o. converted of_items (items_step (value depth) (items (value depth) n) ts o)) going ∙ none_next (items (value depth) n) (value depth ts) e
 
-pub list_over : (n : ℕ) (ts r : List Token) → length ts ≤ n → after_end_array ts ≡ Some r → items_in n ts ≡ Some (no_items, r)
-list_over n ts r enough e = ap (converted of_items) (items_end (value 126) n ts r enough e)
+pub list_over : (depth n : ℕ) (ts r : List Token) → length ts ≤ n → after_end_array ts ≡ Some r → items_in depth n ts ≡ Some (no_items, r)
+list_over depth n ts r enough e = ap (converted of_items) (items_end (value depth) n ts r enough e)
 
 -- ---- the list that a text is
 
 list_is : (ts : List Token) → value 127 (Token.begin_array ∷ ts) ≡ parse_map json.array (items (value 126) (length ts) ts)
 list_is ts = value-begin_array 127 ts (omega arith)
 
-pub list_read : (ts : List Token) (ds : Items) → HasItems ts ds [] → tree_in (value 127 (Token.begin_array ∷ ts)) ≡ Some (array ds)
+pub list_read : (ts : List Token) (ds : Items) → HasItems 126 ts ds [] → tree_in (value 127 (Token.begin_array ∷ ts)) ≡ Some (array ds)
 list_read ts ds h =
     let js = converted_some of_items (items (value 126) (length ts) ts) ds [] (h (length ts) (omega arith)) in
     ap tree_in (list_is ts) ∙ ap (λ o. tree_in (parse_map json.array o)) js.1 ∙ ap (option_map array) js.2
 
-pub list_and_more : (ts : List Token) (ds : Items) (t : Token) (r : List Token) → HasItems ts ds (t ∷ r) → tree_in (value 127 (Token.begin_array ∷ ts)) ≡ None
+pub list_and_more : (ts : List Token) (ds : Items) (t : Token) (r : List Token) → HasItems 126 ts ds (t ∷ r) → tree_in (value 127 (Token.begin_array ∷ ts)) ≡ None
 list_and_more ts ds t r h =
     let js = converted_some of_items (items (value 126) (length ts) ts) ds (t ∷ r) (h (length ts) (omega arith)) in
     ap tree_in (list_is ts) ∙ ap (λ o. tree_in (parse_map json.array o)) js.1
@@ -82,5 +82,5 @@ broken None e = refl
 broken (Some (js, [])) e = ap (option_map array) (no_pair [] (of_items js) e)
 broken (Some (js, t ∷ r)) e = refl
 
-pub list_broken : (ts : List Token) → HasNoItems ts → tree_in (value 127 (Token.begin_array ∷ ts)) ≡ None
+pub list_broken : (ts : List Token) → HasNoItems 126 ts → tree_in (value 127 (Token.begin_array ∷ ts)) ≡ None
 list_broken ts h = ap tree_in (list_is ts) ∙ broken (items (value 126) (length ts) ts) (h (length ts) (omega arith))

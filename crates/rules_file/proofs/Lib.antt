@@ -2,3 +2,4 @@ mod Elements
 mod Steps
 mod Whole
 mod FourMembers
+pub mod Objects

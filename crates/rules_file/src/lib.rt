@@ -6,6 +6,7 @@
 #![tactic(auto)]
 
 mod list;
+mod listed;
 mod load;
 #[cfg(test)]
 mod tests;
@@ -18,6 +19,7 @@ ghost use Rattle.json_spec.specs.RulesFile.{rules_of};
 ghost use Rattle.rules_file.specs.Answers.{MayRefuse};
 
 use json_fields::Fault;
+pub use listed::{Listed, read_listed};
 pub use load::{LoadRefusal, MAX_FILE, load_rules};
 use regex_host::RegexHost;
 use rule_read::{PlacedRefusal, Rule, RuleKind, RuleRefusal};

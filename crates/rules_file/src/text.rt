@@ -36,7 +36,7 @@ pub(crate) fn read_text<H: RegexHost>(
     if !opens_list(&mut reader) {
         return read_whole(alloc, text, kind, host);
     }
-    match read_list(alloc, &mut reader, kind, host) {
+    match read_list(alloc, &mut reader, 126, kind, host) {
         Ok(answer) if is_over(&mut reader) => Ok(answer),
         Ok(_) => Err(Fault::BadJson),
         Err(fault) => Err(fault),

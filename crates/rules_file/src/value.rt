@@ -1,24 +1,28 @@
 // The values of a text, one after another.
-ghost use Rattle.std.specs.Prelude.{◌≡◌, ◌<◌, Err, OnOk, IfOk, length, None, Some};
+ghost use Rattle.std.specs.Prelude.{◌≡◌, ◌<◌, Err, OnOk, OnErr, IfOk, length, None, Some};
 ghost use Rattle.std.specs.Str.{IsUtf8};
 ghost use Rattle.serde_json.specs.Data.{Data};
 ghost use Rattle.serde_json.specs.View.{view};
 ghost use Rattle.serde_json.specs.Read.{read};
 ghost use Rattle.rules_file.specs.Reading.{value_in, HasValue, HasRuleKeys, ReadsAs};
 
-use json::Reader;
+use json::{Invalid, Reader};
 use json_fields::{Fault, next_chosen};
 use serde_json::Value;
 use std::alloc::Global;
 
 // The next element of a list, with those members alone of which a rule is read.
-pub(crate) fn next_element(alloc: Global, reader: &mut Reader<'_>) -> Result<Value, Fault>
-    ensures read { IfOk result (λ kept. (d : Data) × HasValue reader.old d reader.new × ReadsAs (view kept) d) }
+pub(crate) fn next_element(
+    alloc: Global,
+    reader: &mut Reader<'_>,
+    depth: usize,
+) -> Result<Value, Fault>
+    ensures read { IfOk result (λ kept. (d : Data) × HasValue depth reader.old d reader.new × ReadsAs (view kept) d) }
     ensures shorter { OnOk result (length reader.new < length reader.old) }
-    ensures bad { result ≡ Err Fault.BadJson → value_in reader.old ≡ None }
+    ensures bad { result ≡ Err Fault.BadJson → value_in depth reader.old ≡ None }
 {
     let names = rule_keys();
-    next_chosen(alloc, reader, 126, &names)
+    next_chosen(alloc, reader, depth, &names)
 }
 
 // The keys of a rule.
@@ -29,14 +33,14 @@ fn rule_keys() -> [&'static str; 4]
 }
 
 // Passes over the next element of a list.
-pub(crate) fn pass_element(reader: &mut Reader<'_>) -> Result<(), Fault>
-    ensures passed { OnOk result ((d : Data) × HasValue reader.old d reader.new) }
+pub(crate) fn pass_element(reader: &mut Reader<'_>, depth: usize) -> Result<(), Invalid>
+    ensures passed { OnOk result ((d : Data) × HasValue depth reader.old d reader.new) }
     ensures shorter { OnOk result (length reader.new < length reader.old) }
-    ensures bad { result ≡ Err Fault.BadJson → value_in reader.old ≡ None }
+    ensures bad { OnErr result (value_in depth reader.old ≡ None) }
 {
-    match json_fields::pass_value(reader, 126) {
+    match json_fields::pass_value(reader, depth) {
         Ok(()) => Ok(()),
-        Err(_) => Err(Fault::BadJson),
+        Err(fault) => Err(fault),
     }
 }
 
