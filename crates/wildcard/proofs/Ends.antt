@@ -1,6 +1,5 @@
 -- The table of places at the end of a text.
-use Rattle.std.proofs.Common.{◌≡◌, ◌≢◌, ◌⊎◌, ⊎_elim, ℕ, ◌+◌, ◌<◌, ◌≤◌, List, [], length, drop, get_or, set, Bool, true, false, ◌&&◌, sym, ap, ◌∙◌, arith, get_or-set_other, get_or-set_same}
-use Rattle.std.proofs.lemmas.List.{drop_more}
+use Rattle.std.proofs.Common.{◌≡◌, ◌≢◌, ⊎_elim, ℕ, ◌+◌, ◌<◌, ◌≤◌, List, [], length, drop, get_or, set, Bool, true, false, ◌&&◌, sym, ap, ◌∙◌, arith, get_or-set_other, get_or-set_same}
 use Rattle.std.proofs.Math.Seq.{drop-length}
 use Rattle.dnr_spec.specs.declared.piece.Piece.{Piece}
 use Rattle.dnr_spec.specs.Wildcards.{takes}
@@ -9,7 +8,7 @@ use Rattle.wildcard.proofs.Rows.{first_or_later}
 use Rattle.wildcard.proofs.Takes.{takes_none}
 
 -- the table with nothing but the end of the pattern
-pub end_begins : (pieces : List Piece) (table : List Bool) → length pieces < length table → EndStands pieces (set table (length pieces) true) (length pieces) (length pieces) true
+pub end_begins : (pieces : List Piece) (table : List Bool) → length pieces < length table → EndStands pieces (set table (length pieces) true) (length pieces) true
 end_begins pieces table room =
     let ends : (fold : Bool) → true ≡ takes fold (drop (length pieces) pieces) [] = λ fold. sym (ap (λ q. takes fold q []) (drop-length pieces)) in
     record {
@@ -21,13 +20,11 @@ end_begins pieces table room =
           ∙ get_or-set_same table (length pieces) true false room
           ∙ ends fold
           ∙ ap (λ i. takes fold (drop i pieces) []) (sym same);
-      none = λ fold k from less. absurd (omega arith);
     }
 
-pub end_more : (pieces : List Piece) (table : List Bool) (place q low lower : ℕ) (behind now : Bool) (d : Piece) → place ≡ q + 1 → length pieces < length table
-    → now ≡ (takes_nothing (get_or pieces q d) && behind) → (lower ≡ q) ⊎ ((now ≡ false) × (lower ≡ low))
-    → EndStands pieces table place low behind → EndStands pieces (set table q now) q lower now
-end_more pieces table place q low lower behind now d e room is_now is_low s =
+pub end_more : (pieces : List Piece) (table : List Bool) (place q : ℕ) (behind now : Bool) (d : Piece) → place ≡ q + 1 → length pieces < length table
+    → now ≡ (takes_nothing (get_or pieces q d) && behind) → EndStands pieces table place behind → EndStands pieces (set table q now) q now
+end_more pieces table place q behind now d e room is_now s =
     let less : q < length pieces = let o = s.order in omega arith in
     let here : (fold : Bool) → now ≡ takes fold (drop q pieces) [] = λ fold.
     is_now ∙ ap (λ t. takes_nothing (get_or pieces q d) && t) (s.now fold ∙ ap (λ k. takes fold (drop k pieces) []) e) ∙ sym (takes_none fold pieces q d less) in
@@ -42,22 +39,9 @@ end_more pieces table place q low lower behind now d e room is_now is_low s =
           let other : k ≢ q = omega arith in
           get_or-set_other table q k now false other ∙ s.told fold k (omega arith) to)
           (first_or_later q k from);
-      none = λ fold k from to. ⊎_elim
-          (λ (low_here : lower ≡ q). absurd (omega arith))
-          (λ (fails : (now ≡ false) × (lower ≡ low)). ⊎_elim
-          (λ (same : k ≡ q). ap (λ i. takes fold (drop i pieces) []) same ∙ sym (here fold) ∙ fails.0)
-          (λ (later : q + 1 ≤ k). s.none fold k (omega arith) (let l = fails.1 in omega arith))
-          (first_or_later q k from))
-          is_low;
     }
 
-pub end_stands : (pieces : List Piece) (table : List Bool) (place low : ℕ) (now fold : Bool) (text : List ℕ) → place ≤ 0 → EndStands pieces table place low now
-    → Stands fold pieces text (length text) table (record { low = low; top = length pieces; settled = false })
-end_stands pieces table place low now fold text first s =
-    let left : drop (length text) text ≡ [] = drop-length text in
-    record {
-      within = omega arith;
-      told = λ k to. s.told fold k (omega arith) to ∙ ap (takes fold (drop k pieces)) (sym left);
-      none = λ k less. ap (takes fold (drop k pieces)) left ∙ s.none fold k (omega arith) less;
-      fixed = λ j less. ap (λ q. takes fold q (drop j text)) (drop-length pieces) ∙ ap (takes fold []) (drop_more text j 0 less);
-    }
+pub end_stands : (pieces : List Piece) (table : List Bool) (place : ℕ) (now fold : Bool) (text : List ℕ) → place ≤ 0 → EndStands pieces table place now
+    → Stands fold pieces text (length text) table
+end_stands pieces table place now fold text first s k to =
+    s.told fold k (omega arith) to ∙ ap (takes fold (drop k pieces)) (sym (drop-length text))

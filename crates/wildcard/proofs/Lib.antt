@@ -1,3 +1,5 @@
-pub mod Ends
-pub mod Rows
-pub mod Takes
+mod Bits
+mod Takes
+mod Ends
+mod Rows
+mod Bytes

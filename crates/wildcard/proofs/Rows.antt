@@ -1,229 +1,134 @@
--- How the table of places changes with a byte, place by place, and which of its places count.
-use Rattle.std.proofs.Common.{◌≡◌, ◌≢◌, ◌⊎◌, inl, inr, ⊎_elim, ℕ, zero, suc, ◌+◌, ◌-◌, ◌<◌, ◌≤◌, List, length, get_or, set, Bool, true, false, ◌&&◌, ◌||◌, refl, sym, ap, ◌∙◌, subst, arith, get_or-set_other, get_or-set_same}
-use Rattle.std.proofs.lemmas.Bool.{cases_lt, true≢false}
+-- How the table of places changes with a part of the text, place by place.
+use Rattle.std.proofs.Common.{◌≡◌, ◌≢◌, ◌⊎◌, inl, inr, ⊎_elim, ℕ, zero, suc, ◌+◌, ◌<◌, ◌≤◌, List, [], length, drop, get_or, set, Bool, false, ◌&&◌, ◌||◌, refl, sym, ap, ◌∙◌, arith, get_or-set_other, get_or-set_same}
+use Rattle.std.proofs.lemmas.Bool.{cases_lt}
+use Rattle.std.proofs.lemmas.List.{drop_more}
+use Rattle.std.proofs.Math.Seq.{drop-length}
 use Rattle.dnr_spec.specs.declared.piece.Piece.{Piece}
 use Rattle.dnr_spec.specs.declared.piece.Piece.TheVariants.{AnyBytes, AtMostOne, Byte}
 use Rattle.dnr_spec.specs.UrlFilter.{is_same}
-use Rattle.wildcard.specs.Places.{takes_from, takes_here, band_with, Stands, RowStands, IsFixedBefore}
-use Rattle.wildcard.specs.declared.places.Band.{Band}
+use Rattle.dnr_spec.specs.Wildcards.{takes}
+use Rattle.wildcard.specs.Words.{tells, AreNoted}
+use Rattle.wildcard.specs.Places.{takes_from, Stands, WordTells, TellsBefore, RowStands}
 use Rattle.wildcard.specs.declared.places.Row.{Row}
-use Rattle.wildcard.proofs.Takes.{takes_more, takes_at, star_stays, none_below}
+use Rattle.wildcard.proofs.Bits.{tells_none}
+use Rattle.wildcard.proofs.Takes.{takes_at}
 
 pub first_or_later : (q k : ℕ) → q ≤ k → (k ≡ q) ⊎ (q + 1 ≤ k)
 first_or_later q k from = ⊎_elim (λ (more : q < k). inr (omega arith)) (λ (most : k ≤ q). inl (omega arith)) (cases_lt q k)
 
-last_or_early : (j at : ℕ) → j < at → (j + 1 ≡ at) ⊎ (j + 1 < at)
-last_or_early j at less = ⊎_elim (λ (early : j + 1 < at). inr early) (λ (late : at ≤ j + 1). inl (omega arith)) (cases_lt (j + 1) at)
+-- ---- the word of one place more
 
--- ---- the row begins
+-- of a star, from the part's last byte on
+star_tells : (fold : Bool) (pieces : List Piece) (text : List ℕ) (from to place : ℕ) (d : Piece) (old : Bool) (word result : ℕ)
+    → place < length pieces → get_or pieces place d ≡ AnyBytes → to ≤ length text → to ≤ 64 + from → old ≡ takes_from fold pieces text place to
+    → tells result 0 ≡ (tells word 0 || old) → ((i : ℕ) → i < 63 → tells result (i + 1) ≡ (tells word (i + 1) || tells result i))
+    → WordTells fold pieces text from to (place + 1) word → (i j : ℕ) → (i + j) + 1 ≡ to → from ≤ j → tells result i ≡ takes_from fold pieces text place j
+star_tells fold pieces text from to place d old word result less is within few is_old last others next zero j at order =
+    let byte : j < length text = omega arith in
+    let end : to ≡ j + 1 = omega arith in
+    last
+    ∙ ap (λ t. t || old) (next 0 j at order)
+    ∙ ap (λ t. takes_from fold pieces text (place + 1) j || t) (is_old ∙ ap (takes_from fold pieces text place) end)
+    ∙ sym (takes_at fold pieces text place j d AnyBytes less byte is)
+star_tells fold pieces text from to place d old word result less is within few is_old last others next (suc i) j at order =
+    let byte : j < length text = omega arith in
+    let more : suc i ≡ i + 1 = omega arith in
+    ap (tells result) more
+    ∙ others i (omega arith)
+    ∙ ap (λ t. t || tells result i) (next (i + 1) j (omega arith) order)
+    ∙ ap (λ t. takes_from fold pieces text (place + 1) j || t)
+    (star_tells fold pieces text from to place d old word result less is within few is_old last others next i (j + 1) (omega arith) (omega arith))
+    ∙ sym (takes_at fold pieces text place j d AnyBytes less byte is)
 
-pub row_begins : (fold : Bool) (pieces : List Piece) (text : List ℕ) (at low : ℕ) (table : List Bool) (band : Band)
-    → length pieces < length table → low ≤ band.top + 1 → (band.settled ≡ true → low ≤ band.top) → Stands fold pieces text (at + 1) table band
-    → RowStands fold pieces text at band.top (set table band.top band.settled) (record {
-      place = band.top;
-      was = get_or table band.top false;
-      now = band.settled;
-      band = record { low = low; top = band.top; settled = band.settled };
-    })
-row_begins fold pieces text at low table band room most settled s = record {
-  order = (omega arith, omega arith, s.within);
-  was = s.told band.top (omega arith);
-  now = sym (s.fixed at (omega arith));
-  before = λ k less.
-      let other : k ≢ band.top = omega arith in
-      get_or-set_other table band.top k band.settled false other ∙ s.told k (omega arith);
-  told = λ k from to.
-      let same : k ≡ band.top = omega arith in
-      let within : band.top < length table = let w = s.within in omega arith in
-      ap (λ i. get_or (set table band.top band.settled) i false) same
-      ∙ get_or-set_same table band.top band.settled false within
-      ∙ sym (s.fixed at (omega arith))
-      ∙ ap (λ i. takes_from fold pieces text i at) (sym same);
-  none = λ k from less.
-      let same : k ≡ band.top = omega arith in
-      ap (λ i. takes_from fold pieces text i at) same ∙ s.fixed at (omega arith)
-      ∙ elim band.settled as (λ v. (v ≡ true → low ≤ band.top) → v ≡ false) [
-        | true ↦ λ h. let few : low ≤ band.top = h refl in absurd (omega arith)
-        | false ↦ λ h. refl
-      ] settled;
-  fixed = λ j less. s.fixed j (omega arith);
-}
+-- of the byte behind each
+behind_tells : (fold : Bool) (pieces : List Piece) (text : List ℕ) (from to place : ℕ) (was : Bool) (word behind : ℕ)
+    → to ≤ 64 + from → was ≡ takes_from fold pieces text place to → tells behind 0 ≡ was → ((i : ℕ) → i < 63 → tells behind (i + 1) ≡ tells word i)
+    → WordTells fold pieces text from to place word → (i j : ℕ) → (i + j) + 1 ≡ to → from ≤ j → tells behind i ≡ takes_from fold pieces text place (j + 1)
+behind_tells fold pieces text from to place was word behind few is_was last others next zero j at order =
+    last ∙ is_was ∙ ap (takes_from fold pieces text place) (let e : to ≡ j + 1 = omega arith in e)
+behind_tells fold pieces text from to place was word behind few is_was last others next (suc i) j at order =
+    ap (tells behind) (let e : suc i ≡ i + 1 = omega arith in e) ∙ others i (omega arith) ∙ next i (j + 1) (omega arith) (omega arith)
 
--- ---- the row goes on
+pub star_before : (fold : Bool) (words : List ℕ) (old was : Bool) (word result : ℕ)
+    → tells result 0 ≡ (tells word 0 || old) → ((i : ℕ) → i < 63 → tells result (i + 1) ≡ (tells word (i + 1) || tells result i))
+    → TellsBefore fold words AnyBytes old was word result
+star_before fold words old was word result last others pieces text from to count place d less is within part few noted is_old is_was next =
+    star_tells fold pieces text from to place d old word result less is within (omega arith) is_old last others next
 
--- what the band of a row tells
-record BandTells (fold : Bool) (pieces : List Piece) (text : List ℕ) (at place top : ℕ) (band : Band) : Type 0 where
-  pub order : (place ≤ band.top) × (band.top ≤ top)
-  pub none : (k : ℕ) → place ≤ k → k < band.low → takes_from fold pieces text k at ≡ false
-  pub fixed : (j : ℕ) → j < at → takes_from fold pieces text band.top j ≡ band.settled
+pub question_before : (fold : Bool) (words : List ℕ) (old was : Bool) (word behind result : ℕ)
+    → tells behind 0 ≡ was → ((i : ℕ) → i < 63 → tells behind (i + 1) ≡ tells word i) → ((i : ℕ) → tells result i ≡ (tells word i || tells behind i))
+    → TellsBefore fold words AtMostOne old was word result
+question_before fold words old was word behind result last others is_result pieces text from to count place d less is within part few noted is_old is_was next i j at order =
+    let byte : j < length text = omega arith in
+    is_result i
+    ∙ ap (λ t. t || tells behind i) (next i j at order)
+    ∙ ap (λ t. takes_from fold pieces text (place + 1) j || t) (behind_tells fold pieces text from to (place + 1) was word behind (omega arith) is_was last others next i j at order)
+    ∙ sym (takes_at fold pieces text place j d AtMostOne less byte is)
 
-band_more : (fold : Bool) (pieces : List Piece) (text : List ℕ) (at place top : ℕ) (band : Band) (d p : Piece) (now : Bool)
-    → place < length pieces → at ≤ length text → place + 1 ≤ top → get_or pieces place d ≡ p → now ≡ takes_from fold pieces text place at
-    → BandTells fold pieces text at (place + 1) top band → BandTells fold pieces text at place top (band_with band place p now)
-band_more fold pieces text at place top band d p false less within more is now b = record {
-  order = let o = b.order in (omega arith, o.1);
-  none = λ k from to. ⊎_elim
-      (λ (same : k ≡ place). ap (λ i. takes_from fold pieces text i at) same ∙ sym now)
-      (λ (later : place + 1 ≤ k). b.none k later to)
-      (first_or_later place k from);
-  fixed = b.fixed;
-}
-band_more fold pieces text at place top band d AnyBytes true less within more is now b = record {
-  order = (omega arith, omega arith);
-  none = λ k from to. absurd (omega arith);
-  fixed = λ j lt. star_stays fold pieces text place at d less within is (sym now) (at - j) j (omega arith);
-}
-band_more fold pieces text at place top band d AtMostOne true less within more is now b = record {
-  order = let o = b.order in (omega arith, o.1);
-  none = λ k from to. absurd (omega arith);
-  fixed = b.fixed;
-}
-band_more fold pieces text at place top band d (Byte c) true less within more is now b = record {
-  order = let o = b.order in (omega arith, o.1);
-  none = λ k from to. absurd (omega arith);
-  fixed = b.fixed;
-}
+pub byte_before : (fold : Bool) (words : List ℕ) (c : ℕ) (old was : Bool) (word behind found result : ℕ)
+    → tells behind 0 ≡ was → ((i : ℕ) → i < 63 → tells behind (i + 1) ≡ tells word i)
+    → ((text : List ℕ) (to count i j : ℕ) → AreNoted fold text to count words → i < count → (i + j) + 1 ≡ to → tells found i ≡ is_same fold (get_or text j 0) c)
+    → ((i : ℕ) → tells result i ≡ (tells behind i && tells found i))
+    → TellsBefore fold words (Byte c) old was word result
+byte_before fold words c old was word behind found result last others is_found is_result pieces text from to count place d less is within part few noted is_old is_was next i j at order =
+    let byte : j < length text = omega arith in
+    is_result i
+    ∙ ap (λ t. t && tells found i) (behind_tells fold pieces text from to (place + 1) was word behind (omega arith) is_was last others next i j at order)
+    ∙ ap (λ t. takes_from fold pieces text (place + 1) (j + 1) && t) (is_found text to count i j noted (omega arith) at)
+    ∙ sym (takes_at fold pieces text place j d (Byte c) less byte is)
 
-pub row_more : (fold : Bool) (pieces : List Piece) (text : List ℕ) (at top : ℕ) (table : List Bool) (row : Row) (b q : ℕ) (d : Piece) (now : Bool) (band : Band)
-    → row.place ≡ q + 1 → length pieces < length table → at < length text → get_or text at 0 ≡ b
-    → now ≡ takes_here fold (get_or pieces q d) b (get_or table q false) row.was row.now
-    → band ≡ band_with row.band q (get_or pieces q d) now
-    → RowStands fold pieces text at top table row
-    → RowStands fold pieces text at top (set table q now) (record { place = q; was = get_or table q false; now = now; band = band })
-row_more fold pieces text at top table row b q d now band e room byte is_byte is_now is_band r =
-    let o = r.order in
-    let less : q < length pieces = omega arith in
-    let p = get_or pieces q d in
-    let old : get_or table q false ≡ takes_from fold pieces text q (at + 1) = r.before q (omega arith) in
-    let was : row.was ≡ takes_from fold pieces text (q + 1) (at + 1) = r.was ∙ ap (λ k. takes_from fold pieces text k (at + 1)) e in
-    let next : row.now ≡ takes_from fold pieces text (q + 1) at = r.now ∙ ap (λ k. takes_from fold pieces text k at) e in
-    let here : now ≡ takes_from fold pieces text q at =
-    is_now
-    ∙ ap (λ t. takes_here fold p b t row.was row.now) old
-    ∙ ap (λ t. takes_here fold p b (takes_from fold pieces text q (at + 1)) t row.now) was
-    ∙ ap (takes_here fold p b (takes_from fold pieces text q (at + 1)) (takes_from fold pieces text (q + 1) (at + 1))) next
-    ∙ ap (λ x. takes_here fold p x (takes_from fold pieces text q (at + 1)) (takes_from fold pieces text (q + 1) (at + 1)) (takes_from fold pieces text (q + 1) at)) (sym is_byte)
-    ∙ sym (takes_more fold pieces text q at d less byte) in
-    let tells : BandTells fold pieces text at (q + 1) top row.band = record {
-      order = (omega arith, o.1);
-      none = λ k from to. r.none k (omega arith) to;
-      fixed = r.fixed;
-    } in
-    let after : BandTells fold pieces text at q top band =
-    subst (BandTells fold pieces text at q top) (sym is_band) (band_more fold pieces text at q top row.band d p now less (omega arith) (omega arith) refl here tells) in
+-- ---- the row
+
+pub row_begins : (fold : Bool) (pieces : List Piece) (text : List ℕ) (from to : ℕ) (table : List Bool) → length pieces < length table → from < to → to ≤ length text
+    → Stands fold pieces text to table
+    → RowStands fold pieces text from to (set table (length pieces) false) (record { place = length pieces; was = get_or table (length pieces) false; word = 0 })
+row_begins fold pieces text from to table room order within s =
+    let ends : (j : ℕ) → j < length text → false ≡ takes_from fold pieces text (length pieces) j = λ j less.
+    sym (ap (λ q. takes fold q (drop j text)) (drop-length pieces) ∙ ap (takes fold []) (drop_more text j 0 less)) in
     record {
-      order = (after.order.0, after.order.1, o.2);
+      order = omega arith;
+      was = s (length pieces) (omega arith);
+      word = λ i j at after. tells_none i ∙ ends j (omega arith);
+      before = λ k less.
+          let other : k ≢ length pieces = omega arith in
+          get_or-set_other table (length pieces) k false false other ∙ s k (omega arith);
+      told = λ k after most.
+          let same : k ≡ length pieces = omega arith in
+          ap (λ i. get_or (set table (length pieces) false) i false) same
+          ∙ get_or-set_same table (length pieces) false false room
+          ∙ ends from (omega arith)
+          ∙ ap (λ i. takes_from fold pieces text i from) (sym same);
+    }
+
+pub row_more : (fold : Bool) (pieces : List Piece) (text : List ℕ) (from to first : ℕ) (table : List Bool) (words : List ℕ) (row : Row) (q : ℕ) (d : Piece) (word : ℕ) (now : Bool)
+    → row.place ≡ q + 1 → length pieces < length table → to ≤ length text → (first + 1) + from ≡ to → first < 64 → AreNoted fold text to (first + 1) words
+    → TellsBefore fold words (get_or pieces q d) (get_or table q false) row.was row.word word
+    → now ≡ tells word first
+    → RowStands fold pieces text from to table row
+    → RowStands fold pieces text from to (set table q now) (record { place = q; was = get_or table q false; word = word })
+row_more fold pieces text from to first table words row q d word now e room within part few noted before is_now r =
+    let less : q < length pieces = let o = r.order in omega arith in
+    let old : get_or table q false ≡ takes_from fold pieces text q to = r.before q (omega arith) in
+    let was : row.was ≡ takes_from fold pieces text (q + 1) to = r.was ∙ ap (λ k. takes_from fold pieces text k to) e in
+    let next : WordTells fold pieces text from to (q + 1) row.word = λ i j at order. r.word i j at order ∙ ap (λ k. takes_from fold pieces text k j) e in
+    let here : WordTells fold pieces text from to q word = before pieces text from to (first + 1) q d less refl within part (omega arith) noted old was next in
+    record {
+      order = omega arith;
       was = old;
-      now = here;
+      word = here;
       before = λ k lt.
           let other : k ≢ q = omega arith in
           get_or-set_other table q k now false other ∙ r.before k (omega arith);
-      told = λ k from to. ⊎_elim
+      told = λ k after most. ⊎_elim
           (λ (same : k ≡ q).
-          let within : q < length table = omega arith in
-          ap (λ i. get_or (set table q now) i false) same ∙ get_or-set_same table q now false within ∙ here ∙ ap (λ i. takes_from fold pieces text i at) (sym same))
+          let room_here : q < length table = omega arith in
+          ap (λ i. get_or (set table q now) i false) same
+          ∙ get_or-set_same table q now false room_here
+          ∙ is_now
+          ∙ here first from (omega arith) (omega arith)
+          ∙ ap (λ i. takes_from fold pieces text i from) (sym same))
           (λ (later : q + 1 ≤ k).
           let other : k ≢ q = omega arith in
-          get_or-set_other table q k now false other ∙ r.told k (omega arith) to)
-          (first_or_later q k from);
-      none = after.none;
-      fixed = after.fixed;
-    }
-
--- ---- the row ends
-
-pub row_ends : (fold : Bool) (pieces : List Piece) (text : List ℕ) (at top low : ℕ) (table : List Bool) (row : Row) (d : Piece) → at < length text
-    → ((k : ℕ) → k < low → takes_from fold pieces text k (at + 1) ≡ false)
-    → (row.place ≡ 0) ⊎ ((row.now ≡ false) × (row.place < low))
-    → RowStands fold pieces text at top table row → Stands fold pieces text at table row.band
-row_ends fold pieces text at top low table row d byte behind end r =
-    let o = r.order in
-    let early : (k : ℕ) → k < row.place → (get_or table k false ≡ false) × (takes_from fold pieces text k at ≡ false) = λ k less. ⊎_elim
-    (λ (first : row.place ≡ 0). absurd (omega arith))
-    (λ (fails : (row.now ≡ false) × (row.place < low)). (
-      r.before k less ∙ behind k (let l = fails.1 in omega arith),
-      none_below fold pieces text at row.place d (omega arith) byte (λ i le. behind i (let l = fails.1 in omega arith)) (sym r.now ∙ fails.0) (row.place - k) k (omega arith),
-    ))
-    end in
-    let split : (k : ℕ) → (k < row.place) ⊎ (row.place ≤ k) = λ k. cases_lt k row.place in
-    record {
-      within = omega arith;
-      told = λ k to. ⊎_elim (λ (less : k < row.place). (early k less).0 ∙ sym (early k less).1) (λ (from : row.place ≤ k). r.told k from (omega arith)) (split k);
-      none = λ k lt. ⊎_elim (λ (less : k < row.place). (early k less).1) (λ (from : row.place ≤ k). r.none k from lt) (split k);
-      fixed = r.fixed;
-    }
-
--- ---- a place fewer counts
-
-or_twice : (a b : Bool) → (a || (a || b)) ≡ (a || b)
-or_twice true b = refl
-or_twice false b = refl
-
--- at a byte before, by what is known of the place behind
-fixed_star : (fold : Bool) (pieces : List Piece) (text : List ℕ) (at q : ℕ) (d : Piece) (settled : Bool) → q < length pieces → at ≤ length text → get_or pieces q d ≡ AnyBytes
-    → ((j : ℕ) → j < at → takes_from fold pieces text (q + 1) j ≡ settled)
-    → (n j : ℕ) → (j + 1) + n ≡ at → takes_from fold pieces text q j ≡ (settled || takes_from fold pieces text q at)
-fixed_star fold pieces text at q d settled place within star fixed zero j e =
-    let byte : j < length text = omega arith in
-    let same : j + 1 ≡ at = omega arith in
-    takes_at fold pieces text q j d AnyBytes place byte star
-    ∙ ap (λ t. t || takes_from fold pieces text q (j + 1)) (fixed j (omega arith))
-    ∙ ap (λ i. settled || takes_from fold pieces text q i) same
-fixed_star fold pieces text at q d settled place within star fixed (suc n) j e =
-    let byte : j < length text = omega arith in
-    let next : ((j + 1) + 1) + n ≡ at = omega arith in
-    takes_at fold pieces text q j d AnyBytes place byte star
-    ∙ ap (λ t. t || takes_from fold pieces text q (j + 1)) (fixed j (omega arith))
-    ∙ ap (λ t. settled || t) (fixed_star fold pieces text at q d settled place within star fixed n (j + 1) next)
-    ∙ or_twice settled (takes_from fold pieces text q at)
-
--- what the place behind takes of a rest that is shorter by a byte
-behind_is : (fold : Bool) (pieces : List Piece) (text : List ℕ) (at k j : ℕ) (here settled : Bool) → j < at → here ≡ takes_from fold pieces text k at
-    → ((i : ℕ) → i < at → takes_from fold pieces text k i ≡ settled)
-    → (takes_from fold pieces text k (j + 1) ≡ settled) ⊎ (takes_from fold pieces text k (j + 1) ≡ here)
-behind_is fold pieces text at k j here settled less is fixed = ⊎_elim
-    (λ (last : j + 1 ≡ at). inr (ap (takes_from fold pieces text k) last ∙ sym is))
-    (λ (early : j + 1 < at). inl (fixed (j + 1) early))
-    (last_or_early j at less)
-
-or_same : (a b settled here : Bool) → a ≡ settled → (b ≡ settled) ⊎ (b ≡ here) → (here ≡ true → settled ≡ true) → (a || b) ≡ settled
-or_same true b settled here e f h = e
-or_same false true settled here e (inl f) h = f
-or_same false true settled here e (inr f) h = sym (h (sym f))
-or_same false false settled here e f h = e
-
-and_none : (a b settled here : Bool) → settled ≡ false → here ≡ false → (a ≡ settled) ⊎ (a ≡ here) → (a && b) ≡ false
-and_none true b settled here s h (inl f) = absurd (true≢false (f ∙ s))
-and_none true b settled here s h (inr f) = absurd (true≢false (f ∙ h))
-and_none false b settled here s h f = refl
-
-fixed_before : (fold : Bool) (pieces : List Piece) (text : List ℕ) (at q : ℕ) (d p : Piece) (settled here before now : Bool) → q < length pieces → at ≤ length text → get_or pieces q d ≡ p
-    → here ≡ takes_from fold pieces text (q + 1) at → before ≡ takes_from fold pieces text q at
-    → ((j : ℕ) → j < at → takes_from fold pieces text (q + 1) j ≡ settled) → IsFixedBefore p settled here before now
-    → (j : ℕ) → j < at → takes_from fold pieces text q j ≡ now
-fixed_before fold pieces text at q d AnyBytes settled here before now place within is is_here is_before fixed f j less =
-    fixed_star fold pieces text at q d settled place within is fixed (at - (j + 1)) j (omega arith) ∙ ap (λ t. settled || t) (sym is_before) ∙ sym f
-fixed_before fold pieces text at q d AtMostOne settled here before now place within is is_here is_before fixed f j less =
-    let byte : j < length text = omega arith in
-    takes_at fold pieces text q j d AtMostOne place byte is
-    ∙ or_same (takes_from fold pieces text (q + 1) j) (takes_from fold pieces text (q + 1) (j + 1)) settled here (fixed j less) (behind_is fold pieces text at (q + 1) j here settled less is_here fixed) f.1
-    ∙ sym f.0
-fixed_before fold pieces text at q d (Byte c) settled here before now place within is is_here is_before fixed f j less =
-    let byte : j < length text = omega arith in
-    takes_at fold pieces text q j d (Byte c) place byte is
-    ∙ and_none (takes_from fold pieces text (q + 1) (j + 1)) (is_same fold (get_or text j 0) c) settled here f.1 f.2 (behind_is fold pieces text at (q + 1) j here settled less is_here fixed)
-    ∙ sym f.0
-
-pub stands_lowered : (fold : Bool) (pieces : List Piece) (text : List ℕ) (at q : ℕ) (table : List Bool) (band : Band) (d : Piece) (now : Bool)
-    → band.top ≡ q + 1 → at ≤ length text → IsFixedBefore (get_or pieces q d) band.settled (get_or table band.top false) (get_or table q false) now
-    → Stands fold pieces text at table band → Stands fold pieces text at table (record { low = band.low; top = q; settled = now })
-stands_lowered fold pieces text at q table band d now e within f s =
-    let w = s.within in
-    record {
-      within = omega arith;
-      told = λ k to. s.told k (omega arith);
-      none = s.none;
-      fixed = fixed_before fold pieces text at q d (get_or pieces q d) band.settled (get_or table band.top false) (get_or table q false) now (omega arith) within refl
-          (s.told band.top (omega arith) ∙ ap (λ k. takes_from fold pieces text k at) e) (s.told q (omega arith))
-          (λ j less. ap (λ k. takes_from fold pieces text k j) (sym e) ∙ s.fixed j less) f;
+          get_or-set_other table q k now false other ∙ r.told k (omega arith) most)
+          (first_or_later q k after);
     }

@@ -4,7 +4,7 @@ use Rattle.dnr_spec.specs.declared.piece.Piece.{Piece}
 use Rattle.dnr_spec.specs.declared.piece.Piece.TheVariants.{AnyBytes, AtMostOne, Byte}
 use Rattle.dnr_spec.specs.UrlFilter.{is_same}
 use Rattle.dnr_spec.specs.Wildcards.{takes}
-use Rattle.wildcard.specs.declared.places.Band.{Band}
+use Rattle.wildcard.specs.Words.{tells, AreNoted}
 use Rattle.wildcard.specs.declared.places.Row.{Row}
 
 -- from this place on the pieces take what the text has from this byte on
@@ -23,44 +23,34 @@ takes_nothing AnyBytes = true
 takes_nothing AtMostOne = true
 takes_nothing (Byte c) = false
 
--- the table tells of the places up to `top`
-pub record Stands (fold : Bool) (pieces : List Piece) (text : List ℕ) (at : ℕ) (table : List Bool) (band : Band) : Type 0 where
-  pub within : band.top ≤ length pieces
-  pub told : (k : ℕ) → k ≤ band.top → slice_index_or table k false ≡ takes_from fold pieces text k at
-  pub none : (k : ℕ) → k < band.low → takes_from fold pieces text k at ≡ false
-  pub fixed : (j : ℕ) → j < at → takes_from fold pieces text band.top j ≡ band.settled
+-- the table tells of each place what the pieces take from this byte on
+abbrev pub Stands : Bool → List Piece → List ℕ → ℕ → List Bool → Type 0
+Stands fold pieces text at table = (k : ℕ) → k ≤ length pieces → slice_index_or table k false ≡ takes_from fold pieces text k at
 
 -- the table tells of the places from this one on what they take at the end of a text
-pub record EndStands (pieces : List Piece) (table : List Bool) (place low : ℕ) (last : Bool) : Type 0 where
+pub record EndStands (pieces : List Piece) (table : List Bool) (place : ℕ) (last : Bool) : Type 0 where
   pub order : place ≤ length pieces
   pub now : (fold : Bool) → last ≡ takes fold (drop place pieces) []
   pub told : (fold : Bool) (k : ℕ) → place ≤ k → k ≤ length pieces → slice_index_or table k false ≡ takes fold (drop k pieces) []
-  pub none : (fold : Bool) (k : ℕ) → place ≤ k → k < low → takes fold (drop k pieces) [] ≡ false
 
--- a table that stands with one band stands with the other
-abbrev pub StaysStanding : List Piece → List Bool → Band → Band → Type 0
-StaysStanding pieces table band other =
-    (fold : Bool) (text : List ℕ) (at : ℕ) → at ≤ length text → Stands fold pieces text at table band → Stands fold pieces text at table other
+-- the word tells from which bytes of a part of the text on, up to its end, the pieces take it from this place on
+abbrev pub WordTells : Bool → List Piece → List ℕ → ℕ → ℕ → ℕ → ℕ → Type 0
+WordTells fold pieces text from to place word = (i j : ℕ) → (i + j) + 1 ≡ to → from ≤ j → tells word i ≡ takes_from fold pieces text place j
 
--- the table tells of the places from `row.place` up to `top` with the byte, and of those before it without
-pub record RowStands (fold : Bool) (pieces : List Piece) (text : List ℕ) (at top : ℕ) (table : List Bool) (row : Row) : Type 0 where
-  pub order : (row.place ≤ row.band.top) × (row.band.top ≤ top) × (top ≤ length pieces)
-  pub was : row.was ≡ takes_from fold pieces text row.place (at + 1)
-  pub now : row.now ≡ takes_from fold pieces text row.place at
-  pub before : (k : ℕ) → k < row.place → slice_index_or table k false ≡ takes_from fold pieces text k (at + 1)
-  pub told : (k : ℕ) → row.place ≤ k → k ≤ top → slice_index_or table k false ≡ takes_from fold pieces text k at
-  pub none : (k : ℕ) → row.place ≤ k → k < row.band.low → takes_from fold pieces text k at ≡ false
-  pub fixed : (j : ℕ) → j < at → takes_from fold pieces text row.band.top j ≡ row.band.settled
+-- so it does of the place of this piece, if the other word does of the next, and `old` and `was` are told of the two
+-- places with nothing of that part
+abbrev pub TellsBefore : Bool → List ℕ → Piece → Bool → Bool → ℕ → ℕ → Type 0
+TellsBefore fold words piece old was word result =
+    (pieces : List Piece) (text : List ℕ) (from to count place : ℕ) (default : Piece)
+    → place < length pieces → slice_index_or pieces place default ≡ piece
+    → to ≤ length text → count + from ≡ to → count ≤ 64 → AreNoted fold text to count words
+    → old ≡ takes_from fold pieces text place to → was ≡ takes_from fold pieces text (place + 1) to
+    → WordTells fold pieces text from to (place + 1) word → WordTells fold pieces text from to place result
 
--- the band with a place before all of it, whose piece is this
-abbrev pub band_with : Band → ℕ → Piece → Bool → Band
-band_with band place piece false = band
-band_with band place AnyBytes true = record { low = place; top = place; settled = true }
-band_with band place AtMostOne true = record band { low = place }
-band_with band place (Byte c) true = record band { low = place }
-
--- from a place before one that is `settled`, the pieces take every longer rest, or none
-abbrev pub IsFixedBefore : Piece → Bool → Bool → Bool → Bool → Type 0
-IsFixedBefore AnyBytes settled here before now = now ≡ (settled || before)
-IsFixedBefore AtMostOne settled here before now = (now ≡ settled) × (here ≡ true → settled ≡ true)
-IsFixedBefore (Byte c) settled here before now = (now ≡ false) × (settled ≡ false) × (here ≡ false)
+-- the table tells of the places from `row.place` on with this part of the text, and of those before it without
+pub record RowStands (fold : Bool) (pieces : List Piece) (text : List ℕ) (from to : ℕ) (table : List Bool) (row : Row) : Type 0 where
+  pub order : row.place ≤ length pieces
+  pub was : row.was ≡ takes_from fold pieces text row.place to
+  pub word : WordTells fold pieces text from to row.place row.word
+  pub before : (k : ℕ) → k < row.place → slice_index_or table k false ≡ takes_from fold pieces text k to
+  pub told : (k : ℕ) → row.place ≤ k → k ≤ length pieces → slice_index_or table k false ≡ takes_from fold pieces text k from

@@ -3,10 +3,12 @@
 //! What the pieces of a pattern take stands in `dnr_spec`, `specs/Wildcards.antt`.
 #![tactic(auto)]
 
+mod noted;
 mod places;
 #[cfg(test)]
 mod tests;
 mod walk;
+mod words;
 
 pub use dnr_spec::Piece;
 pub use walk::fits;

@@ -1,7 +1,7 @@
 ghost use Rattle.std.specs.Prelude.{◌≡◌, ◌<◌, ◌≤◌, length};
 ghost use Rattle.dnr_spec.specs.Wildcards.{takes};
 
-use crate::places::{begin, lowered, step};
+use crate::places::{begin, step};
 use dnr_spec::Piece;
 
 // The places of the longest pattern: 8,192 pieces, and its end.
@@ -10,11 +10,13 @@ const PLACES: usize = 8193;
 // A pattern of fewer pieces has a table of this many places, which is made in less time.
 const FEW: usize = 64;
 
+// A word has an answer for each of so many bytes.
+const PART: usize = 64;
+
 /// Whether the pieces in turn take the whole text; `fold` where the case of ASCII letters does not matter.
 ///
-/// It takes no memory but a table on the stack, a byte for each of 8,193 places in the pattern. At worst it
-/// takes about as many steps as the text's length times the count of pieces. Behind a `*` that is met there is
-/// nothing left to do, so a pattern with a `*` every few bytes takes few steps for each byte of the text.
+/// It takes no memory but a table on the stack, a byte for each of 8,193 places in the pattern. For each 64 bytes
+/// of the text it takes a few steps for each piece, whatever these are.
 pub fn fits(pieces: &[Piece], text: &[u8], fold: bool) -> bool
     requires { length pieces.now ≤ 8192 }
     ensures { result ≡ takes fold pieces.now text.now }
@@ -28,20 +30,17 @@ pub fn fits(pieces: &[Piece], text: &[u8], fold: bool) -> bool
     }
 }
 
-// Walks the text from its end to its beginning.
+// Walks the text from its end to its beginning, a part at a time.
 fn fits_by(table: &mut [bool], pieces: &[Piece], text: &[u8], fold: bool) -> bool
     requires { length pieces.now < length table.old }
     ensures { result ≡ takes fold pieces.now text.now }
 {
-    let mut band = begin(table, pieces);
+    begin(table, pieces);
     let mut left = text.len();
     while left > 0 {
-        band = lowered(band, table, pieces);
-        if band.top == 0 {
-            return band.settled;
-        }
-        left -= 1;
-        band = step(table, band, pieces, fold, text, left);
+        let from = left.saturating_sub(PART);
+        step(table, pieces, fold, text, from, left);
+        left = from;
     }
     table[0]
 }

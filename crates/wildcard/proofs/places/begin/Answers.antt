@@ -1,4 +1,4 @@
-use Rattle.std.proofs.Common.{◌≡◌, ◌+◌, ◌-◌, ◌<◌, length, arith, inr, refl, length-set}
+use Rattle.std.proofs.Common.{◌≡◌, ◌+◌, ◌-◌, ◌<◌, length, arith, length-set}
 use Rattle.wildcard.proofs.Ends.{end_begins, end_more, end_stands}
 use Rattle.wildcard.proofs.places.begin.Goals as goal
 
@@ -10,8 +10,8 @@ loop-place-preserved c =
     let more : c.loop-place.place ≡ (c.loop-place.place - 1) + 1 = omega arith in
     let kept = simp length-set at c.loop-place.auto.table in
     let room : length c.args.pieces.now < length c.loop-place.table = omega arith in
-    end_more c.args.pieces.now c.loop-place.table c.loop-place.place (c.loop-place.place - 1) c.loop-place.low _ c.loop-place.now c.take_nothing-now.result _
-    more room c.take_nothing-now.ensures (inr (c.if-now.false, refl)) c.loop-place.invariant
+    end_more c.args.pieces.now c.loop-place.table c.loop-place.place (c.loop-place.place - 1) c.loop-place.now c.take_nothing-now.result _
+    more room c.take_nothing-now.ensures c.loop-place.invariant
 
 pub returns : goal.returns
-returns c fold text = end_stands c.args.pieces.now c.loop-place.table c.loop-place.place c.loop-place.low c.loop-place.now fold text (omega arith) c.loop-place.invariant
+returns c fold text = end_stands c.args.pieces.now c.loop-place.table c.loop-place.place c.loop-place.now fold text (omega arith) c.loop-place.invariant

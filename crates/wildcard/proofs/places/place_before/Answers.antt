@@ -3,7 +3,7 @@ use Rattle.wildcard.proofs.Rows.{row_more}
 use Rattle.wildcard.proofs.places.place_before.Goals as goal
 
 pub returns-clause-stands : goal.returns-clause-stands
-returns-clause-stands c text at top byte is_byte stands =
+returns-clause-stands c text from to within part noted stands =
     let more : c.args.row.place ≡ (c.args.row.place - 1) + 1 = omega arith in
-    row_more c.args.fold c.args.pieces.now text at top c.args.table.now c.args.row c.args.byte (c.args.row.place - 1) _ c.takes_here-now.result c.band_with.result
-    more c.requires.room byte is_byte c.takes_here-now.ensures c.band_with.ensures stands
+    row_more c.args.fold c.args.pieces.now text from to c.args.first c.args.table.now c.args.words.now c.args.row (c.args.row.place - 1) _ c.word_before-word.result c.told.result
+    more c.requires.room within part c.requires.few noted c.word_before-word.ensures c.told.ensures stands

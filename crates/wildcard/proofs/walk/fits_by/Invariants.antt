@@ -5,7 +5,7 @@ use Rattle.wildcard.proofs.walk.fits_by.Given as goal
 abbrev pub invariant-loop-left : goal.invariant-loop-left
 invariant-loop-left l = record {
   within : l.left ≤ length l.text;
-  stands : Stands l.fold l.pieces l.text l.left l.table l.band;
+  stands : Stands l.fold l.pieces l.text l.left l.table;
 }
 
 abbrev pub decreases-loop-left : goal.decreases-loop-left
