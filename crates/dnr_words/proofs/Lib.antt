@@ -2,3 +2,4 @@ pub mod Splitting
 pub mod ServeOptions
 pub mod Pairs
 pub mod Numerals
+pub mod Samples

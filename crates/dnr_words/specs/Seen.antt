@@ -7,11 +7,10 @@ use Rattle.dnr_words.specs.declared.options.Installed.{Installed}
 use Rattle.dnr_words.specs.declared.options.Installed.TheVariants as what
 use Rattle.dnr_words.specs.declared.options.Choice.{Choice}
 use Rattle.dnr_words.specs.declared.options.Choice.TheVariants.{Workers, Suffixes, Install}
-use Rattle.dnr_words.specs.declared.sample.Sample.{Sample}
 use Rattle.dnr_words.specs.declared.serving.Once.{Once}
 use Rattle.dnr_words.specs.declared.serving.Chosen.{Chosen}
 use Rattle.dnr_words.specs.declared.task.Task.{Task}
-use Rattle.dnr_words.specs.declared.task.Task.TheVariants.{Match, Check, Compile, Serve}
+use Rattle.dnr_words.specs.declared.task.Task.TheVariants.{Match, Check, Compile, Serve, Sample}
 
 abbrev pub installed_seen : Installed → spec.Installed
 installed_seen (what.Folder name) = spec.folder name.now
@@ -28,11 +27,9 @@ once_seen once = (once.workers, option_copied once.suffixes)
 abbrev pub chosen_seen : Chosen → reading.Chosen
 chosen_seen c = record { workers = c.once.workers; suffixes = option_copied c.once.suffixes; script = c.script.now }
 
-abbrev pub sample_seen : Sample → spec.Sample
-sample_seen s = record { seed = s.seed; rules = s.rules; requests = s.requests; updates = s.updates }
-
 abbrev pub task_seen : Task → spec.Task
 task_seen (Match rules script) = spec.match_files rules.now script.now
 task_seen (Check kind rules) = spec.check_file kind rules.now
 task_seen (Compile list) = spec.compile_file list.now
 task_seen (Serve serving) = spec.serve_script serving
+task_seen (Sample sample) = spec.make_sample sample

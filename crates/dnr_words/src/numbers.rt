@@ -21,6 +21,7 @@ pub(crate) fn number_up_to(most: u64, word: &str) -> Option<u64>
 // The same of a small number.
 pub(crate) fn small_number_up_to(most: u32, word: &str) -> Option<u32>
     ensures value { result ≡ spec.number_up_to most word.now }
+    ensures bound { IfSome result (λ number. number ≤ most) }
 {
     let number = number_up_to(u64::from(most), word)?;
     Some(number as u32)

@@ -4,6 +4,7 @@ ghost use Rattle.session_spec.specs.Words as spec;
 ghost use Rattle.dnr_words.specs.Seen.{task_seen};
 
 use crate::names::{is_file_name, kind_named};
+use crate::sample::{Sample, read_sample};
 use crate::serving::{Serving, serving_in};
 use rule_spec::RuleKind;
 
@@ -18,6 +19,8 @@ pub enum Task<'a> {
     Compile(&'a str),
     /// `serve [--workers N] [--psl F] [--ext NAME].. [--list NAME=F].. SCRIPT`: a session.
     Serve(Serving<'a>),
+    /// `sample SEED RULES REQUESTS UPDATES`: a session that is made from a number.
+    Sample(Sample),
 }
 
 /// The command that the words after the program's name say, if they say one. It takes no memory.
@@ -30,6 +33,7 @@ pub fn read_words(words: &[String]) -> Option<Task<'_>>
         "check" => check_in(words),
         "compile" => compile_in(words),
         "serve" => serving_in(words).map(Task::Serve),
+        "sample" => sample_in(words),
         _ => None,
     }
 }
@@ -73,4 +77,10 @@ fn compile_in(words: &[String]) -> Option<Task<'_>>
     } else {
         None
     }
+}
+
+fn sample_in(words: &[String]) -> Option<Task<'_>>
+    ensures { option_map task_seen result ≡ spec.make_sample_of (map string_bytes words.now) }
+{
+    Some(Task::Sample(read_sample(words)?))
 }

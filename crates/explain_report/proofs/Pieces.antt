@@ -44,3 +44,15 @@ line_of_five r old now t0 t1 t2 t3 t4 t5 a b c d e p0 p1 p2 p3 p4 p5 appended =
     let tail : t5 ≡ t2 ++ (c ++ (d ++ e)) =
     p5 ∙ ap (λ t. t ++ e) p4 ∙ append_assoc t3 d e ∙ ap (λ t. t ++ (d ++ e)) p3 ∙ append_assoc t2 c (d ++ e) in
     line_of_three r old now t0 t1 t2 t5 a b (c ++ (d ++ e)) p0 p1 p2 tail appended
+
+pub line_of_eight : {U E : Type 0} (r : Result U E) (old now t0 t1 t2 t3 t4 t5 t6 t7 t8 a b c d e f g h : List ℕ)
+    → t0 ≡ [] → t1 ≡ t0 ++ a → t2 ≡ t1 ++ b → t3 ≡ t2 ++ c → t4 ≡ t3 ++ d → t5 ≡ t4 ++ e → t6 ≡ t5 ++ f → t7 ≡ t6 ++ g → t8 ≡ t7 ++ h
+    → OnOk r (now ≡ old ++ t8) → OnOk r (now ≡ old ++ (a ++ (b ++ (c ++ (d ++ (e ++ (f ++ (g ++ h))))))))
+line_of_eight r old now t0 t1 t2 t3 t4 t5 t6 t7 t8 a b c d e f g h p0 p1 p2 p3 p4 p5 p6 p7 p8 appended =
+    let last : t8 ≡ t5 ++ (f ++ (g ++ h)) =
+    p8 ∙ ap (λ t. t ++ h) p7 ∙ append_assoc t6 g h ∙ ap (λ t. t ++ (g ++ h)) p6 ∙ append_assoc t5 f (g ++ h) in
+    let tail : t8 ≡ t3 ++ (d ++ (e ++ (f ++ (g ++ h)))) =
+    last ∙ ap (λ t. t ++ (f ++ (g ++ h))) p5 ∙ append_assoc t4 e (f ++ (g ++ h)) ∙ ap (λ t. t ++ (e ++ (f ++ (g ++ h)))) p4 ∙ append_assoc t3 d (e ++ (f ++ (g ++ h))) in
+    let rest : t8 ≡ t2 ++ (c ++ (d ++ (e ++ (f ++ (g ++ h))))) =
+    tail ∙ ap (λ t. t ++ (d ++ (e ++ (f ++ (g ++ h))))) p3 ∙ append_assoc t2 c (d ++ (e ++ (f ++ (g ++ h)))) in
+    line_of_three r old now t0 t1 t2 t8 a b (c ++ (d ++ (e ++ (f ++ (g ++ h))))) p0 p1 p2 rest appended

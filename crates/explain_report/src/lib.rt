@@ -12,6 +12,7 @@ mod names;
 mod reply;
 mod report;
 mod rules;
+mod summary;
 mod text;
 mod updates;
 mod verdict;
@@ -26,7 +27,8 @@ pub use files::{
 };
 pub use reply::write_reply;
 pub use report::{write_count, write_unsupported};
-pub use session_spec::Reply;
+pub use session_spec::{Reply, Tally};
+pub use summary::write_summary;
 pub use text::quoted_text;
 pub use updates::write_install_refusal;
 pub use verdict::{write_fault, write_verdict};

@@ -6,6 +6,8 @@ pub mod Said
 pub mod Rounds
 pub mod Answers
 pub mod InTurn
+pub mod Sample
+pub mod SampleExamples
 pub mod Loading
 pub mod Out
 pub mod Examples

@@ -21,7 +21,8 @@ use Rattle.session_spec.specs.Refusals.{install_line, count_line, unsupported_li
 use Rattle.session_spec.specs.Answers.{Setting, Serves}
 use Rattle.session_spec.specs.Loading.{PrintsRefusedRules, HoldsList, PrintsRefusedList, Loaded, Loads, RefusesFile, HasLongFileIn}
 use Rattle.session_spec.specs.Rounds.{rounds_of, whole_rounds_of, short_lines, ended_lines}
-use Rattle.session_spec.specs.Words.{Serving, Task, match_files, check_file, compile_file, serve_script, task_of}
+use Rattle.session_spec.specs.Sample.{IsSampled}
+use Rattle.session_spec.specs.Words.{Serving, Task, match_files, check_file, compile_file, serve_script, make_sample, task_of}
 
 -- What came from outside in a call: how often each thing had failed before it and after it, and what the file that is
 -- read from first to last has left. The first pattern host reads files and lines, and each other decides requests.
@@ -225,6 +226,7 @@ conduct_of files outside (check_file kind name) =
 conduct_of files outside (compile_file name) =
     at_once (IsCompiled files name) (PrintsRefusedList files (HostRose outside 0) name) (HoldsLongFile files name)
 conduct_of files outside (serve_script serving) = in_rounds files outside (of_words serving) serving.script
+conduct_of files outside (make_sample sample) = at_once (IsSampled sample) (λ written. ⊥) ⊥
 
 -- some first bytes of what may be written
 pub record IsBeginning (May : List ℕ → Type 0) (written : List ℕ) : Type 0 where
@@ -258,6 +260,7 @@ hosts_of_task (match_files rules script) = 2
 hosts_of_task (check_file kind name) = 2
 hosts_of_task (compile_file name) = 2
 hosts_of_task (serve_script serving) = serving.workers + 1
+hosts_of_task (make_sample sample) = 2
 
 abbrev pub hosts_needed : Option Task → ℕ
 hosts_needed None = 2

@@ -19,13 +19,21 @@ pub record Serving : Type 0 where
   pub installed : List Installed
   pub script : List ℕ
 
--- `match RULES REQUESTS`, `check KIND RULES`, `compile LIST`, and
--- `serve [--workers N] [--psl F] [--ext NAME].. [--list NAME=F].. SCRIPT`
+-- a session that is made from a number: the seed, and how many rules, requests and updates it has
+pub record Sample : Type 0 where
+  pub seed : ℕ
+  pub rules : ℕ
+  pub requests : ℕ
+  pub updates : ℕ
+
+-- `match RULES REQUESTS`, `check KIND RULES`, `compile LIST`,
+-- `serve [--workers N] [--psl F] [--ext NAME].. [--list NAME=F].. SCRIPT`, and `sample SEED RULES REQUESTS UPDATES`
 pub data Task : Type 0 where
   match_files : List ℕ → List ℕ → Task
   check_file : RuleKind → List ℕ → Task
   compile_file : List ℕ → Task
   serve_script : Serving → Task
+  make_sample : Sample → Task
 
 -- ---- names
 
@@ -160,13 +168,6 @@ serve_of words = option_and_then serving_of (choices_of words)
 
 -- ---- `sample`
 
--- a session that is made from a number: the seed, and how many rules, requests and updates it has
-pub record Sample : Type 0 where
-  pub seed : ℕ
-  pub rules : ℕ
-  pub requests : ℕ
-  pub updates : ℕ
-
 -- each number up to its limit
 abbrev pub sample_of : List (List ℕ) → Option Sample
 sample_of (seed ∷ rules ∷ requests ∷ updates ∷ []) =
@@ -175,6 +176,9 @@ sample_of (seed ∷ rules ∷ requests ∷ updates ∷ []) =
     (number_up_to 1000 updates)) (number_up_to 100000 requests)) (number_up_to 30000 rules)) (number_up_to (2 ^ 64 - 1) seed)
 sample_of _ = None
 
+abbrev pub make_sample_of : List (List ℕ) → Option Task
+make_sample_of words = option_map make_sample (sample_of words)
+
 -- ---- commands
 
 abbrev pub command_of : List ℕ → List (List ℕ) → Option Task
@@ -182,7 +186,8 @@ command_of command words =
     if bytes_eq command (codes "match") then match_of words
     else (if bytes_eq command (codes "check") then check_of words
     else (if bytes_eq command (codes "compile") then compile_of words
-    else (if bytes_eq command (codes "serve") then serve_of words else None)))
+    else (if bytes_eq command (codes "serve") then serve_of words
+    else (if bytes_eq command (codes "sample") then make_sample_of words else None))))
 
 abbrev pub task_of : List (List ℕ) → Option Task
 task_of [] = None

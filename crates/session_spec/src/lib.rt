@@ -5,6 +5,8 @@
 mod examples;
 mod line_examples;
 mod reply;
+mod sample_examples;
+mod tally;
 
 pub use examples::{
     allow_prevails_at_equal_priority, blank_lines_count, broken_lines_are_bad, check_takes_a_kind,
@@ -23,3 +25,8 @@ pub use line_examples::{
     samples_have_limits, workers_are_few,
 };
 pub use reply::Reply;
+pub use sample_examples::{
+    requests_are_dealt_out, sample_takes_four_numbers, samples_are_summed_up,
+    words_are_those_of_pcg,
+};
+pub use tally::Tally;
