@@ -94,13 +94,18 @@ fn disables(alloc: Global, ids: &[i128]) -> Option<Update> {
     })
 }
 
-// Removes the dynamic rules 1 and 7, and adds rule 1.
-fn replaces(alloc: Global) -> Option<Update> {
+// Removes dynamic rules by their ids, and adds others.
+fn replacing(alloc: Global, remove: &[u32], add: Vec<Rule>) -> Option<Update> {
     Some(Update::Dynamic {
         extension: text(alloc, "a")?,
-        remove: Items::build(vec![in alloc; 1, 7].ok()?),
-        add: IndexedRules::of(alloc, vec![in alloc; block(1)].ok()?).ok()?,
+        remove: Items::build(Vec::from_slice(alloc, remove).ok()?),
+        add: IndexedRules::of(alloc, add).ok()?,
     })
+}
+
+// Removes the dynamic rules 1 and 7, and adds rule 1.
+fn replaces(alloc: Global) -> Option<Update> {
+    replacing(alloc, &[1, 7], vec![in alloc; block(1)].ok()?)
 }
 
 // Adds the session rule 1.
@@ -187,6 +192,41 @@ fn a_batch_counts_once_or_names_its_update(rt: HostRuntime) -> Result<(), Fail> 
     let batch = vec![in alloc; first, second]?;
     let refusal = store.apply_batch(alloc, &batch).err().ok_or("accepted")?;
     assert_eq!(rt; refusal.place, 1);
+    Ok(())
+}
+
+// How many rules stand in each segment, and how many ids are removed from it.
+fn segments_of(alloc: Global, store: &Store) -> Option<Vec<(usize, usize)>> {
+    let mut sizes = Vec::new(alloc);
+    for segment in store.extensions().first()?.dynamic().segments() {
+        let removed = segment.removed().ids().len();
+        sizes.push((segment.rules().len(), removed)).ok()?;
+    }
+    Some(sizes)
+}
+
+#[test]
+fn dynamic_rules_stand_in_segments(rt: HostRuntime) -> Result<(), Fail> {
+    let alloc = rt.alloc();
+    let mut store = shop(alloc).ok_or("refused")?;
+    let four = vec![in alloc; block(1), block(2), block(3), block(4)]?;
+    let steps = [
+        (replacing(alloc, &[], four), (4, 0), 1),
+        (
+            replacing(alloc, &[2, 9, 2], vec![in alloc; block(5)]?),
+            (4, 1),
+            2,
+        ),
+        (replacing(alloc, &[5], vec![in alloc; block(2)]?), (4, 1), 2),
+        (replacing(alloc, &[1, 2, 3], Vec::new(alloc)), (1, 0), 1),
+    ];
+    for (update, oldest, count) in steps {
+        let update = update.ok_or("memory")?;
+        store = store.apply(alloc, &update).ok().ok_or("refused")?;
+        let segments = segments_of(alloc, &store).ok_or("memory")?;
+        assert_eq!(rt; segments.first().copied(), Some(oldest));
+        assert_eq!(rt; segments.len(), count);
+    }
     Ok(())
 }
 
