@@ -16,3 +16,4 @@ pub mod Ids
 pub mod WholeLines
 pub mod BatchIn
 pub mod Alike
+pub mod Apart

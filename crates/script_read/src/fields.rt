@@ -8,6 +8,7 @@ ghost use Rattle.line_spec.specs.IsFault.{IsFaultOf};
 ghost use Rattle.line_spec.specs.RequestLine as spec;
 ghost use Rattle.script_read.specs.Fields.{line_keys, place_of, value_at, url_from, kind_from, method_from, tab_from};
 
+use crate::memo::{Asker, asking_again};
 use dnr_base::{Kind, Method, Text, View};
 use dnr_spec::ViewRefusal;
 use json_fields::{Field, Held};
@@ -125,6 +126,7 @@ fn kind_named(name: &str) -> Result<Kind, LineFault>
 // The host of who asks.
 pub(crate) fn initiator_in(
     alloc: Global,
+    asker: &mut Option<Asker>,
     initiator: &Field<'_, '_>,
 ) -> Result<Option<Text>, LineFault>
     ensures read { IfOk result (λ host.
@@ -134,7 +136,7 @@ pub(crate) fn initiator_in(
 {
     match &initiator.held {
         None | Some(Held::Null) => Ok(None),
-        Some(Held::Text(text)) => asking_host(alloc, CommandPath::Initiator, text),
+        Some(Held::Text(text)) => asking_again(alloc, asker, text),
         Some(_) => Err(LineFault::BadCommand(CommandPath::Initiator)),
     }
 }

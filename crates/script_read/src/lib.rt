@@ -9,6 +9,7 @@ mod command;
 mod fields;
 mod frames;
 mod headers;
+mod memo;
 mod new_sets;
 mod reading;
 mod rules;
@@ -19,4 +20,5 @@ mod updates;
 
 pub use command::Command;
 pub use line_spec::{CommandPath, LineFault, UpdateField};
+pub use memo::Memo;
 pub use reading::{is_blank, read_line, read_line_with};

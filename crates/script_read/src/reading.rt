@@ -16,11 +16,12 @@ ghost use Rattle.script_read.specs.Seen.{command_seen};
 
 use crate::Command;
 use crate::batch::batch_in;
-use crate::chosen::read_chosen;
+use crate::chosen::{read_batch, read_update};
 use crate::fields::{field_at, initiator_in, kind_in, line_fields, method_in, tab_in, url_in};
 use crate::frames::frames_in;
 use crate::headers::headers_in;
-use crate::updates::update_in;
+use crate::memo::{Asker, Memo};
+use crate::updates::update_of_line;
 use dnr_base::Request;
 use json::Scratch;
 use json_fields::{Fault, Field, Form, Held, read_fields};
@@ -58,17 +59,17 @@ pub fn read_line<H: RegexHost>(
     ensures calm { IsCalm (H.faults host.old) (H.faults host.new) result }
     ensures later { H.faults host.old ≤ H.faults host.new }
 {
-    let mut scratch = Scratch::new(alloc);
-    read_line_with(alloc, line, bytes, &mut scratch, host)
+    let mut memo = Memo::new(alloc);
+    read_line_with(alloc, line, bytes, &mut memo, host)
 }
 
-/// The same with the memory that the reader of JSON needs, which may be kept from one line to the next.
+/// The same with what was kept of the lines before, of the same script or of another.
 #[tactic(auto, unfolding(line_spec::specs::Line::command_of))]
 pub fn read_line_with<H: RegexHost>(
     alloc: Global,
     line: u32,
     bytes: &[u8],
-    scratch: &mut Scratch,
+    memo: &mut Memo,
     host: &mut H,
 ) -> Result<Command, LineFault>
     ensures read { IfOk result (λ command. spec.command_of line bytes.now ≡ Ok (command_seen command)) }
@@ -81,12 +82,11 @@ pub fn read_line_with<H: RegexHost>(
     if is_blank(bytes) {
         return Ok(Command::Blank);
     }
-    let mut fields = line_fields();
-    let asked = match asked_by(alloc, line, bytes, scratch, &mut fields) {
+    let asked = match asked_of(alloc, line, bytes, memo) {
         Ok(asked) => asked,
         Err(fault) => return Err(fault),
     };
-    command_of(alloc, line, bytes, asked, host)
+    command_of(alloc, line, bytes, asked, &mut memo.scratch, host)
 }
 
 // The command of a line that is not blank and asks for this.
@@ -95,6 +95,7 @@ fn command_of<H: RegexHost>(
     line: u32,
     bytes: &[u8],
     asked: Asked,
+    scratch: &mut Scratch,
     host: &mut H,
 ) -> Result<Command, LineFault>
     requires { IsAsked line (tree_of bytes.now) asked }
@@ -107,8 +108,8 @@ fn command_of<H: RegexHost>(
 {
     match asked {
         Asked::Command(command) => Ok(command),
-        Asked::Update(name) => update_of(alloc, line, bytes, name, host),
-        Asked::Batch => batch_of(alloc, line, bytes, host),
+        Asked::Update(name) => update_of(alloc, line, bytes, name, scratch, host),
+        Asked::Batch => batch_of(alloc, line, bytes, scratch, host),
     }
 }
 
@@ -130,12 +131,29 @@ pub(crate) enum Asked {
     Batch,
 }
 
-// What a line that is not blank asks for, of which nothing was read yet.
+// What a line that is not blank asks for.
+fn asked_of(alloc: Global, line: u32, bytes: &[u8], memo: &mut Memo) -> Result<Asked, LineFault>
+    ensures read { IfOk result (IsAsked line (tree_of bytes.now)) }
+    ensures refused { IfErr result (IsFaultOf (spec.command_of_tree line (tree_of bytes.now))) }
+{
+    let mut fields = line_fields();
+    asked_by(
+        alloc,
+        line,
+        bytes,
+        &mut memo.scratch,
+        &mut memo.asker,
+        &mut fields,
+    )
+}
+
+// The same by these fields, of which nothing was read yet.
 fn asked_by<'a>(
     alloc: Global,
     line: u32,
     bytes: &'a [u8],
     scratch: &'a mut Scratch,
+    asker: &mut Option<Asker>,
     fields: &mut [Field<'static, 'a>],
 ) -> Result<Asked, LineFault>
     requires keys { map key_of fields.old ≡ line_keys }
@@ -145,24 +163,29 @@ fn asked_by<'a>(
     ensures refused { IfErr result (IsFaultOf (spec.command_of_tree line (tree_of bytes.now))) }
 {
     match read_fields(alloc, bytes, scratch, fields) {
-        Ok(Form::Object) => asked_in(alloc, line, fields),
+        Ok(Form::Object) => asked_in(alloc, line, asker, fields),
         Ok(Form::Other) => Err(LineFault::BadCommand(CommandPath::Cmd)),
         Err(Fault::BadJson) => Err(LineFault::BadJson),
         Err(Fault::NoMemory) => Err(LineFault::NoMemory),
     }
 }
 
-fn asked_in(alloc: Global, line: u32, fields: &[Field<'static, '_>]) -> Result<Asked, LineFault>
+fn asked_in(
+    alloc: Global,
+    line: u32,
+    asker: &mut Option<Asker>,
+    fields: &[Field<'static, '_>],
+) -> Result<Asked, LineFault>
     requires { length fields.now ≡ 9 }
     ensures read { IfOk result (Reads line fields.now) }
     ensures refused { IfErr result (IsFaultFrom line fields.now) }
 {
     match name_in(field_at(fields, CommandPath::Cmd)) {
-        Some(CommandName::Request) => match request_in(alloc, line, fields) {
+        Some(CommandName::Request) => match request_in(alloc, line, asker, fields) {
             Ok(request) => Ok(Asked::Command(Command::Request(request))),
             Err(fault) => Err(fault),
         },
-        Some(CommandName::Explain) => match request_in(alloc, line, fields) {
+        Some(CommandName::Explain) => match request_in(alloc, line, asker, fields) {
             Ok(request) => Ok(Asked::Command(Command::Explain(request))),
             Err(fault) => Err(fault),
         },
@@ -186,7 +209,12 @@ fn name_in(cmd: &Field<'_, '_>) -> Option<CommandName>
 
 // The request, whose fields are tested in the order in which they stand here.
 #[tactic(auto, using(crate::proofs::Stops::stops_there), unfolding(crate::specs::Fields::request_from))]
-fn request_in(alloc: Global, line: u32, fields: &[Field<'static, '_>]) -> Result<Request, LineFault>
+fn request_in(
+    alloc: Global,
+    line: u32,
+    asker: &mut Option<Asker>,
+    fields: &[Field<'static, '_>],
+) -> Result<Request, LineFault>
     requires { length fields.now ≡ 9 }
     ensures read { IfOk result (λ request. request_from line fields.now ≡ Ok request) }
     ensures within_limits { IfOk result IsRequest }
@@ -194,7 +222,7 @@ fn request_in(alloc: Global, line: u32, fields: &[Field<'static, '_>]) -> Result
 {
     let view = url_in(alloc, field_at(fields, CommandPath::Url))?;
     let kind = kind_in(field_at(fields, CommandPath::Kind))?;
-    let initiator = initiator_in(alloc, field_at(fields, CommandPath::Initiator))?;
+    let initiator = initiator_in(alloc, asker, field_at(fields, CommandPath::Initiator))?;
     let method = method_in(field_at(fields, CommandPath::Method))?;
     let tab = tab_in(field_at(fields, CommandPath::Tab))?;
     let frames = frames_in(alloc, field_at(fields, CommandPath::Frames))?;
@@ -227,6 +255,7 @@ fn update_of<H: RegexHost>(
     line: u32,
     bytes: &[u8],
     name: UpdateName,
+    scratch: &mut Scratch,
     host: &mut H,
 ) -> Result<Command, LineFault>
     requires { Asks (tree_of bytes.now) (CommandName.Update name) }
@@ -237,12 +266,12 @@ fn update_of<H: RegexHost>(
     ensures calm { IsCalm (H.faults host.old) (H.faults host.new) result }
     ensures later { H.faults host.old ≤ H.faults host.new }
 {
-    let tree = match read_chosen(alloc, bytes) {
-        Ok(tree) => tree,
+    let kept = match read_update(alloc, bytes, scratch) {
+        Ok(kept) => kept,
         Err(Fault::BadJson) => return Err(LineFault::BadJson),
         Err(Fault::NoMemory) => return Err(LineFault::NoMemory),
     };
-    match update_in(alloc, name, &tree, host) {
+    match update_of_line(alloc, name, &kept, bytes, scratch, host) {
         Ok(update) => Ok(Command::Update(update)),
         Err(fault) => Err(fault_of(fault)),
     }
@@ -264,6 +293,7 @@ fn batch_of<H: RegexHost>(
     alloc: Global,
     line: u32,
     bytes: &[u8],
+    scratch: &mut Scratch,
     host: &mut H,
 ) -> Result<Command, LineFault>
     requires { Asks (tree_of bytes.now) CommandName.Batch }
@@ -274,7 +304,7 @@ fn batch_of<H: RegexHost>(
     ensures calm { IsCalm (H.faults host.old) (H.faults host.new) result }
     ensures later { H.faults host.old ≤ H.faults host.new }
 {
-    let tree = match read_chosen(alloc, bytes) {
+    let tree = match read_batch(alloc, bytes, scratch) {
         Ok(tree) => tree,
         Err(Fault::BadJson) => return Err(LineFault::BadJson),
         Err(Fault::NoMemory) => return Err(LineFault::NoMemory),

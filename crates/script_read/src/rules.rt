@@ -1,16 +1,23 @@
 // The rules that an update brings.
 ghost use Rattle.std.specs.Prelude.{◌≡◌, ◌≤◌, Ok, IfOk, IfErr, OnOk};
+ghost use Rattle.serde_json.specs.Data.{Data};
 ghost use Rattle.serde_json.specs.Find.{as_array};
 ghost use Rattle.serde_json.specs.View.{view};
 ghost use Rattle.dnr_base.specs.Faults.{Rose};
+ghost use Rattle.json_spec.specs.Json.{tree_of};
 ghost use Rattle.json_spec.specs.RulesFile.{StopsInList, StopsInTree};
 ghost use Rattle.line_spec.specs.Updates as spec;
+ghost use Rattle.rules_file.specs.Listed.{IsObject};
+ghost use Rattle.script_read.specs.Apart.{added_at, add_from};
 ghost use Rattle.script_read.specs.Faults.{MayRefuse, IsQuiet, fault_of};
 
 use dnr_rules::{PlacedRefusal, Rule, RuleKind, RuleRefusal};
+use json::Scratch;
+use json_fields::Fault;
 use line_spec::{UpdateFault, UpdateField};
 use regex_host::RegexHost;
 use rule_read::read_rules;
+use rules_file::{Listed, read_listed};
 use serde_json::Value;
 use std::alloc::Global;
 
@@ -33,6 +40,40 @@ pub(crate) fn add_in<H: RegexHost>(
     match tree.get(UpdateField::AddRules.name()) {
         None => Ok(Vec::new(alloc)),
         Some(list) => rules_of_list(alloc, UpdateField::AddRules, kind, list, host),
+    }
+}
+
+// The rules to add of a line, read of its text one after another.
+pub(crate) fn add_of<H: RegexHost>(
+    alloc: Global,
+    kind: RuleKind,
+    bytes: &[u8],
+    scratch: &mut Scratch,
+    host: &mut H,
+) -> Result<Vec<Rule>, UpdateFault>
+    requires { (d : Data) × IsObject bytes.now d }
+    ensures read { IfOk result (λ rules. add_from kind (tree_of bytes.now) ≡ Ok rules.items) }
+    ensures refused { IfErr result (MayRefuse (add_from kind (tree_of bytes.now)) (λ refusal.
+        Rose (H.faults host.old) (H.faults host.new)
+        × StopsInTree kind (added_at (tree_of bytes.now)) refusal)) }
+    ensures calm { OnOk result (H.faults host.new ≡ H.faults host.old) }
+    ensures quiet { IfErr result (IsQuiet (H.faults host.old) (H.faults host.new)) }
+    ensures later { H.faults host.old ≤ H.faults host.new }
+{
+    match read_listed(
+        alloc,
+        bytes,
+        scratch,
+        UpdateField::AddRules.name(),
+        kind,
+        host,
+    ) {
+        Ok(Listed::Absent) => Ok(Vec::new(alloc)),
+        Ok(Listed::Other) => Err(UpdateFault::BadField(UpdateField::AddRules)),
+        Ok(Listed::Rules(rules)) => Ok(rules),
+        Ok(Listed::Refused(refusal)) => Err(fault_of(refusal)),
+        Err(Fault::NoMemory) => Err(UpdateFault::NoMemory),
+        Err(Fault::BadJson) => unreachable!("the line is an object"),
     }
 }
 

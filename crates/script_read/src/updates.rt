@@ -2,22 +2,27 @@
 ghost use Rattle.std.specs.Prelude.{◌≡◌, ◌≤◌, Ok, IfOk, IfErr, OnOk, option_map};
 ghost use Rattle.std.specs.List.{list_all};
 ghost use Rattle.std.specs.Option.{option_copied};
+ghost use Rattle.serde_json.specs.Data.{Data};
 ghost use Rattle.serde_json.specs.Find.{as_str};
 ghost use Rattle.serde_json.specs.View.{view, items_view};
 ghost use Rattle.dnr_base.specs.Faults.{Rose};
+ghost use Rattle.json_spec.specs.Json.{tree_of};
 ghost use Rattle.json_spec.specs.RuleFields.{each, as_texts};
 ghost use Rattle.line_spec.specs.Names.{is_name_byte, is_extension_name};
 ghost use Rattle.line_spec.specs.Updates as spec;
 ghost use Rattle.line_spec.specs.Stops.{StopsInAdded, StopsInInstall, StopsInUpdate};
 ghost use Rattle.ruleset_store.specs.Seen.{update_seen};
 ghost use Rattle.script_read.specs.Faults.{IsFaultOf, MayRefuse, IsQuiet};
+ghost use Rattle.rules_file.specs.Listed.{IsObject};
+ghost use Rattle.script_read.specs.Apart.{IsKeptOf, StopsApart, StopsInTheUpdate, added_by, replacing_with, update_of_tree};
 ghost use Rattle.script_read.specs.Updates.{made_by};
 
-use crate::rules::add_in;
+use crate::rules::{add_in, add_of};
 use crate::rulesets::sets_in;
 use crate::update_fields::{remove_in, text_in, texts_in, wholes_in};
 use dnr_base::{Items, NoMemory, Text};
 use dnr_rules::RuleKind;
+use json::Scratch;
 use line_spec::{UpdateFault, UpdateField, UpdateName};
 use match_patterns::MatchPattern;
 use regex_host::RegexHost;
@@ -74,17 +79,87 @@ fn replacing_in<H: RegexHost>(
     let remove = remove_in(alloc, tree)?;
     let add = add_in(alloc, kind, tree, host)?;
     let add = IndexedRules::of(alloc, add)?;
+    Ok(made_by(kind, extension, remove, add))
+}
+
+// The update of a line, of which these members were kept; its rules are read of its text.
+#[tactic(auto, using(crate::proofs::Apart::with_rules, crate::proofs::Apart::with_rules_stops, crate::proofs::Apart::without_rules, crate::proofs::Apart::without_rules_stops))]
+pub(crate) fn update_of_line<H: RegexHost>(
+    alloc: Global,
+    name: UpdateName,
+    kept: &Value,
+    bytes: &[u8],
+    scratch: &mut Scratch,
+    host: &mut H,
+) -> Result<Update, UpdateFault>
+    requires { IsKeptOf (view kept.now) (tree_of bytes.now) }
+    ensures read { IfOk result (λ update. update_of_tree name (tree_of bytes.now) ≡ Ok (update_seen update)) }
+    ensures refused { IfErr result (MayRefuse (update_of_tree name (tree_of bytes.now)) (λ refusal.
+        Rose (H.faults host.old) (H.faults host.new)
+        × StopsInTheUpdate name (tree_of bytes.now) refusal)) }
+    ensures calm { OnOk result (H.faults host.new ≡ H.faults host.old) }
+    ensures quiet { IfErr result (IsQuiet (H.faults host.old) (H.faults host.new)) }
+    ensures later { H.faults host.old ≤ H.faults host.new }
+{
+    match added_by(name) {
+        Some(kind) => replacing_with(alloc, kind, kept, bytes, scratch, host),
+        None => update_in(alloc, name, kept, host),
+    }
+}
+
+// The kind of the rules that the update adds.
+fn added_by(name: UpdateName) -> Option<RuleKind>
+    ensures { result ≡ added_by name }
+{
+    match name {
+        UpdateName::Dynamic => Some(RuleKind::Dynamic),
+        UpdateName::Session => Some(RuleKind::Session),
+        UpdateName::Rulesets | UpdateName::Static | UpdateName::Install | UpdateName::Uninstall =>
+            None,
+    }
+}
+
+#[tactic(auto, using(crate::proofs::Apart::extension_apart, crate::proofs::Apart::removed_apart, crate::proofs::Apart::added_apart), unfolding(crate::specs::Apart::replacing_with))]
+fn replacing_with<H: RegexHost>(
+    alloc: Global,
+    kind: RuleKind,
+    kept: &Value,
+    bytes: &[u8],
+    scratch: &mut Scratch,
+    host: &mut H,
+) -> Result<Update, UpdateFault>
+    requires { (d : Data) × IsObject bytes.now d }
+    ensures read { IfOk result (λ update.
+        replacing_with kind (made_by kind) (view kept.now) (tree_of bytes.now) ≡ Ok (update_seen update)) }
+    ensures refused { IfErr result
+        (MayRefuse (replacing_with kind (made_by kind) (view kept.now) (tree_of bytes.now)) (λ refusal.
+        Rose (H.faults host.old) (H.faults host.new)
+        × StopsApart kind (view kept.now) (tree_of bytes.now) refusal)) }
+    ensures calm { OnOk result (H.faults host.new ≡ H.faults host.old) }
+    ensures quiet { IfErr result (IsQuiet (H.faults host.old) (H.faults host.new)) }
+    ensures later { H.faults host.old ≤ H.faults host.new }
+{
+    let extension = text_in(alloc, UpdateField::Extension, kept)?;
+    let remove = remove_in(alloc, kept)?;
+    let add = add_of(alloc, kind, bytes, scratch, host)?;
+    let add = IndexedRules::of(alloc, add)?;
+    Ok(made_by(kind, extension, remove, add))
+}
+
+fn made_by(kind: RuleKind, extension: Text, remove: Items<u32>, add: IndexedRules) -> Update
+    ensures { update_seen result ≡ made_by kind extension remove add }
+{
     match kind {
-        RuleKind::Session => Ok(Update::Session {
+        RuleKind::Session => Update::Session {
             extension,
             remove,
             add,
-        }),
-        _ => Ok(Update::Dynamic {
+        },
+        _ => Update::Dynamic {
             extension,
             remove,
             add,
-        }),
+        },
     }
 }
 

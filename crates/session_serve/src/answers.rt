@@ -18,9 +18,8 @@ use crate::line_kind::LineKind;
 use dnr_base::{Items, NoMemory, Request};
 use explain_report::{Reply, write_reply};
 use generation::{BatchRefusal, Generation, Refusal, Update};
-use json::Scratch;
 use regex_host::RegexHost;
-use script_read::{Command, CommandPath, LineFault, read_line_with};
+use script_read::{Command, CommandPath, LineFault, Memo, read_line_with};
 use std::alloc::Global;
 use std::marker::Model;
 
@@ -29,7 +28,7 @@ use std::marker::Model;
 pub struct Session {
     generation: Generation,
     updates: bool,
-    scratch: Scratch,
+    memo: Memo,
 }
 
 impl Model for Session {
@@ -48,7 +47,7 @@ impl Session {
         Session {
             generation,
             updates,
-            scratch: Scratch::new(alloc),
+            memo: Memo::new(alloc),
         }
     }
 
@@ -75,7 +74,7 @@ impl Session {
         ensures seats { length finders.new ≡ length finders.old }
         ensures later { NoneFell (H.faults checker.old ∷ map H.faults finders.old) (H.faults checker.new ∷ map H.faults finders.new) }
     {
-        match read_line_with(alloc, number, line, &mut self.scratch, checker) {
+        match read_line_with(alloc, number, line, &mut self.memo, checker) {
             Ok(command) => match self.serve(alloc, number, asked, &command, finders, into) {
                 Ok(()) => Ok(kind_of(&command)),
                 Err(NoMemory) => Err(NoMemory),
