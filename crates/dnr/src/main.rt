@@ -7,12 +7,16 @@ use dnr_base::NoMemory;
 use dnr_io::{DirShelf, Output, Status};
 use dnr_top::run;
 use regex_host::PackHost;
+use session_laws::nine_hosts_are_enough;
 use std::alloc::Global;
 use std::env::Env;
 use std::io;
 use std::process::ExitCode;
 
-// How many built patterns the host keeps that decides requests.
+// At most so many workers decide requests, each by a host of its own.
+const WORKERS: usize = 8;
+
+// How many built patterns such a host keeps.
 const ROOM: usize = 1_024;
 
 fn main(rt: HostRuntime) -> ExitCode {
@@ -20,6 +24,7 @@ fn main(rt: HostRuntime) -> ExitCode {
         (Ok(words), Ok(mut hosts)) => {
             let mut shelf = DirShelf::new(&rt);
             let mut out = Output::new(rt.stdout());
+            nine_hosts_are_enough();
             run(rt.alloc(), &words, &mut shelf, &mut out, &mut hosts)
         }
         (Err(status), _) => status,
@@ -47,12 +52,14 @@ fn status_of(error: io::Error) -> Status {
     }
 }
 
-// A host that checks the patterns of files, and one that finds their matches.
+// A host that checks the patterns of files and of lines, and one for each worker.
 fn hosts_of(alloc: Global) -> Result<Vec<PackHost>, NoMemory>
-    ensures { IfOk result (λ hosts. length hosts.items ≡ 2) }
+    ensures { IfOk result (λ hosts. length hosts.items ≡ 9) }
 {
     let mut hosts = Vec::new(alloc);
     hosts.push(PackHost::new(alloc)?)?;
-    hosts.push(PackHost::with_room(alloc, ROOM)?)?;
+    for _ in 0..WORKERS {
+        hosts.push(PackHost::with_room(alloc, ROOM)?)?;
+    }
     Ok(hosts)
 }

@@ -1,5 +1,5 @@
 -- Where a script is cut into rounds: what was read so far, and what comes.
-use Rattle.std.proofs.Common.{◌≡◌, ℕ, ◌+◌, List, [], ◌∷◌, ◌++◌, length, true, false, refl, sym, ap, ◌∙◌, append_assoc, append-nil}
+use Rattle.std.proofs.Common.{◌≡◌, ℕ, ◌+◌, List, [], ◌∷◌, ◌++◌, true, false, refl, sym, ap, ◌∙◌, append_assoc}
 use Rattle.session_spec.specs.Rounds.{Held, holds_nothing, with_line, ends_round, onto_first, rounds_from, rounds_of, onto_whole, whole_rounds_from, whole_rounds_of}
 
 -- lines of an unfinished round, at the front of rounds that are whole

@@ -1,13 +1,9 @@
 -- The laws of sessions.
-use Rattle.std.proofs.Common.{◌≡◌, ◌⊎◌, ℕ, List, Some, refl, inl, inr, subst}
-use Rattle.dnr_base.specs.Faults.{Rose, Count}
-use Rattle.dnr_spec.specs.declared.status.Status.{Status}
+use Rattle.std.proofs.Common.{ℕ, List, refl, inl, inr, subst}
 use Rattle.dnr_spec.specs.declared.status.Status.TheVariants as status
 use Rattle.load_spec.specs.Files.{Files}
-use Rattle.rule_spec.specs.State.{State}
-use Rattle.update_spec.specs.Entries.{judge}
 use Rattle.session_spec.specs.Answers.{Applies}
-use Rattle.session_spec.specs.Out.{Outside, Session, HasLongFileOf, HoldsTooMuch, RefusesSession, in_rounds, EndsBy}
+use Rattle.session_spec.specs.Out.{Outside, Session, HasLongFileOf, HoldsTooMuch, in_rounds}
 use Rattle.session_laws.specs.Laws.{RefusalsChangeNothing, NumbersNeverFall, SessionsComplete}
 
 pub refusals_change_nothing : RefusalsChangeNothing

@@ -4,3 +4,4 @@ pub mod Cut
 pub mod Rises
 pub mod Served
 pub mod Laws
+pub mod Hosts

@@ -1,8 +1,8 @@
 -- Counts of faults, before a run, now, and after one line more.
-use Rattle.std.proofs.Common.{◌≡◌, ℕ, zero, suc, ◌+◌, ◌≤◌, List, [], ◌∷◌, length, Option, Some, None, refl, sym, ap, subst, arith}
+use Rattle.std.proofs.Common.{◌≡◌, ℕ, zero, suc, ◌+◌, List, [], ◌∷◌, length, refl, arith}
 use Rattle.std.specs.Prelude.{slice_get}
 use Rattle.dnr_base.specs.Faults.{Count}
-use Rattle.session_spec.specs.Answers.{RisesBy, HostRisesBy}
+use Rattle.session_spec.specs.Answers.{HostRisesBy}
 use Rattle.session_spec.specs.Said.{Said, count_failed, count_stopped}
 use Rattle.session_laws.specs.Turns.{times_of, RiseBy, FaultsRise, NoneFell, counts_between}
 

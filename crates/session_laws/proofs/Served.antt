@@ -1,17 +1,17 @@
 -- A session that serves its script in turn, one line after another and one round after another.
-use Rattle.std.proofs.Common.{◌≡◌, ℕ, zero, suc, ◌+◌, ◌%◌, List, [], ◌∷◌, ◌++◌, length, Bool, true, false, Option, Some, None, refl, sym, ap, ◌∙◌, subst, arith, append_assoc, append-nil, length-append}
-use Rattle.std.specs.Prelude.{slice_get, ◌<◌}
+use Rattle.std.proofs.Common.{◌≡◌, ℕ, suc, ◌+◌, ◌%◌, List, [], ◌∷◌, ◌++◌, length, Option, Some, None, refl, sym, ap, ◌∙◌, subst, arith, append_assoc, append-nil, length-append}
+use Rattle.std.specs.Prelude.{slice_get}
 use Rattle.std.proofs.lemmas.List.Elements.{filter_map-append}
 use Rattle.dnr_base.specs.Faults.{Count}
 use Rattle.rule_spec.specs.State.{State}
-use Rattle.session_spec.specs.Answers.{Setting, Says, RoundSays, RoundsSay, HostRisesBy, RisesBy, Serves}
-use Rattle.session_spec.specs.Rounds.{Held, holds_nothing, with_line, ends_round, rounds_of, whole_rounds_of}
+use Rattle.session_spec.specs.Answers.{Setting, RoundSays, RoundsSay, HostRisesBy, Serves}
+use Rattle.session_spec.specs.Rounds.{Held, holds_nothing, with_line}
 use Rattle.session_spec.specs.Said.{Said, said_line, lines_text, number_by, numbers_by, NeverFall, count_failed, count_stopped}
 use Rattle.session_laws.specs.Turns.{TurnsSay, LineTold}
 use Rattle.session_laws.proofs.Turns.{turns_are_round, turns_more}
 use Rattle.session_laws.proofs.Told.{line_rises, line_numbered, no_fall_before, order_more, failed_more, stopped_more, text_append}
 use Rattle.session_laws.proofs.Rises.{RisesWith}
-use Rattle.session_laws.proofs.Cut.{Cut, cut_first, cut_on, cut_end, alone_open, held_open}
+use Rattle.session_laws.proofs.Cut.{alone_open}
 
 -- how many lines rounds have
 abbrev pub count_in : List (List (List ℕ)) → ℕ

@@ -1,17 +1,16 @@
 -- What is counted of lines that are answered in turn.
-use Rattle.std.proofs.Common.{◌≡◌, ◌⊎◌, ℕ, zero, suc, ◌+◌, ◌≤◌, List, [], ◌∷◌, ◌++◌, length, Bool, true, false, Option, Some, None, Result, Ok, Err, refl, sym, ap, ◌∙◌, inl, inr, subst, arith, append_assoc, append-nil}
+use Rattle.std.proofs.Common.{◌≡◌, ◌⊎◌, ℕ, ◌+◌, ◌≤◌, List, [], ◌∷◌, ◌++◌, length, Bool, true, false, Option, Some, None, Result, Ok, Err, refl, sym, ap, ◌∙◌, inl, inr, subst, arith, append_assoc, append-nil}
 use Rattle.std.specs.Prelude.{◌==◌, fold, filter_map, if◌then◌else◌}
 use Rattle.std.proofs.lemmas.List.Elements.{filter_map-append}
 use Rattle.std.proofs.lemmas.List.Sums.{sum_by-append}
-use Rattle.dnr_base.specs.declared.request.Request.{Request}
 use Rattle.rule_spec.specs.State.{State}
 use Rattle.update_spec.specs.declared.refusal.Refusal.{Refusal}
-use Rattle.update_spec.specs.Update.{Update, changed, counted}
+use Rattle.update_spec.specs.Update.{Update, changed}
 use Rattle.update_spec.specs.Entries.{Entry, one, batch as together, judge, after}
 use Rattle.line_spec.specs.declared.line_fault.LineFault.{LineFault}
 use Rattle.line_spec.specs.Line.{Command, blank, sync, request, explain, update, batch, command_of}
-use Rattle.session_spec.specs.Answers.{Setting, known_with, said_refused, Applies, IsAnswered, Decides, Explains, Replies, Stops, Says}
-use Rattle.session_spec.specs.Said.{Said, nothing, accepted, synced, refused, refused_in_batch, bad, stopped, answered, Answer, number_by, numbers_by, NeverFallFrom, NeverFall, fails_at, is_failed, is_stopped, count_failed, count_stopped, said_line, lines_text}
+use Rattle.session_spec.specs.Answers.{Setting, known_with, said_refused, Applies, IsAnswered, Decides, Explains, Replies, Says}
+use Rattle.session_spec.specs.Said.{Said, nothing, accepted, synced, bad, stopped, Answer, number_by, numbers_by, NeverFallFrom, NeverFall, count_failed, count_stopped, said_line, lines_text}
 use Rattle.session_laws.proofs.Turns.{only_one}
 
 -- ---- the count of the state

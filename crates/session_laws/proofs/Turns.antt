@@ -1,14 +1,12 @@
 -- Lines that are answered in turn are a round, whatever the number of seats.
-use Rattle.std.proofs.Common.{◌≡◌, ◌⊎◌, ℕ, zero, suc, ◌+◌, ◌%◌, ◌<◌, ◌≤◌, List, [], ◌∷◌, ◌++◌, length, Bool, true, false, Option, Some, None, Result, Ok, Err, refl, sym, ap, ◌∙◌, inl, inr, subst, arith, append_assoc, append-nil}
-use Rattle.std.specs.Prelude.{All, Contains, slice_index_or}
-use Rattle.std.proofs.lemmas.List.Elements.{All-contains, All-contains_itself}
-use Rattle.dnr_base.specs.declared.request.Request.{Request}
+use Rattle.std.proofs.Common.{◌≡◌, ℕ, zero, suc, ◌+◌, ◌%◌, List, [], ◌∷◌, ◌++◌, length, Result, Ok, Err, refl, sym, ap, ◌∙◌, inl, inr, subst, arith}
+use Rattle.std.specs.Prelude.{All, Contains}
+use Rattle.std.proofs.lemmas.List.Elements.{All-contains_itself}
 use Rattle.rule_spec.specs.State.{State}
-use Rattle.update_spec.specs.Update.{Update}
 use Rattle.line_spec.specs.declared.line_fault.LineFault.{LineFault}
 use Rattle.line_spec.specs.Line.{Command, blank, sync, request, explain, update, batch, command_of}
-use Rattle.session_spec.specs.Answers.{Setting, known_with, Decides, Explains, IsAnswered, Replies, Stops, Says, FirstAndRest, LinesSay, RoundSays}
-use Rattle.session_spec.specs.Rounds.{Held, with_line, holds_nothing, asks}
+use Rattle.session_spec.specs.Answers.{Setting, known_with, Decides, Explains, IsAnswered, Replies, Says, LinesSay, RoundSays}
+use Rattle.session_spec.specs.Rounds.{Held, with_line, holds_nothing}
 use Rattle.session_spec.specs.Said.{Said, Answer}
 use Rattle.session_laws.specs.Turns.{TurnsSay}
 

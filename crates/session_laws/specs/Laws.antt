@@ -1,5 +1,5 @@
 -- What follows from what a session may say and how it may end.
-use Rattle.std.specs.Prelude.{◌≡◌, ◌⊎◌, ℕ, List, Option, Some}
+use Rattle.std.specs.Prelude.{◌≡◌, ◌≤◌, ◌⊎◌, ℕ, List, Some}
 use Rattle.dnr_base.specs.Faults.{Rose, Count}
 use Rattle.dnr_spec.specs.declared.status.Status.{Status}
 use Rattle.dnr_spec.specs.declared.status.Status.TheVariants.{Done, NoMemory}
@@ -8,9 +8,10 @@ use Rattle.rule_spec.specs.State.{State}
 use Rattle.update_spec.specs.declared.refusal.Refusal.{Refusal}
 use Rattle.update_spec.specs.Entries.{Entry, judge}
 use Rattle.session_spec.specs.Answers.{Setting, Applies, RoundSays, Serves}
-use Rattle.session_spec.specs.Out.{Outside, Session, HasLongFileOf, HoldsTooMuch, RefusesSession, in_rounds, EndsBy}
+use Rattle.session_spec.specs.Out.{Outside, Session, HasLongFileOf, HoldsTooMuch, RefusesSession, in_rounds, EndsBy, hosts_needed}
 use Rattle.session_spec.specs.Rounds.{Held, holds_nothing}
 use Rattle.session_spec.specs.Said.{Said, numbers_by, NeverFall}
+use Rattle.session_spec.specs.Words.{task_of}
 use Rattle.session_laws.specs.Turns.{TurnsSay}
 
 -- Lines that are answered in turn are a round, whatever the number of seats.
@@ -40,3 +41,7 @@ SessionsComplete =
     → ((line : List ℕ) → RefusesSession files outside session line → ⊥) → (HasLongFileOf files session → ⊥)
     → ((script : List ℕ) → HoldsTooMuch files name script → ⊥)
     → EndsBy outside (in_rounds files outside session name) ended written → (ended ≡ Done) ⊎ (ended ≡ NoMemory)
+
+-- Nine hosts are enough for any command: one reads files and lines, and each of eight workers at most has its own.
+abbrev pub NineHostsAreEnough : Type 0
+NineHostsAreEnough = (words : List (List ℕ)) → hosts_needed (task_of words) ≤ 9

@@ -4,6 +4,7 @@
 
 ghost use Rattle.session_laws.specs.Laws.{TurnsAreARound, RefusalsChangeNothing};
 ghost use Rattle.session_laws.specs.Laws.{NumbersNeverFall, SessionsComplete};
+ghost use Rattle.session_laws.specs.Laws.{NineHostsAreEnough};
 
 /// Lines that are answered in turn are a round, whatever the number of seats.
 #[tactic(auto, using(crate::proofs::Turns::turns_are_round))]
@@ -28,4 +29,10 @@ pub fn numbers_never_fall()
 #[tactic(auto, using(crate::proofs::Laws::sessions_complete))]
 pub fn sessions_complete()
     ensures { SessionsComplete }
+{}
+
+/// Nine hosts are enough for any command.
+#[tactic(auto, using(crate::proofs::Hosts::nine_are_enough))]
+pub fn nine_hosts_are_enough()
+    ensures { NineHostsAreEnough }
 {}

@@ -1,9 +1,12 @@
 //! The commands over files in memory: how they end where a file, a host or the output fails, and what they write.
+ghost use Rattle.std.specs.Prelude.{◌≡◌, length, IfOk};
+
 use crate::shelves::{shelf, words};
 use dnr_base::NoMemory;
 use dnr_io::{MemorySink, Status};
 use dnr_top::run;
 use regex_host::{ListHost, PackHost};
+use session_laws::nine_hosts_are_enough;
 use std::alloc::Global;
 use std::test::Fail;
 
@@ -28,12 +31,26 @@ fn host(alloc: Global, failing: u64) -> Result<ListHost<PackHost>, NoMemory> {
     Ok(ListHost::new(alloc, PackHost::new(alloc)?, failing))
 }
 
+const AT_REST: usize = 7;
+
+// A host of files, one of requests, and others that are at rest.
+fn hosts(alloc: Global, failing: Failing) -> Result<Vec<ListHost<PackHost>>, NoMemory>
+    ensures { IfOk result (λ hosts. length hosts.items ≡ 9) }
+{
+    let mut hosts = vec![in alloc; host(alloc, failing.check)?, host(alloc, failing.find)?]?;
+    for _ in 0..AT_REST {
+        hosts.push(host(alloc, 0)?)?;
+    }
+    Ok(hosts)
+}
+
 // How a command ends, and what it writes.
 fn ended(alloc: Global, command: &str, failing: Failing) -> Result<(Status, Vec<u8>), NoMemory> {
     let words = words(alloc, command)?;
     let mut shelf = shelf(alloc, failing.read)?;
     let mut sink = MemorySink::new(alloc, 4096, vec![in alloc; failing.write]?);
-    let mut hosts = vec![in alloc; host(alloc, failing.check)?, host(alloc, failing.find)?]?;
+    let mut hosts = hosts(alloc, failing)?;
+    nine_hosts_are_enough();
     let status = run(alloc, &words, &mut shelf, &mut sink, &mut hosts);
     Ok((status, Vec::from_slice(alloc, sink.bytes())?))
 }
