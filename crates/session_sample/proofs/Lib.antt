@@ -1,0 +1,4 @@
+pub mod Kept
+pub mod NoSuffixes
+pub mod Updates
+pub mod Steps
