@@ -1,4 +1,4 @@
-ghost use Rattle.std.specs.Prelude.{◌≡◌, ◌↔◌, ◌<◌, ◌≤◌, ◌∷◌, ◌++◌, [], length, None, IsTrue, IfSome, IfOk, IfErr, OnOk, OnErr};
+ghost use Rattle.std.specs.Prelude.{◌≡◌, ◌↔◌, ◌<◌, ◌≤◌, ◌∷◌, ◌++◌, [], length, None, IsTrue, IsFalse, IfSome, IfOk, IfErr, OnOk, OnErr};
 ghost use Rattle.ruleset_store.specs.Seen.{IsBatchRefusal, IsRefusalOf, update_seen, updates_seen};
 ghost use Rattle.update_spec.specs.Entries as entries;
 ghost use Rattle.update_spec.specs.Entries.{replay};
@@ -90,7 +90,8 @@ impl<P: Pair> Writer<P> {
 
     /// Whether an update or a batch is staged.
     pub fn staged(&self) -> bool
-        ensures { IsTrue result ↔ (0 < length self.now.staged) }
+        ensures value { IsTrue result ↔ (0 < length self.now.staged) }
+        ensures idle { IsFalse result → self.now.staged ≡ [] }
     {
         self.kept.is_some() || self.copies.has_pending_operations()
     }
