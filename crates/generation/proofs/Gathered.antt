@@ -1,7 +1,7 @@
 -- Which hits an index gives.
-use Rattle.std.proofs.Common.{◌≡◌, ℕ, zero, suc, ◌+◌, ◌<◌, ◌≤◌, List, [], ◌∷◌, ◌++◌, length, map, drop, Bool, true, false, ◌&&◌, inl, inr, Option, Some, None, refl, sym, ap, ◌∙◌, subst, arith, append_assoc, append-nil}
+use Rattle.std.proofs.Common.{◌≡◌, ℕ, zero, suc, ◌+◌, ◌<◌, ◌≤◌, List, [], ◌∷◌, ◌++◌, length, drop, Bool, true, false, ◌&&◌, inl, inr, Option, Some, None, refl, sym, ap, ◌∙◌, subst, arith, append_assoc}
 use Rattle.std.specs.Prelude.{IfSome, option_and_then, slice_get}
-use Rattle.std.specs.List.{Contains}
+use Rattle.std.specs.List.{Contains, sum_by}
 use Rattle.std.specs.List.Sorted.{IsStrictlySortedBy}
 use Rattle.std.proofs.lemmas.List.{drop_more}
 use Rattle.std.proofs.lemmas.Option.{slice_get_cases}
@@ -20,7 +20,8 @@ use Rattle.rule_match.specs.Tested.{reaches_by, reaches_by_frames}
 use Rattle.rule_spec.specs.Holds.{holds}
 use Rattle.rule_spec.specs.Reaches.{holds_on_part}
 use Rattle.rule_spec.specs.Rule.{Action, Rule, block, redirect, allow, upgrade_scheme, modify_headers, allow_all_requests}
-use Rattle.generation.specs.Hits.{AreHits, frame_hits, hit_cmp, hits_by, hits_on, part_at}
+use Rattle.generation.specs.Hits.{AreHits, frame_hits, hit_cmp, hits_by, hits_on, part_at, weight_of}
+use Rattle.generation.proofs.Pairs.{all_weigh}
 
 -- ---- lists of hits
 
@@ -127,13 +128,26 @@ all_there rules index request suffixes place (suc n) rule is_index view views th
     (subst (λ (k : ℕ). Contains (frame_hits index.framing request 0 request.frames) (place, k)) f
     (frame_there index.framing request request.frames 0 n on.part place (subst (λ (k : ℕ). option_and_then (frame_part_of request k) (slice_get request.frames n) ≡ Some on.part) e on.is) has))
 
+few_found : (rules : List Rule) (index : ListIndex) (request : Request) (found hits : List (ℕ × ℕ)) (weight : ℕ → ℕ)
+    → IsListIndexOf rules index
+    → found ≡ hits_by (near index.whole (Some (shown_by (own_part request))) (own_part request)) 0 ++ frame_hits index.framing request 0 request.frames
+    → ((w : ℕ × ℕ → ℕ) → sum_by w hits ≤ sum_by w found)
+    → sum_by (λ hit. weight hit.0) hits ≤ weight_of weight rules request
+few_found rules index request found hits weight is_index are few =
+    let a = few (λ hit. weight hit.0) in
+    let b = ap (sum_by (λ (hit : ℕ × ℕ). weight hit.0)) are in
+    let d = all_weigh weight (Some (shown_by (own_part request))) rules index request is_index in
+    omega (arith, a, b, d)
+
 pub hits_found : (rules : List Rule) (index : ListIndex) (request : Request) (found hits : List (ℕ × ℕ))
     → IsListIndexOf rules index → IsView request.view → ((n : ℕ) → n < length request.frames → IfSome (frame_part request n) (λ p. IsView p.view))
     → found ≡ hits_by (near index.whole (Some (shown_by (own_part request))) (own_part request)) 0 ++ frame_hits index.framing request 0 request.frames
     → IsStrictlySortedBy hit_cmp hits → ((hit : ℕ × ℕ) → Contains found hit → Contains hits hit)
+    → ((weight : ℕ × ℕ → ℕ) → sum_by weight hits ≤ sum_by weight found)
     → AreHits rules request hits
-hits_found rules index request found hits is_index view views are sorted all = record {
+hits_found rules index request found hits is_index view views are sorted all few = record {
   sorted = sorted;
   all = λ suffixes place part rule there reaches. all (place, part)
       (subst (λ (l : List (ℕ × ℕ)). Contains l (place, part)) (sym are) (all_there rules index request suffixes place part rule is_index view views there reaches));
+  few = λ weight. few_found rules index request found hits weight is_index are few;
 }

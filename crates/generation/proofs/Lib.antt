@@ -4,6 +4,7 @@ mod Best
 mod Walks
 mod Parts
 mod Served
+mod Pairs
 mod Gathered
 mod Once
 mod Said

@@ -1,8 +1,7 @@
 -- A rule in force is taken in by the first part by which it reaches the request, and by no part behind that.
-use Rattle.std.proofs.Common.{◌≡◌, ℕ, zero, suc, ◌+◌, ◌-◌, ◌<◌, ◌≤◌, List, [], ◌∷◌, Bool, true, false, ◌&&◌, cond, ◌⊎◌, inl, inr, Option, Some, None, is_some, refl, sym, ap, ◌∙◌, subst, arith}
-use Rattle.std.specs.Prelude.{slice_get, option_and_then, max}
+use Rattle.std.proofs.Common.{◌≡◌, ℕ, zero, suc, ◌+◌, ◌<◌, List, [], ◌∷◌, Bool, true, false, ◌&&◌, cond, inl, inr, Option, Some, None, is_some, refl, sym, ap, ◌∙◌, subst, arith}
+use Rattle.std.specs.Prelude.{slice_get, option_and_then}
 use Rattle.std.proofs.lemmas.Bool.{cases_Bool, cases_lt, cond-true, cond-false}
-use Rattle.dnr_base.specs.declared.candidate.Candidate.{Candidate}
 use Rattle.dnr_base.specs.declared.frame.Frame.{Frame}
 use Rattle.dnr_base.specs.declared.request.Request.{Request}
 use Rattle.dnr_base.specs.declared.verb.Verb.{Verb}
@@ -12,12 +11,11 @@ use Rattle.dnr_spec.specs.Suffixes.{SuffixRule}
 use Rattle.explain_spec.specs.Explanation.{frame_of}
 use Rattle.precedence.proofs.Orders.{beats_is_order}
 use Rattle.rule_match.specs.Tested.{reaches_by, reaches_by_frames}
-use Rattle.rule_spec.specs.declared.reach.Reach.{Reach}
 use Rattle.rule_spec.specs.declared.reach.Reach.TheVariants.{Own, Frame as by_frame}
 use Rattle.rule_spec.specs.Holds.{holds}
 use Rattle.rule_spec.specs.Reaches.{by_first, first_frame, holds_on_part, reach_of, through_frames}
 use Rattle.rule_spec.specs.Rule.{Action, Rule, block, redirect, allow, upgrade_scheme, modify_headers, allow_all_requests, verb_of}
-use Rattle.rule_spec.specs.Scan.{allowed_priority, candidate_of, is_candidate, may_act}
+use Rattle.rule_spec.specs.Scan.{candidate_of, is_candidate, may_act}
 use Rattle.rule_spec.specs.State.{Live}
 use Rattle.generation.specs.Hits.{acts_by, part_at, with_part, with_part_of}
 use Rattle.generation.specs.Kept.{Found, Kept, better_of, found_by, frame_by, is_stronger, with_candidate, with_deciding, with_live, with_some, with_verb}

@@ -95,6 +95,11 @@ module _ (suffixes : List SuffixRule) (request : Request) where
       (λ place part past. nothing_past block place part (omega (arith, past)))
       ∙ places_are block (length block.rules.now) 0 kept (omega arith)
 
+-- the same hits of the same request
+pub moved : (rules : List Rule) (request other : Request) (hits list : List (ℕ × ℕ)) → request ≡ other → list ≡ hits → AreHits rules request hits → AreHits rules other list
+moved rules request other hits list same is are =
+    subst (λ (r : Request). AreHits rules r list) same (subst (λ (l : List (ℕ × ℕ)). AreHits rules request l) (sym is) are)
+
 -- ---- its name
 
 name_case : (b : Bool) (new kept : Kept) → new.name ≡ kept.name → (cond b new kept).name ≡ kept.name

@@ -1,9 +1,10 @@
-ghost use Rattle.std.specs.Prelude.{◌≡◌, ◌<◌, ◌≤◌, length, None, Ok, IfOk, IfErr, OnOk};
+ghost use Rattle.std.specs.Prelude.{◌≡◌, ◌<◌, ◌≤◌, ◌+◌, length, None, Ok, IfOk, IfErr, OnOk};
 ghost use Rattle.dnr_base.specs.Request.{max_frames};
 ghost use Rattle.explain_spec.specs.Explanation.{explanation_of};
 ghost use Rattle.generation.specs.First.{IsFirstRefusal};
 ghost use Rattle.generation.specs.Kept.{kept_from};
 ghost use Rattle.generation.specs.Refused.{Ends};
+ghost use Rattle.index_spec.specs.Pairs.{pairs_of};
 ghost use Rattle.ruleset_store.specs.Seen.{IsBatchRefusal, IsRefusalOf, update_seen, updates_seen};
 ghost use Rattle.update_spec.specs.Entries as entries;
 ghost use Rattle.update_spec.specs.Entries.{opening};
@@ -124,8 +125,10 @@ impl Generation {
         self.store.extensions()
     }
 
-    /// What becomes of a request, which has at most 64 frames: the verdict of the scan of all rules in force. It walks
-    /// the rules once, and keeps of each extension the one that decides and those that change headers.
+    /// What becomes of a request, which has at most 64 frames: the verdict of the scan of all rules in force. Rules are
+    /// found by the keys that they share with the request or, where they reach through frames, with a frame of it: at most
+    /// so many tests are made as there are pairs of a rule in force and a key that is shared. Of each extension the one
+    /// that decides is kept and those that change headers.
     ///
     /// Source: Chrome's reference of declarativeNetRequest, "Rule prioritization" and "Header modification".
     ///
@@ -143,6 +146,7 @@ impl Generation {
     ) -> Result<Verdict, DecideRefusal>
         requires { length request.now.frames ≤ max_frames }
         ensures verdict { IfOk result (λ verdict. verdict ≡ scan self.now.suffixes self.now.state request.now) }
+        ensures bound { steps.new ≤ steps.old + pairs_of self.now.state request.now }
         ensures ends { Ends (NamesPattern self.now.state) (H.faults host.old) (H.faults host.new) result }
     {
         let scan = Scan::new(alloc, request, self.list());
@@ -167,6 +171,7 @@ impl Generation {
     ) -> Result<Explanation, DecideRefusal>
         requires { length request.now.frames ≤ max_frames }
         ensures explanation { IfOk result (λ explanation. explanation ≡ explanation_of self.now.suffixes self.now.state request.now) }
+        ensures bound { steps.new ≤ steps.old + pairs_of self.now.state request.now }
         ensures ends { Ends (NamesPattern self.now.state) (H.faults host.old) (H.faults host.new) result }
     {
         let scan = Scan::new(alloc, request, self.list());

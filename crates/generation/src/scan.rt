@@ -6,7 +6,7 @@ ghost use Rattle.explain_spec.specs.Explanation.{frame_of};
 ghost use Rattle.rule_segments.specs.Segments.{live_among};
 ghost use Rattle.rule_spec.specs.State.{live_from, live_of, live_rules, live_with};
 ghost use Rattle.generation.specs.Block.{added_to, live_there, lives_in};
-ghost use Rattle.generation.specs.Hits.{acts_by, live_count, part_at, with_hit, with_part};
+ghost use Rattle.generation.specs.Hits.{acts_by, live_count, pairs_by, pairs_in, part_at, with_hit, with_part};
 ghost use Rattle.generation.specs.Kept as spec;
 ghost use Rattle.generation.specs.Refused.{Ends, IsPattern, IsPatternOf, IsRefusalAt};
 ghost use Rattle.dnr_base.specs.Request.{max_frames};
@@ -217,6 +217,7 @@ impl<'r> Scan<'r> {
         steps: &mut Steps<L>,
     ) -> Result<Kept<'a>, DecideRefusal>
         ensures kept { IfOk result (λ new. new ≡ spec.with_lives self.now.suffixes self.now.request kept.entry (lives_in block.now)) }
+        ensures bound { steps.new ≤ steps.old + pairs_by (lives_in block.now) self.now.request }
         ensures ends { Ends (IsPattern kept.entry.name (lives_in block.now)) (H.faults host.old) (H.faults host.new) result }
     {
         match find(hits, block.rules, self.request, self.shown) {
@@ -237,6 +238,7 @@ impl<'r> Scan<'r> {
         steps: &mut Steps<L>,
     ) -> Result<Kept<'a>, DecideRefusal>
         ensures kept { IfOk result (λ new. new ≡ spec.with_lives self.now.suffixes self.now.request kept.entry (live_with rank set.now (live_among segments.now))) }
+        ensures bound { steps.new ≤ steps.old + pairs_by (live_with rank set.now (live_among segments.now)) self.now.request }
         ensures ends { Ends (IsPattern kept.entry.name (live_with rank set.now (live_among segments.now))) (H.faults host.old) (H.faults host.new) result }
     {
         let mut kept = kept;
@@ -261,6 +263,7 @@ impl<'r> Scan<'r> {
         steps: &mut Steps<L>,
     ) -> Result<Kept<'a>, DecideRefusal>
         ensures kept { IfOk result (λ new. new ≡ spec.with_lives self.now.suffixes self.now.request kept.entry (live_of place set.now)) }
+        ensures bound { steps.new ≤ steps.old + pairs_by (live_of place set.now) self.now.request }
         ensures ends { Ends (IsPattern kept.entry.name (live_of place set.now)) (H.faults host.old) (H.faults host.new) result }
     {
         if !set.is_enabled() {
@@ -283,6 +286,7 @@ impl<'r> Scan<'r> {
         steps: &mut Steps<L>,
     ) -> Result<Kept<'a>, DecideRefusal>
         ensures kept { IfOk result (λ new. new ≡ spec.with_lives self.now.suffixes self.now.request kept.entry (live_from 0 sets.now)) }
+        ensures bound { steps.new ≤ steps.old + pairs_by (live_from 0 sets.now) self.now.request }
         ensures ends { Ends (IsPattern kept.entry.name (live_from 0 sets.now)) (H.faults host.old) (H.faults host.new) result }
     {
         let mut kept = kept;
@@ -305,6 +309,7 @@ impl<'r> Scan<'r> {
         steps: &mut Steps<L>,
     ) -> Result<Kept<'a>, DecideRefusal>
         ensures kept { IfOk result (λ new. new ≡ spec.with_lives self.now.suffixes self.now.request kept.entry (added_to extension.now)) }
+        ensures bound { steps.new ≤ steps.old + pairs_by (added_to extension.now) self.now.request }
         ensures ends { Ends (IsPattern kept.entry.name (added_to extension.now)) (H.faults host.old) (H.faults host.new) result }
     {
         let session = extension.session().segments();
@@ -327,6 +332,7 @@ impl<'r> Scan<'r> {
         steps: &mut Steps<L>,
     ) -> Result<Kept<'a>, DecideRefusal>
         ensures kept { IfOk result (λ kept. kept ≡ spec.kept_of self.now.suffixes self.now.request age extension.now) }
+        ensures bound { steps.new ≤ steps.old + pairs_by (live_rules extension.now) self.now.request }
         ensures ends { Ends (IsPattern extension.now.name (live_rules extension.now)) (H.faults host.old) (H.faults host.new) result }
     {
         // An age past the end of its type is a want of room like another.
@@ -349,6 +355,7 @@ impl<'r> Scan<'r> {
         steps: &mut Steps<L>,
     ) -> Result<Vec<Kept<'a>>, DecideRefusal>
         ensures kept { IfOk result (λ kepts. kepts.items ≡ spec.kept_from self.now.suffixes self.now.request 0 extensions.now) }
+        ensures bound { steps.new ≤ steps.old + pairs_in extensions.now self.now.request }
         ensures ends { Ends (IsPatternOf extensions.now) (H.faults host.old) (H.faults host.new) result }
     {
         let mut hits = Vec::new(self.alloc);

@@ -16,4 +16,4 @@ returns c =
     (c.in_ok-push_own.ensures.hits
     ∙ ap (λ (l : List (ℕ × ℕ)). l ++ hits_by (near index.whole (Some c.args.shown) own) 0) c.clear.ensures.items
     ∙ ap (λ (n : ℕ). hits_by (near index.whole (Some n) own) 0) c.requires.shown))
-    c.sort_once.ensures.sorted c.sort_once.ensures.all
+    c.sort_once.ensures.sorted c.sort_once.ensures.all c.sort_once.ensures.few

@@ -1,10 +1,9 @@
-use Rattle.std.proofs.Common.{◌≡◌, ℕ, ◌≤◌, List, ◌∙◌, subst}
-use Rattle.std.specs.List.{dedup, Contains, sum_by}
+use Rattle.std.proofs.Common.{ℕ, ◌≤◌, List, subst}
+use Rattle.std.specs.List.{Contains, sum_by}
 use Rattle.std.specs.List.Sorted.{IsStrictlySortedBy}
-use Rattle.std.proofs.lemmas.List.Filters.{dedup_is}
 use Rattle.std.proofs.lemmas.List.Sorted.{Contains-permutation, sum_by-IsPermutation}
 use Rattle.generation.specs.Hits.{hit_cmp}
-use Rattle.generation.proofs.Once.{hit_eq, kept_once, lighter_once, once_is, sorted_once}
+use Rattle.generation.proofs.Once.{kept_once, lighter_once, once_is, sorted_once}
 use Rattle.generation.proofs.hits.sort_once.Goals as goal
 
 pub returns-clause-sorted : goal.returns-clause-sorted

@@ -1,9 +1,10 @@
-use Rattle.std.proofs.Common.{◌≡◌, ◌∙◌, ℕ, List, sym, ap, fold, subst}
+use Rattle.std.proofs.Common.{◌≡◌, ◌∙◌, sym, ap, fold, arith}
 use Rattle.std.proofs.lemmas.Result.{IfOk-weaker}
 use Rattle.generation.specs.Block.{lives_in}
 use Rattle.generation.specs.Hits.{AreHits, with_hit}
 use Rattle.generation.specs.Kept.{with_lives}
-use Rattle.generation.proofs.Served.{block_served}
+use Rattle.generation.proofs.Pairs.{hits_few}
+use Rattle.generation.proofs.Served.{block_served, moved}
 use Rattle.generation.proofs.scan.Scan.take_block.Goals as goal
 
 pub returns-in-Ok-clause-kept : goal.returns-in-Ok-clause-kept
@@ -12,8 +13,17 @@ returns-in-Ok-clause-kept g c =
     let request = c.args.self.now.request in
     let block = c.args.block.now in
     let hits = c.as_slice.result.now in
-    let same : c.self.inside.request.now ≡ request = sym c.self.invariant.0 ∙ ap (λ p. p.request) c.self.view_is in
-    let found : AreHits block.rules.now request c.find.new.hits.items = subst (λ r. AreHits block.rules.now r c.find.new.hits.items) same c.in-Ok.ensures in
-    let are : AreHits block.rules.now request hits = subst (λ (l : List (ℕ × ℕ)). AreHits block.rules.now request l) (sym c.as_slice.ensures.value) found in
+    let same = sym c.self.invariant.0 ∙ ap (λ p. p.request) c.self.view_is in
+    let are : AreHits block.rules.now request hits = moved block.rules.now c.self.inside.request.now request c.find.new.hits.items hits same c.as_slice.ensures.value c.in-Ok.ensures in
     IfOk-weaker c.take_hits.result (λ new. new ≡ fold (with_hit suffixes request block) c.args.kept hits) (λ new. new ≡ with_lives suffixes request c.args.kept (lives_in block))
     (λ new is. is ∙ block_served suffixes request block hits c.args.kept are) c.take_hits.ensures.kept
+
+pub returns-in-Ok-clause-bound : goal.returns-in-Ok-clause-bound
+returns-in-Ok-clause-bound g c =
+    let request = c.args.self.now.request in
+    let block = c.args.block.now in
+    let hits = c.as_slice.result.now in
+    let same = sym c.self.invariant.0 ∙ ap (λ p. p.request) c.self.view_is in
+    let are : AreHits block.rules.now request hits = moved block.rules.now c.self.inside.request.now request c.find.new.hits.items hits same c.as_slice.ensures.value c.in-Ok.ensures in
+    let few = hits_few block request hits are in
+    omega (arith, few, c.take_hits.ensures.few)

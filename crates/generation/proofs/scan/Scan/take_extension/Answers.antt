@@ -1,7 +1,9 @@
-use Rattle.std.proofs.Common.{ℕ, List, ap, refl, subst}
+use Rattle.std.proofs.Common.{ℕ, List, ap, refl, subst, arith}
 use Rattle.rule_spec.specs.State.{live_from, live_rules}
 use Rattle.generation.specs.Block.{added_to}
+use Rattle.generation.specs.Hits.{pairs_by}
 use Rattle.generation.specs.Refused.{IsPattern}
+use Rattle.generation.proofs.Pairs.{lives_add}
 use Rattle.generation.proofs.Walked.{ends_in, ends_on, first_pattern, second_pattern}
 use Rattle.generation.proofs.scan.Scan.take_extension.Goals as goal
 
@@ -25,3 +27,17 @@ returns-in-Err-clause-ends g c =
     (λ rule h. subst (λ (n : List ℕ). IsPattern n (live_rules extension) rule) (ap (λ k. k.name) c.new-kept.ensures)
     (first_pattern start.name (added_to extension) (added_to extension) (live_from 0 extension.sets) refl rule h))
     c.in-Err.ensures.ends
+
+pub returns-in-Ok-clause-bound : goal.returns-in-Ok-clause-bound
+returns-in-Ok-clause-bound g c =
+    let extension = c.args.extension.now in
+    let request = c.args.self.now.request in
+    let both = lives_add (added_to extension) (live_from 0 extension.sets) request in
+    let sets = ap (λ sets. pairs_by (live_from 0 sets) request) c.sets.ensures in
+    omega (arith, both, sets, c.in-Ok.ensures.bound, c.take_sets.ensures.bound)
+
+pub returns-in-Err-clause-bound : goal.returns-in-Err-clause-bound
+returns-in-Err-clause-bound g c =
+    let extension = c.args.extension.now in
+    let both = lives_add (added_to extension) (live_from 0 extension.sets) c.args.self.now.request in
+    omega (arith, both, c.in-Err.ensures.bound)

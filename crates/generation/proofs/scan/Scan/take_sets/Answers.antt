@@ -2,6 +2,7 @@ use Rattle.std.proofs.Common.{◌+◌, ◌∙◌, arith, drop}
 use Rattle.rule_spec.specs.State.{live_from, live_of}
 use Rattle.generation.specs.Refused.{IsPattern}
 use Rattle.generation.proofs.Blocks.{sets_step}
+use Rattle.generation.proofs.Pairs.{rest_pairs}
 use Rattle.generation.proofs.Walked.{ends_on, walked_more, walked_pattern}
 use Rattle.generation.proofs.scan.Scan.take_sets.Goals as goal
 
@@ -9,12 +10,27 @@ pub loop-place-preserved : goal.loop-place-preserved
 loop-place-preserved g c =
     let sets = c.args.sets.now in
     let place = c.loop-place.place in
-    let set = c.index-sets-place.result in (
-      walked_more c.args.self.now.suffixes c.args.self.now.request c.args.kept (live_from 0 sets) (live_of place set) (live_from place (drop place sets))
-          (live_from (place + 1) (drop (place + 1) sets)) c.loop-place.kept c.in-Ok.more c.loop-place.invariant.0
-          (sets_step sets place set (omega arith) c.index-sets-place.is) c.in-Ok.ensures.kept,
+    let set = c.index-sets-place.result in
+    let rest = live_from place (drop place sets) in
+    let more = live_from (place + 1) (drop (place + 1) sets) in
+    let cut = sets_step sets place set (omega arith) c.index-sets-place.is in
+    let pairs = rest_pairs rest (live_of place set) more c.args.self.now.request cut in (
+      walked_more c.args.self.now.suffixes c.args.self.now.request c.args.kept (live_from 0 sets) (live_of place set) rest more c.loop-place.kept c.in-Ok.more
+          c.loop-place.invariant.0 cut c.in-Ok.ensures.kept,
       c.in-Ok.ensures.ends ∙ c.loop-place.invariant.1,
+      omega (arith, pairs, c.in-Ok.ensures.bound, c.loop-place.invariant.2),
     )
+
+pub returns-in-Err-clause-bound : goal.returns-in-Err-clause-bound
+returns-in-Err-clause-bound g c =
+    let sets = c.args.sets.now in
+    let place = c.loop-place.place in
+    let set = c.index-sets-place.result in
+    let rest = live_from place (drop place sets) in
+    let more = live_from (place + 1) (drop (place + 1) sets) in
+    let cut = sets_step sets place set (omega arith) c.index-sets-place.is in
+    let pairs = rest_pairs rest (live_of place set) more c.args.self.now.request cut in
+    omega (arith, pairs, c.in-Err.ensures.bound, c.loop-place.invariant.2)
 
 pub returns-in-Err-clause-ends : goal.returns-in-Err-clause-ends
 returns-in-Err-clause-ends g c =
