@@ -76,8 +76,12 @@ impl DomainSet {
         DomainSet::of_entries(alloc, entries)
     }
 
-    // The set of these entries, with their order where they are many.
-    fn of_entries(alloc: Global, entries: Vec<Text>) -> Result<DomainSet, NoMemory>
+    /// The set of these entries, which are domains in lower case. It keeps the list as it is, and copies no text.
+    ///
+    /// # Errors
+    ///
+    /// `NoMemory`, where memory ran out.
+    pub fn of_entries(alloc: Global, entries: Vec<Text>) -> Result<DomainSet, NoMemory>
         requires { domains_of entries.items ≡ Ok entries.items }
         ensures { IfOk result (λ set. set ≡ entries.items) }
     {
