@@ -7,7 +7,7 @@ use Rattle.compile_spec.specs.Initiators.{Initiators, single, initiators_of}
 use Rattle.rule_spec.specs.Rule.{Rule}
 use Rattle.compile_spec.specs.Compiled.{Standing, Effect, effects_of, drafts_with, drafts_of, Draft, CompiledRule, rule_of, max_compiled, with_ids, rules_in, origins_in}
 use Rattle.abp_compile.specs.declared.work.Work.{Work}
-use Rattle.abp_compile.specs.Work.{draft, drafts, HasDrafts, Gains, Keeps}
+use Rattle.abp_compile.specs.Work.{draft, drafts, Gains, Keeps}
 
 pub with_ids-append : (id : ℕ) (xs ys : List Draft) → with_ids id (xs ++ ys) ≡ with_ids id xs ++ with_ids (id + length xs) ys
 with_ids-append id [] ys = ap (λ n. with_ids n ys) (omega arith)

@@ -1,6 +1,5 @@
 -- Groups of filters, with one filter more.
-use Rattle.std.proofs.Common.{◌≡◌, ℕ, suc, List, [], ◌∷◌, ◌++◌, map, filter, Bool, true, false, cond, not, ◌||◌, ◌&&◌, Option, Some, None, option_map, get_or, set, refl, sym, ap, ◌∙◌, subst, ⊎_elim, length, append-nil}
-use Rattle.std.specs.Prelude.{is_some}
+use Rattle.std.proofs.Common.{◌≡◌, ℕ, suc, List, [], ◌∷◌, ◌++◌, map, filter, Bool, true, false, cond, not, ◌||◌, Option, Some, None, option_map, get_or, set, refl, sym, ap, ◌∙◌, subst, ⊎_elim, append-nil}
 use Rattle.std.specs.List.{list_any, filter_map, cons_option, AllByRecursion}
 use Rattle.std.proofs.lemmas.Bool.{true≢false, false_from_ne_true, not-true}
 use Rattle.std.proofs.lemmas.List.{map-append}

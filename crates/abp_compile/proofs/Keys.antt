@@ -1,15 +1,15 @@
 -- Alike filters have one key, and the table of groups.
-use Rattle.std.proofs.Common.{◌≡◌, ℕ, ◌+◌, ◌<◌, zero, suc, List, [], ◌∷◌, ◌++◌, map, Bool, true, false, cond, ◌&&◌, Option, Some, None, option_map, String, Global, string_bytes, string_cmp, length, refl, sym, ap, ◌∙◌, subst, ⊎_elim, arith}
+use Rattle.std.proofs.Common.{◌≡◌, ℕ, ◌<◌, suc, List, [], ◌∷◌, ◌++◌, map, Bool, true, false, cond, ◌&&◌, Option, Some, None, option_map, String, Global, string_bytes, string_cmp, length, refl, sym, ap, ◌∙◌, ⊎_elim, arith}
 use Rattle.std.specs.Prelude.{is_some}
 use Rattle.std.specs.BTreeMap.{BTreeMap, get, UpdatesBy, is_at}
 use Rattle.std.specs.Cmp.Lexicographic.{slice_cmp, pointwise, pointwise_decides}
-use Rattle.std.specs.List.{list_all, AllByRecursion}
+use Rattle.std.specs.List.{list_all}
 use Rattle.std.specs.Option.{option_eq}
 use Rattle.std.specs.Ordering.{is_eq, ordering_then}
 use Rattle.std.specs.Str.{bytes_eq}
 use Rattle.std.specs.declared.cmp.Ordering.{Ordering}
 use Rattle.std.specs.declared.cmp.Ordering.TheVariants.{Less, Equal, Greater}
-use Rattle.std.proofs.lemmas.Bool.{and_parts, and_from}
+use Rattle.std.proofs.lemmas.Bool.{and_from}
 use Rattle.std.proofs.lemmas.Map.Text.{is_eq-slice_cmp}
 use Rattle.std.proofs.lemmas.Slice.Eq.{bytes_eq-Decides}
 use Rattle.dnr_base.specs.declared.kind.Kind.{Kind}
@@ -18,7 +18,7 @@ use Rattle.list_spec.specs.LineKind.{FilterLine}
 use Rattle.compile_spec.specs.Alike.{plain_domain, set_of_entries, same_answer, same_types, agree, alike}
 use Rattle.compile_laws.proofs.Lists.{true_or_false}
 use Rattle.compile_laws.proofs.Likeness.{Agrees, reads_agree}
-use Rattle.abp_compile.specs.Alike.{mark, party_mark, marks, key_texts, has_key}
+use Rattle.abp_compile.specs.Alike.{mark, party_mark, key_texts, has_key}
 use Rattle.abp_compile.specs.Groups.{first_place, Key, key_cmp, HasPlaces}
 
 -- ---- keys

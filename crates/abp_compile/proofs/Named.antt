@@ -1,5 +1,5 @@
 -- Domains that a rule may name.
-use Rattle.std.proofs.Common.{◌≡◌, ℕ, ◌+◌, ◌<◌, ◌≤◌, Bool, true, false, cond, List, [], ◌∷◌, ◌++◌, length, get_or, map, not, refl, sym, ap, ◌∙◌, subst, arith, Option, Some, None, Ok, length-append}
+use Rattle.std.proofs.Common.{◌≡◌, ℕ, ◌+◌, ◌<◌, ◌≤◌, Bool, true, false, cond, List, [], ◌∷◌, ◌++◌, length, get_or, map, not, refl, sym, ap, subst, arith, Option, Some, None, Ok, length-append}
 use Rattle.std.specs.Prelude.{position, All, IsTrue}
 use Rattle.std.proofs.Math.ListN.{get_or-map}
 use Rattle.std.proofs.lemmas.Bool.Decides.{nat_tests}
@@ -27,6 +27,12 @@ named_again domains are = again are.0 domains (position (λ entry. not (is_domai
 pub one_if : (b : Bool) (n : ℕ) → cond b 1 0 ≡ n → b ≡ true → n ≡ 1
 one_if true n e h = sym e
 one_if false n e h = cc
+
+-- with no rule of a single domain there is one rule
+pub alone_one : (excluded others nested : List (List ℕ)) → map (single excluded) nested ≡ [] → length (in_common excluded others nested) ≡ 1
+alone_one excluded [] [] e = refl
+alone_one excluded (domain ∷ others) [] e = refl
+alone_one excluded others (domain ∷ nested) e = let none : length (single excluded domain ∷ map (single excluded) nested) ≡ 0 = ap length e in absurd (omega (arith, none))
 
 pub others_named : (excluded others nested : List (List ℕ)) → All CanBeNamed (in_common excluded others nested) → length (in_common excluded others nested) ≡ 1
     → AreDomains others

@@ -3,10 +3,10 @@ use Rattle.std.proofs.Common.{◌≡◌, ℕ, suc, List, [], ◌∷◌, ◌++◌
 use Rattle.std.specs.Prelude.{All}
 use Rattle.std.specs.List.{flat_map}
 use Rattle.compile_spec.specs.Compiled.{Placed, Group, groups_of, placed_from, standing_with, standing, Standing, drafts_of, Draft, drafts_in}
-use Rattle.compile_laws.specs.Laws.{GroupsGiveRules, GivesRules}
+use Rattle.compile_laws.specs.Laws.{GroupsGiveRules}
 use Rattle.abp_compile.specs.declared.groups.Group as code
 use Rattle.abp_compile.specs.declared.groups.Groups.{Groups}
-use Rattle.abp_compile.specs.Groups.{Told, told, told_with, told_of, stands, standing_of, HasFilters}
+use Rattle.abp_compile.specs.Groups.{told, told_with, told_of, standing_of, HasFilters}
 use Rattle.abp_compile.specs.declared.work.Work.{Work}
 use Rattle.abp_compile.specs.Work.{GivesAllRules, HasDrafts, Gains}
 use Rattle.abp_compile.proofs.Turned.{popped}

@@ -7,12 +7,12 @@ use Rattle.std.proofs.lemmas.List.{map-append, map-set, set-get_or, length-map}
 use Rattle.std.proofs.Math.ListN.{get_or-map}
 use Rattle.list_spec.specs.LineKind.{FilterLine, every_url}
 use Rattle.compile_spec.specs.Alike.{plain_domain, agree, alike}
-use Rattle.compile_spec.specs.Compiled.{Placed, groups_of}
+use Rattle.compile_spec.specs.Compiled.{Placed}
 use Rattle.abp_parse.specs.Seen.{filter_seen}
 use Rattle.abp_compile.specs.declared.groups.Group.{Group}
 use Rattle.abp_compile.specs.declared.groups.Groups.{Groups}
 use Rattle.abp_compile.specs.Alike.{key_texts, has_key}
-use Rattle.abp_compile.specs.Groups.{Told, told, told_of, first_place, firsts, with_more, HasFilters, HasJoined, Takes, AreFound, Key, key_cmp}
+use Rattle.abp_compile.specs.Groups.{Told, told, first_place, firsts, with_more, HasJoined, Takes, AreFound, Key, key_cmp}
 use Rattle.abp_compile.proofs.Joined.{told_joined, told_alone, no_place, told_behind, told_within}
 use Rattle.abp_compile.proofs.Keys.{finds_alike, place_same, place_mapped, place_below, at_first, at_later, places_skip, places_more}
 

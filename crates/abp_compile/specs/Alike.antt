@@ -1,5 +1,5 @@
 -- What alike filters have in common, as texts by which a table finds them again.
-use Rattle.std.specs.Prelude.{ℕ, List, [], ◌∷◌, map, Bool, true, Option, Some, None, is_some, ◌&&◌, if◌then◌else◌}
+use Rattle.std.specs.Prelude.{ℕ, List, ◌∷◌, map, Bool, Option, Some, None, is_some, ◌&&◌, if◌then◌else◌}
 use Rattle.std.specs.Cmp.Lexicographic.{pointwise}
 use Rattle.std.specs.Str.{bytes_eq}
 use Rattle.dnr_base.specs.Kind.{all_kinds, has_kind}

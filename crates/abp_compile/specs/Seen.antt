@@ -1,6 +1,7 @@
 -- The program's types, as those of the definitions.
-use Rattle.std.specs.Prelude.{ℕ, List, [], ◌∷◌, map, option_map}
+use Rattle.std.specs.Prelude.{ℕ, List, [], ◌∷◌, map, Option, option_map}
 use Rattle.abp_parse.specs.Seen.{filter_seen}
+use Rattle.list_spec.specs.LineKind.{FilterLine}
 use Rattle.rule_spec.specs.Rule.{Rule}
 use Rattle.compile_spec.specs.Initiators as spec_initiators
 use Rattle.compile_spec.specs.Compiled as spec
@@ -42,7 +43,11 @@ abbrev pub standing_seen : Standing → spec.Standing
 standing_seen standing =
     record { lines = standing.lines; filter = filter_seen standing.filter; hosts = option_map (λ hosts. hosts.items) standing.hosts }
 
--- the rule of what stands for filters, for these initiators
-abbrev pub rule_seen : ℕ → Standing → Effect → Initiators → Rule
-rule_seen id standing effect initiators =
-    spec.rule_of id (record { standing = standing_seen standing; effect = effect_seen effect; initiators = initiators_seen initiators })
+-- the rule of a filter and these hosts, for these initiators
+abbrev pub rule_with : ℕ → FilterLine → Option (List (List ℕ)) → Effect → Initiators → Rule
+rule_with id filter hosts effect initiators =
+    spec.rule_of id (record {
+      standing = record { lines = []; filter = filter; hosts = hosts };
+      effect = effect_seen effect;
+      initiators = initiators_seen initiators;
+    })

@@ -50,6 +50,13 @@ impl Groups {
         }
     }
 
+    // The groups, without the table by which they were found.
+    pub(crate) fn into_list(self) -> Vec<Group>
+        ensures { result.items ≡ self.list.items }
+    {
+        self.list
+    }
+
     // Takes in the filter of a line: into the group of those that are alike, or else as a group of its own.
     pub(crate) fn add(
         &mut self,

@@ -78,13 +78,13 @@ fn rules_of(alloc: Global, groups: Groups) -> Result<Work, NoMemory>
     requires { All GivesAllRules (map (λ group. standing_of (told group)) groups.list.items) }
     ensures { IfOk result (λ work. HasDrafts work (flat_map (λ group. drafts_of (standing_of (told group))) groups.list.items)) }
 {
-    let mut list = groups.list;
+    let mut list = groups.into_list();
     // Each group is let go as its rules are made.
     list.reverse();
     let mut work = Work::new(alloc);
     while let Some(group) = list.pop() {
         let standing = group.stand(alloc)?;
-        work.add(alloc, &standing)?;
+        work.add(alloc, standing)?;
     }
     Ok(work)
 }

@@ -8,7 +8,7 @@ ghost use Rattle.abp_compile.specs.Work.{drafts, IsGiven, GiveRules, GivesAllRul
 use crate::effects::{Effect, Effects, effects_of};
 use crate::groups::Standing;
 use crate::initiators::{Initiators, Parted};
-use crate::rule::rule_of;
+use crate::rule::{hosts_of, into_hosts, rule_of};
 use dnr_base::{Items, NoMemory, Text};
 use dnr_rules::Rule;
 use std::alloc::Global;
@@ -37,19 +37,63 @@ impl Work {
     }
 
     // Adds the rules of filters that stand as one: all of their first effect before those of their second.
-    pub(crate) fn add(&mut self, alloc: Global, standing: &Standing) -> Result<(), NoMemory>
-        requires { GivesAllRules (standing_seen standing.now) }
-        ensures { OnOk result (Gains (spec.drafts_of (standing_seen standing.now)) self.old self.new) }
+    pub(crate) fn add(&mut self, alloc: Global, standing: Standing) -> Result<(), NoMemory>
+        requires { GivesAllRules (standing_seen standing) }
+        ensures { OnOk result (Gains (spec.drafts_of (standing_seen standing)) self.old self.new) }
     {
         let domains = Parted::read(alloc, standing.filter.domains.as_slice())?;
         match effects_of(&standing.filter) {
             Effects::Nothing => Ok(()),
-            Effects::One(effect) => self.add_effect(alloc, standing, effect, &domains),
+            Effects::One(effect) => self.add_last(alloc, standing, effect, &domains),
             Effects::Both(first, second) => {
-                self.add_effect(alloc, standing, first, &domains)?;
-                self.add_effect(alloc, standing, second, &domains)
+                self.add_effect(alloc, &standing, first, &domains)?;
+                self.add_last(alloc, standing, second, &domains)
             }
         }
+    }
+
+    // Adds the rules of the last effect of filters.
+    fn add_last(
+        &mut self,
+        alloc: Global,
+        standing: Standing,
+        effect: Effect,
+        domains: &Parted,
+    ) -> Result<(), NoMemory>
+        requires { GiveRules (standing_seen standing) (effect_seen effect) (parted_seen domains.now) }
+        ensures { OnOk result (Gains (drafts (standing_seen standing) (effect_seen effect) (parted_seen domains.now)) self.old self.new) }
+    {
+        if domains.has_singles() {
+            self.add_effect(alloc, &standing, effect, domains)
+        } else {
+            self.add_alone(alloc, standing, effect, domains)
+        }
+    }
+
+    // Adds the one rule of an effect of filters. It takes over their lines and hosts.
+    fn add_alone(
+        &mut self,
+        alloc: Global,
+        standing: Standing,
+        effect: Effect,
+        domains: &Parted,
+    ) -> Result<(), NoMemory>
+        requires alone { singles_of domains.now ≡ [] }
+        requires rules { GiveRules (standing_seen standing) (effect_seen effect) (parted_seen domains.now) }
+        ensures { OnOk result (Gains (drafts (standing_seen standing) (effect_seen effect) (parted_seen domains.now)) self.old self.new) }
+    {
+        let before = self.count;
+        // No memory holds a list of so many rules.
+        let Some(count) = before.checked_add(domains.count()) else {
+            return Err(NoMemory);
+        };
+        self.count = count;
+        if count > MAX_RULES {
+            return Ok(());
+        }
+        let initiators = domains.common(alloc)?;
+        self.keep_last(alloc, before as u32 + 1, standing, effect, initiators)?;
+        Ok(())
     }
 
     // Adds the rules of one effect of filters, whose domains these are.
@@ -155,8 +199,34 @@ impl Work {
         ensures kept { OnOk result (Keeps id (drafts (standing_seen standing.now) (effect_seen effect) (initiators_seen initiators ∷ [])) self.old self.new) }
         ensures count { self.new.count ≡ self.old.count }
     {
-        let rule = rule_of(alloc, id, standing, effect, initiators)?;
+        let hosts = hosts_of(alloc, &standing.hosts)?;
+        let rule = rule_of(alloc, id, &standing.filter, hosts, effect, initiators)?;
         let lines = copy_lines(alloc, standing.lines.as_slice())?;
+        self.rules.push(rule)?;
+        self.origins.push(lines)?;
+        Ok(())
+    }
+
+    // Keeps the last rule of filters that stand as one.
+    fn keep_last(
+        &mut self,
+        alloc: Global,
+        id: u32,
+        standing: Standing,
+        effect: Effect,
+        initiators: Initiators,
+    ) -> Result<(), NoMemory>
+        requires { IsGiven id (standing_seen standing) (effect_seen effect) (initiators_seen initiators) }
+        ensures kept { OnOk result (Keeps id (drafts (standing_seen standing) (effect_seen effect) (initiators_seen initiators ∷ [])) self.old self.new) }
+        ensures count { self.new.count ≡ self.old.count }
+    {
+        let Standing {
+            lines,
+            filter,
+            hosts,
+        } = standing;
+        let hosts = into_hosts(alloc, hosts)?;
+        let rule = rule_of(alloc, id, &filter, hosts, effect, initiators)?;
         self.rules.push(rule)?;
         self.origins.push(lines)?;
         Ok(())

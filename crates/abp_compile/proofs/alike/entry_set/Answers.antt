@@ -1,7 +1,7 @@
 use Rattle.std.proofs.Common.{◌≡◌, ◌<◌, ◌+◌, ◌++◌, ◌∷◌, [], map, take, length, string_bytes, sym, ap, ◌∙◌, arith}
 use Rattle.std.proofs.lemmas.Grind.{take_at_read}
 use Rattle.std.proofs.lemmas.List.{map-append}
-use Rattle.compile_spec.specs.Alike.{written_entry, set_of_entries}
+use Rattle.compile_spec.specs.Alike.{written_entry}
 use Rattle.abp_compile.proofs.Turned.{inserted, put_behind}
 use Rattle.abp_compile.proofs.alike.entry_set.Goals as goal
 

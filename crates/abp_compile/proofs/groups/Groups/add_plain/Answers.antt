@@ -1,4 +1,4 @@
-use Rattle.std.proofs.Common.{◌≡◌, map, string_bytes, sym, ap, ◌∙◌, arith}
+use Rattle.std.proofs.Common.{map, string_bytes, sym, ap, ◌∙◌, arith}
 use Rattle.abp_parse.specs.Seen.{filter_seen}
 use Rattle.abp_compile.specs.Alike.{has_key}
 use Rattle.abp_compile.specs.Groups.{first_place, firsts}

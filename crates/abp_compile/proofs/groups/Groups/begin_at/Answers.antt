@@ -1,4 +1,4 @@
-use Rattle.std.proofs.Common.{◌≡◌, ◌∷◌, ◌++◌, [], map, length, string_bytes, arith}
+use Rattle.std.proofs.Common.{◌≡◌, ◌∷◌, [], map, length, string_bytes, arith}
 use Rattle.abp_parse.specs.Seen.{filter_seen}
 use Rattle.abp_compile.proofs.Taken.{found_new}
 use Rattle.abp_compile.proofs.groups.Groups.begin_at.Goals as goal

@@ -1,8 +1,5 @@
-use Rattle.std.proofs.Common.{◌≡◌, length, arith, sym, ap, subst, List}
-use Rattle.compile_spec.specs.Compiled.{Draft}
-use Rattle.compile_spec.specs.Initiators.{Initiators}
+use Rattle.std.proofs.Common.{◌≡◌, length, arith}
 use Rattle.abp_compile.specs.Seen.{standing_seen, effect_seen, initiators_seen, in_common_of}
-use Rattle.abp_compile.specs.Work.{drafts, Keeps}
 use Rattle.abp_compile.proofs.Named.{one_if, all_named, only_given}
 use Rattle.abp_compile.proofs.work.Work.keep_common.Goals as goal
 
