@@ -50,7 +50,7 @@ refused_ends o k before now text ended whole meanwhile (inl (is, taken)) = run_a
 refused_ends o k before now text ended whole meanwhile (inr (is, rose, part)) =
     run_as o k before now status.WriteFault ended is (part.sent, part.taken, (rose, begins k.Meanwhile before now text meanwhile part))
 
-memory_ends : (o : Outside) (k : Conduct) (before now : Option (List ℕ)) (ended : Status) → ended ≡ status.NoMemory → now ≡ before → IsRun before now (EndsBy o k ended)
+pub memory_ends : (o : Outside) (k : Conduct) (before now : Option (List ℕ)) (ended : Status) → ended ≡ status.NoMemory → now ≡ before → IsRun before now (EndsBy o k ended)
 memory_ends o k before now ended is same = run_as o k before now status.NoMemory ended is ([], still_nothing before now same, inl refl)
 
 -- the text is what the command writes to the last byte

@@ -19,7 +19,8 @@ use Rattle.session_spec.specs.Answers.{Setting, HostRisesBy}
 use Rattle.session_spec.specs.Loading.{Loaded}
 use Rattle.session_spec.specs.Out.{Outside, Session, LoadsFor, takes_updates, workers_of, in_rounds, conduct_of, EndsBy}
 use Rattle.session_spec.specs.Refusals.{install_line, count_line, unsupported_lines}
-use Rattle.session_spec.specs.Words.{Task}
+use Rattle.session_spec.specs.Sample.{IsSampled}
+use Rattle.session_spec.specs.Words.{Sample, Task}
 use Rattle.session_laws.specs.Turns.{counts_between}
 
 -- what was written is as it may be
@@ -63,6 +64,12 @@ EndsStop before now sink stop.NoMemory ended = (ended ≡ status.NoMemory) × (n
 abbrev pub EndsWith : Option (List ℕ) → Option (List ℕ) → Count → List ℕ → Status → Type 0
 EndsWith before now sink text ended =
     EndsText before now sink text status.Done ended ⊎ ((ended ≡ status.NoMemory) × (now ≡ before))
+
+-- the summary of the sample's session was written as the end of a run, or memory ran out for it
+abbrev pub EndsSample : Sample → Option (List ℕ) → Option (List ℕ) → Count → Status → Type 0
+EndsSample sample before now sink ended =
+    ((text : List ℕ) × IsSampled sample text × EndsText before now sink text status.Done ended)
+    ⊎ ((ended ≡ status.NoMemory) × (now ≡ before))
 
 -- what `compile` prints of a list
 abbrev pub text_of : CompiledList → List ℕ

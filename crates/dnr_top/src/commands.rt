@@ -12,6 +12,7 @@ ghost use Rattle.dnr_top.specs.Run.{EndsWith, MayEnd, count, outside};
 
 use crate::compiling::text_of;
 use crate::ending::{stop_with, write_to_end};
+use crate::sampling::make_sample;
 use crate::session::serve;
 use dnr_base::NoMemory;
 use dnr_io::{Shelf, Sink, Status};
@@ -32,6 +33,7 @@ use std::alloc::Global;
 /// - `compile LIST` reads the filter list LIST and prints the rules that say what it says.
 /// - `serve [--workers N] [--psl F] [--ext NAME].. [--list NAME=F].. SCRIPT` installs extensions and filter lists, and
 ///   serves the file SCRIPT: its requests are answered, its updates applied, round by round.
+/// - `sample SEED RULES REQUESTS UPDATES` holds a session that is made from the number SEED, and sums it up.
 ///
 /// With `Done` and `Refused` all of the output was written. A session that can't go on has written the rounds before
 /// that, or a beginning of what it may write.
@@ -73,6 +75,7 @@ pub fn run<F: Shelf, O: Sink, H: RegexHost>(
         Some(Task::Serve(serving)) => {
             serve_script(alloc, &serving, shelf, out, checker, finders)
         }
+        Some(Task::Sample(sample)) => make_sample(alloc, &sample, out),
         None => Status::Usage,
     }
 }

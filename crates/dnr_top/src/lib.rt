@@ -4,6 +4,7 @@
 mod commands;
 mod compiling;
 mod ending;
+mod sampling;
 mod session;
 
 pub use commands::run;

@@ -1,9 +1,10 @@
 use Rattle.std.proofs.Common.{◌∷◌, ap, sym, ◌∙◌, length, map, Some, slice_index_or, string_bytes}
 use Rattle.session_laws.proofs.Rises.{none_fell_yet}
 use Rattle.dnr_words.specs.Seen.{task_seen}
-use Rattle.session_spec.specs.Words.{match_files, check_file, compile_file, serve_script}
-use Rattle.dnr_top.specs.Run.{count}
+use Rattle.session_spec.specs.Words.{match_files, check_file, compile_file, serve_script, make_sample}
+use Rattle.dnr_top.specs.Run.{count, outside}
 use Rattle.dnr_top.proofs.Hosts.{run_out, run_hosts}
+use Rattle.dnr_top.proofs.Sampled.{sample_ends}
 use Rattle.dnr_top.proofs.commands.run.Goals as goal
 
 pub returns-in-Some-Match-clause-allowed : goal.returns-in-Some-Match-clause-allowed
@@ -57,6 +58,28 @@ pub returns-in-Some-Serve-clause-hosts : goal.returns-in-Some-Serve-clause-hosts
 returns-in-Some-Serve-clause-hosts g c =
     run_hosts g.H.RegexHost.faults c.args.hosts.now.items c.split_at_mut-checkers.result.0.now c.split_at_mut-checkers.result.1.now c.serve_script.new.finders _
     c.index-checkers-0.result c.serve_script.new.checker (sym (ap length c.deref_mut.ensures.value) ∙ c.deref_mut.ensures.len) (sym c.deref_mut.ensures.value ∙ c.split_at_mut-checkers.ensures.value) c.split_at_mut-checkers.ensures.front_len c.serve_script.ensures.later
+
+pub returns-in-Some-Sample-clause-allowed : goal.returns-in-Some-Sample-clause-allowed
+returns-in-Some-Sample-clause-allowed g c =
+    let front = c.split_at_mut-checkers.result.0.now in
+    let back = c.split_at_mut-checkers.result.1.now in
+    let first = slice_index_or front 0 c.index-checkers-0.result in
+    let faults = g.H.RegexHost.faults first ∷ map g.H.RegexHost.faults back in
+    let shelf = count (g.F.Source.faults c.args.shelf.now) (g.F.Source.faults c.args.shelf.now) in
+    let sink = count (g.O.Sink.faults c.args.out.now) (g.O.Sink.faults c.make_sample.new.out) in
+    let left = g.F.Source.left c.args.shelf.now in
+    run_out g.H.RegexHost.faults (g.F.Source.files c.args.shelf.now) c.args.hosts.now.items front back back _ c.index-checkers-0.result first shelf sink
+    left (map string_bytes c.args.words.now) (make_sample c.in-Some-Sample.sample) (g.O.Sink.taken c.args.out.now) (g.O.Sink.taken c.make_sample.new.out) c.make_sample.result
+    (sym (ap length c.deref_mut.ensures.value) ∙ c.deref_mut.ensures.len) (sym c.deref_mut.ensures.value ∙ c.split_at_mut-checkers.ensures.value) c.split_at_mut-checkers.ensures.front_len (none_fell_yet faults)
+    (sym c.in-Some-Sample.ensures ∙ ap (λ t. Some (task_seen t)) c.in-Some-Sample.field-0-is)
+    (sample_ends (g.F.Source.files c.args.shelf.now) (outside shelf sink faults faults left) c.in-Some-Sample.sample (g.O.Sink.taken c.args.out.now) (g.O.Sink.taken c.make_sample.new.out) c.make_sample.result c.make_sample.ensures.ends)
+
+pub returns-in-Some-Sample-clause-hosts : goal.returns-in-Some-Sample-clause-hosts
+returns-in-Some-Sample-clause-hosts g c =
+    run_hosts g.H.RegexHost.faults c.args.hosts.now.items c.split_at_mut-checkers.result.0.now c.split_at_mut-checkers.result.1.now c.split_at_mut-checkers.result.1.now _
+    c.index-checkers-0.result (slice_index_or c.split_at_mut-checkers.result.0.now 0 c.index-checkers-0.result)
+    (sym (ap length c.deref_mut.ensures.value) ∙ c.deref_mut.ensures.len) (sym c.deref_mut.ensures.value ∙ c.split_at_mut-checkers.ensures.value) c.split_at_mut-checkers.ensures.front_len
+    (none_fell_yet (g.H.RegexHost.faults (slice_index_or c.split_at_mut-checkers.result.0.now 0 c.index-checkers-0.result) ∷ map g.H.RegexHost.faults c.split_at_mut-checkers.result.1.now))
 
 pub returns-in-None-clause-hosts : goal.returns-in-None-clause-hosts
 returns-in-None-clause-hosts g c =
