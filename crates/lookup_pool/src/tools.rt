@@ -17,14 +17,7 @@ pub fn round_with_tools<
     T: Send,
     S: ToolSeat<C, T> + Send,
     G: Gate + Sync,
->(
-    rt: &R,
-    gate: &G,
-    shared: &C,
-    writer: &mut W,
-    seats: &mut [S],
-    tools: &mut [T],
-)
+>(rt: &R, gate: &G, shared: &C, writer: &mut W, seats: &mut [S], tools: &mut [T])
     requires writer { W.can_write shared.now writer.old }
     requires seats { All (S.can_work shared.now) seats.old }
     requires tools { length tools.old ≡ length seats.old }
@@ -49,13 +42,13 @@ pub fn round_with_tools<
 
 // The work of each seat with the tool at its place.
 #[cycle(seats)]
-fn work_all<
-    R: Threads + Sync,
-    C: Sync,
-    T: Send,
-    S: ToolSeat<C, T> + Send,
-    G: Gate + Sync,
->(rt: &R, gate: &G, shared: &C, seats: &mut [S], tools: &mut [T])
+fn work_all<R: Threads + Sync, C: Sync, T: Send, S: ToolSeat<C, T> + Send, G: Gate + Sync>(
+    rt: &R,
+    gate: &G,
+    shared: &C,
+    seats: &mut [S],
+    tools: &mut [T],
+)
     requires seats { All (S.can_work shared.now) seats.old }
     requires tools { length tools.old ≡ length seats.old }
     ensures worked { AllZip (S.worked shared.now) seats.old seats.new }
@@ -78,13 +71,7 @@ fn work_all<
 
 // The work of a seat beside that of the others.
 #[cycle(seats)]
-fn work_beside<
-    R: Threads + Sync,
-    C: Sync,
-    T: Send,
-    S: ToolSeat<C, T> + Send,
-    G: Gate + Sync,
->(
+fn work_beside<R: Threads + Sync, C: Sync, T: Send, S: ToolSeat<C, T> + Send, G: Gate + Sync>(
     rt: &R,
     gate: &G,
     shared: &C,
