@@ -7,9 +7,13 @@
 mod gate;
 mod parts;
 mod pool;
+mod shared;
 #[cfg(test)]
 mod tests;
+mod tools;
 
 pub use gate::{Gate, NoGate};
 pub use parts::{RoundWriter, Seat};
 pub use pool::round;
+pub use shared::{SharedWriter, ToolSeat};
+pub use tools::round_with_tools;

@@ -1,4 +1,5 @@
-ghost use Rattle.std.specs.Prelude.{◌≡◌};
+ghost use Rattle.std.specs.Prelude.{◌≡◌, length, IsTrue};
+ghost use mathlib.Core.List.{IsPrefix};
 
 use crate::{Entry, Pair};
 use history::Log;
@@ -31,6 +32,27 @@ impl<P: Pair> Note<P> {
             log,
             of: PhantomData,
         }
+    }
+
+    /// An equal note.
+    pub fn again(&self) -> Note<P>
+        ensures { result ≡ self.now }
+    {
+        Note::new(self.log.again())
+    }
+
+    /// The count of the updates and batches that it tells of.
+    pub fn number(&self) -> u32
+        ensures { result ≡ length self.now }
+    {
+        self.log.len()
+    }
+
+    /// Whether it tells of no more than another note of the pair, which then goes on from it.
+    pub fn begins(&self, other: &Note<P>) -> bool
+        ensures { IsTrue result → IsPrefix self.now other.now }
+    {
+        other.log.covers(&self.log)
     }
 
     pub(crate) fn log(&self) -> &Log<Entry>

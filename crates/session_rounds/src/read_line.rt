@@ -1,0 +1,31 @@
+ghost use Rattle.std.specs.Prelude.{◌≡◌};
+ghost use Rattle.session_rounds.specs.Lines.{is_asking};
+
+use script_read::{Command, LineFault};
+
+/// A line of a round, as it was read.
+#[derive(Debug, Drop)]
+pub struct ReadLine {
+    /// Its number, from 1.
+    pub number: u32,
+    /// What it asks for, or what is wrong with it.
+    pub read: Result<Command, LineFault>,
+}
+
+impl ReadLine {
+    /// Whether it asks a seat.
+    pub fn asks(&self) -> bool
+        ensures { result ≡ is_asking self.now }
+    {
+        match &self.read {
+            Ok(Command::Request(_) | Command::Explain(_)) => true,
+            Ok(Command::Blank | Command::Sync | Command::Update(_) | Command::Batch(_)) => false,
+            Err(_) => false,
+        }
+    }
+
+    /// Whether it asks for an update, or for several.
+    pub fn updates(&self) -> bool {
+        matches!(&self.read, Ok(Command::Update(_) | Command::Batch(_)))
+    }
+}
