@@ -1,8 +1,9 @@
-ghost use Rattle.std.specs.Prelude.{◌≡◌, ◌≤◌, length, IfSome, IfOk, MatchOption};
+ghost use Rattle.std.specs.Prelude.{◌≡◌, ◌≤◌, ◌+◌, length, IfSome, IfOk, MatchOption};
 ghost use mathlib.Core.List.{IsPrefix};
 ghost use Rattle.dnr_base.specs.Request.{max_frames};
 ghost use Rattle.explain_spec.specs.Explanation.{explanation_of};
 ghost use Rattle.generation.specs.Refused.{Ends};
+ghost use Rattle.index_spec.specs.Pairs.{pairs_of};
 ghost use Rattle.left_right.specs.Sides.{view};
 ghost use Rattle.rule_spec.specs.PatternRule.{NamesPattern};
 ghost use Rattle.rule_spec.specs.Scan.{scan};
@@ -44,6 +45,8 @@ pub fn look<P: Pair, H: RegexHost, L: Ledger>(
         ≡ scan P.opening.suffixes (replay P.opening.state found.0.list) request.now)) }
     ensures ends { MatchOption result.1 (H.faults host.new ≡ H.faults host.old)
         (λ found. Ends (NamesPattern (replay P.opening.state found.0.list)) (H.faults host.old) (H.faults host.new) found.1) }
+    ensures bound { MatchOption result.1 (steps.new ≡ steps.old)
+        (λ found. steps.new ≤ steps.old + pairs_of (replay P.opening.state found.0.list) request.now) }
 {
     match reader.enter_as::<GoesOn<P>>() {
         Ok(reading) => {
@@ -71,6 +74,8 @@ pub fn look_into<P: Pair, H: RegexHost, L: Ledger>(
         ≡ explanation_of P.opening.suffixes (replay P.opening.state found.0.list) request.now)) }
     ensures ends { MatchOption result.1 (H.faults host.new ≡ H.faults host.old)
         (λ found. Ends (NamesPattern (replay P.opening.state found.0.list)) (H.faults host.old) (H.faults host.new) found.1) }
+    ensures bound { MatchOption result.1 (steps.new ≡ steps.old)
+        (λ found. steps.new ≤ steps.old + pairs_of (replay P.opening.state found.0.list) request.now) }
 {
     match reader.enter_as::<GoesOn<P>>() {
         Ok(reading) => {

@@ -1,7 +1,8 @@
-ghost use Rattle.std.specs.Prelude.{◌≡◌, ◌≤◌, [], length, IsTrue, IsFalse, IfOk};
+ghost use Rattle.std.specs.Prelude.{◌≡◌, ◌≤◌, ◌+◌, [], length, IsTrue, IsFalse, IfOk};
 ghost use mathlib.Core.List.{IsPrefix};
 ghost use Rattle.dnr_base.specs.Request.{max_frames};
 ghost use Rattle.explain_spec.specs.Explanation.{explanation_of};
+ghost use Rattle.index_spec.specs.Pairs.{pairs_of};
 ghost use Rattle.rule_spec.specs.Scan.{scan};
 ghost use Rattle.update_spec.specs.Entries.{replay};
 ghost use Rattle.published.specs.Refused.{EndsAfter};
@@ -69,6 +70,7 @@ impl<P: Pair> ReaderPass<P> {
         ensures verdict { IfOk result (λ answer. answer.verdict
             ≡ scan P.opening.suffixes (replay P.opening.state self.new) request.now) }
         ensures ends { EndsAfter P.opening self.new (H.faults host.old) (H.faults host.new) result }
+        ensures bound { steps.new ≤ steps.old + pairs_of (replay P.opening.state self.new) request.now }
     {
         let (reader, found) = look(self.reader.take().unwrap(), alloc, request, host, steps);
         self.reader = Some(reader);
@@ -103,6 +105,7 @@ impl<P: Pair> ReaderPass<P> {
         ensures explanation { IfOk result (λ answer. answer.explanation
             ≡ explanation_of P.opening.suffixes (replay P.opening.state self.new) request.now) }
         ensures ends { EndsAfter P.opening self.new (H.faults host.old) (H.faults host.new) result }
+        ensures bound { steps.new ≤ steps.old + pairs_of (replay P.opening.state self.new) request.now }
     {
         let (reader, found) = look_into(self.reader.take().unwrap(), alloc, request, host, steps);
         self.reader = Some(reader);
