@@ -1,0 +1,14 @@
+//! Tests of `published` over its public calls: what passes answer as a writer swaps, on one thread and on several. A
+//! crate with tests is proved twice, so they stand here and not beside what they call.
+#![tactic(auto)]
+
+#[cfg(test)]
+mod answers;
+#[cfg(test)]
+mod fixtures;
+#[cfg(test)]
+mod passes;
+#[cfg(test)]
+mod swaps;
+#[cfg(test)]
+mod threads;
