@@ -1,0 +1,29 @@
+"""What both measures share: a run of a program, its time and its memory."""
+import os
+import resource
+import subprocess
+
+RUNS = 3
+# A process that Python starts would count Python's own memory as its peak.
+TIME = "/usr/bin/time"
+
+
+def seconds_of_children():
+    used = resource.getrusage(resource.RUSAGE_CHILDREN)
+    return used.ru_utime + used.ru_stime
+
+
+def run(words, output, folder=None):
+    """Runs a program once: its seconds of the processor, and its peak memory in MiB (0 where that can't be measured)."""
+    peak = output.with_name("peak")
+    meter = [TIME, "-f", "%M", "-o", peak] if os.access(TIME, os.X_OK) else []
+    with open(output, "wb") as out:
+        begun = seconds_of_children()
+        subprocess.run([*meter, *words], stdout=out, cwd=folder, check=True)
+        seconds = seconds_of_children() - begun
+    return seconds, int(peak.read_text()) / 1024 if meter else 0.0
+
+
+def best(words, output, folder=None):
+    """The least seconds and the least peak memory of some runs."""
+    return tuple(map(min, zip(*(run(words, output, folder) for _ in range(RUNS)))))
