@@ -1,0 +1,5 @@
+pub mod Lines
+pub mod SoFar
+pub mod Endings
+pub mod Seats
+pub mod Settling

@@ -1,0 +1,4 @@
+pub mod Reading
+pub mod Seats
+pub mod Writing
+pub mod Rounds
