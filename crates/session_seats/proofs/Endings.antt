@@ -181,9 +181,9 @@ round_cut opening seats before middle now was checker is finders others script r
     fresh so_far.fell taken.rises so_far.served taken.lines cuts.answered in (
       length all,
       part_written before middle now (counts_between was (is ∷ others)) (serving opening.suffixes seats) opening.state (some_rounds (length all) script) so_far.written cuts.text so_far.taken cuts.part
-      (subst (λ rs. Serves (counts_between was (is ∷ others)) (serving opening.suffixes seats) opening.state rs (so_far.written ++ cuts.text))
-      (sym (rounds_first script rest (so_far.done ++ line ∷ []) queue all [] holds_nothing ((given + 1) + length queue) ((given + 1) + 1) (omega (arith, few)) taken.read cut))
-      (serves_rounds (serving opening.suffixes seats) opening.state (counts_between was (is ∷ others)) all [] (so_far.written ++ cuts.text) [] (replay opening.state cuts.end) holds_nothing (so_far.start + length (so_far.begun ++ line ∷ [])) served)),
+          (subst (λ rs. Serves (counts_between was (is ∷ others)) (serving opening.suffixes seats) opening.state rs (so_far.written ++ cuts.text))
+          (sym (rounds_first script rest (so_far.done ++ line ∷ []) queue all [] holds_nothing ((given + 1) + length queue) ((given + 1) + 1) (omega (arith, few)) taken.read cut))
+          (serves_rounds (serving opening.suffixes seats) opening.state (counts_between was (is ∷ others)) all [] (so_far.written ++ cuts.text) [] (replay opening.state cuts.end) holds_nothing (so_far.start + length (so_far.begun ++ line ∷ [])) served)),
     )
 
 not_written : (opening : Basis) (seats : ℕ) (before middle now : Option (List ℕ)) (was : List ℕ) (checker is : ℕ) (finders others : List ℕ) (script rest : List ℕ) (left : Option (List ℕ)) (given : ℕ) (queue : List (List ℕ)) (round whole : ReadRound) (list : List Entry) (line : List ℕ) (why : ServeStop)
@@ -284,7 +284,7 @@ not_last opening seats before middle now was checker finders others script rest 
     inr (
       all_within (Some script) (Some rest) so_far.done given (plain_read script rest so_far.done given so_far.read) at_end few,
       part_written before middle now (counts_between was (checker ∷ others)) (serving opening.suffixes seats) opening.state (rounds_of (lines_of script)) so_far.written stops.text so_far.taken stops.part
-      (last_served opening seats before middle was checker finders others script rest given round list stops.end stops.text fresh at_end some so_far stops.answered),
+          (last_served opening seats before middle was checker finders others script rest given round list stops.end stops.text fresh at_end some so_far stops.answered),
     )
 not_last opening seats before middle now was checker finders others script rest left given round list stop.TooLong fresh few at_end some fell so_far stops = absurd stops
 not_last opening seats before middle now was checker finders others script rest left given round list stop.NoMemory fresh few at_end some fell so_far stops =

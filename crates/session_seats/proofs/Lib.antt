@@ -1,5 +1,6 @@
 pub mod Lines
+pub mod Readings
 pub mod SoFar
 pub mod Endings
 pub mod Seats
-pub mod Settling
+pub mod Settled

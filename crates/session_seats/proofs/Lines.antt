@@ -33,6 +33,8 @@ one_read number next [] [] stops line read more place same so_far one =
     (only number line read more (same ∙ here) (subst (λ (n : ℕ). LineReads n line (read_seen read.read) more) here one))
 one_read number next [] (at ∷ reads) stops line read more place same so_far one = absurd so_far
 one_read number next (first ∷ lines) [] stops line read more place same so_far one = absurd so_far
-one_read number next (first ∷ lines) (at ∷ reads) stops line read more place same so_far one =
-    (so_far.0, on number first (read_seen at.read) stops more (λ left. LinesRead (number + 1) lines reads left) (λ left. LinesRead (number + 1) (lines ++ line ∷ []) (reads ++ read ∷ []) left)
-    (λ left rest. one_read (number + 1) next lines reads left line read more (omega (arith, place)) same rest one) so_far.1)
+one_read number next (first ∷ lines) (at ∷ reads) stops line read more place same so_far one = (
+  so_far.0,
+  on number first (read_seen at.read) stops more (λ left. LinesRead (number + 1) lines reads left) (λ left. LinesRead (number + 1) (lines ++ line ∷ []) (reads ++ read ∷ []) left)
+      (λ left rest. one_read (number + 1) next lines reads left line read more (omega (arith, place)) same rest one) so_far.1,
+)

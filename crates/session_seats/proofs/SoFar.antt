@@ -153,13 +153,13 @@ pub line_taken : (opening : Basis) (seats : ℕ) (before now : Option (List ℕ)
 line_taken opening seats before now was checker is finders script rest given queue round list line reads so_far takes =
     let same : given + length (line ∷ queue) ≡ (given + 1) + length queue = omega arith in
     record {
-      all = so_far.stops + takes.stops;
+      all = so_far.stops + takes.has.stops;
       read = subst (λ (n : ℕ). IsReadSoFar script rest ((so_far.done ++ line ∷ []) ++ queue) n) same
           (subst (λ (ls : List (List ℕ)). IsReadSoFar script rest ls (given + length (line ∷ queue))) (sym (append_assoc so_far.done (line ∷ []) queue)) so_far.read);
-      lines = subst (λ (rs : List ReadLine). LinesRead so_far.start (so_far.begun ++ line ∷ []) rs (so_far.stops + takes.stops)) (sym takes.appended)
-          (lines.one_read so_far.start (given + 1) so_far.begun round.reads so_far.stops line takes.read takes.stops so_far.here takes.numbered so_far.lines takes.reads);
+      lines = subst (λ (rs : List ReadLine). LinesRead so_far.start (so_far.begun ++ line ∷ []) rs (so_far.stops + takes.has.stops)) (sym takes.appended)
+          (lines.one_read so_far.start (given + 1) so_far.begun round.reads so_far.stops line takes.read takes.has.stops so_far.here takes.has.numbered so_far.lines takes.has.reads);
       here = omega (arith, so_far.here, length-append so_far.begun (line ∷ []));
-      rises = omega (arith, so_far.rises, takes.rises);
+      rises = omega (arith, so_far.rises, takes.has.rises);
     }
 
 -- the round goes on with the line

@@ -4,8 +4,8 @@ use Rattle.line_spec.specs.Line.{Command, command_of}
 use Rattle.line_spec.specs.Stops.{StopsInLine}
 use Rattle.line_spec.specs.declared.line_fault.LineFault.{LineFault}
 use Rattle.session_spec.specs.Answers.{RisesBy}
-use Rattle.session_spec.specs.Rounds.{Held, asks}
-use Rattle.session_rounds.specs.Lines.{read_seen}
+use Rattle.session_spec.specs.Rounds.{Held, is_sync, asks}
+use Rattle.session_rounds.specs.Lines.{read_seen, IsLine}
 use Rattle.session_rounds.specs.declared.read_line.ReadLine.{ReadLine}
 
 -- the lines of a round so far, and how much it holds
@@ -20,11 +20,26 @@ LineReads number line (Err fault) stops =
     ((command_of number line ≡ Err fault) × (stops ≡ 0))
     ⊎ (StopsInLine line fault × (asks (command_of number line) ≡ 0) × (stops ≡ 1))
 
--- the line of this number was taken in, and the count of the host's faults rose with what it reads as
-pub record ReadsLine (number : ℕ) (line : List ℕ) (was is : ℕ) (before now : List ReadLine) : Type 0 where
-  pub read : ReadLine
+-- the line of this number was read, and the count of the host's faults rose with what it reads as
+pub record HasRead (number : ℕ) (line : List ℕ) (was is : ℕ) (read : ReadLine) : Type 0 where
   pub stops : ℕ
-  pub appended : now ≡ before ++ read ∷ []
   pub numbered : read.number ≡ number
   pub reads : LineReads number line (read_seen read.read) stops
   pub rises : RisesBy stops (record { before = was; now = is })
+  pub within : IsLine read
+  pub syncs : is_sync (command_of number line) ≡ is_sync (read_seen read.read)
+  pub asks : asks (command_of number line) ≡ asks (read_seen read.read)
+
+-- a line of so many bytes more
+abbrev pub held_with : Held → ℕ → ReadLine → Held
+held_with held bytes read = record {
+  lines = held.lines + 1;
+  bytes = held.bytes + bytes;
+  asked = held.asked + asks (read_seen read.read);
+}
+
+-- the line was read so, and taken in
+pub record ReadsLine (number : ℕ) (line : List ℕ) (was is : ℕ) (before now : List ReadLine) : Type 0 where
+  pub read : ReadLine
+  pub has : HasRead number line was is read
+  pub appended : now ≡ before ++ read ∷ []

@@ -49,12 +49,7 @@ impl<P: Pair> Model for Desk<P> {
 
 impl<P: Pair> Desk<P> {
     /// A seat that has answered nothing.
-    pub fn new(
-        alloc: Global,
-        seat: usize,
-        seats: usize,
-        pass: Option<ReaderPass<P>>,
-    ) -> Desk<P>
+    pub fn new(alloc: Global, seat: usize, seats: usize, pass: Option<ReaderPass<P>>) -> Desk<P>
         requires { 0 < seats }
         ensures { result.seats ≡ seats }
     {
@@ -115,7 +110,11 @@ impl<P: Pair> Desk<P> {
             return None;
         }
         let answered = self.answers.get(turn)?;
-        if answered.place == place { Some(answered) } else { None }
+        if answered.place == place {
+            Some(answered)
+        } else {
+            None
+        }
     }
 
     // Answers the line at this place.
@@ -190,6 +189,8 @@ fn answer_by<P: Pair, H: RegexHost>(
     match &line.read {
         Ok(Command::Request(request)) => decided(alloc, pass, place, line.number, request, host),
         Ok(Command::Explain(request)) => explained(alloc, pass, place, line.number, request, host),
-        Ok(Command::Blank | Command::Sync | Command::Update(_) | Command::Batch(_)) | Err(_) => Ok(None),
+        Ok(Command::Blank | Command::Sync | Command::Update(_) | Command::Batch(_)) | Err(_) => Ok(
+            None,
+        ),
     }
 }

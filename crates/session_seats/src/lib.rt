@@ -13,6 +13,7 @@ mod answered;
 mod desk;
 mod gathering;
 mod office;
+mod reading;
 mod round_lines;
 mod rounds;
 mod serving;

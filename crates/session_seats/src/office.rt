@@ -255,7 +255,12 @@ impl<P: Pair> SharedWriter<RoundLines> for Office<P> {
     }
 }
 
-fn refuse_update(alloc: Global, line: u32, refusal: Refusal, into: &mut String) -> Result<(), NoMemory>
+fn refuse_update(
+    alloc: Global,
+    line: u32,
+    refusal: Refusal,
+    into: &mut String,
+) -> Result<(), NoMemory>
     ensures { OnOk result (IsNamed refusal × (string_bytes into.new ≡ string_bytes into.old ++ refused_line line refusal)) }
 {
     match refusal {
@@ -274,6 +279,11 @@ fn refuse_batch(
 {
     match refusal.cause {
         Refusal::NoMemory => Err(NoMemory),
-        cause => write_reply(alloc, line, &Reply::BatchRefused(refusal.place, cause), into),
+        cause => write_reply(
+            alloc,
+            line,
+            &Reply::BatchRefused(refusal.place, cause),
+            into,
+        ),
     }
 }

@@ -1,13 +1,11 @@
 //! The lines of a round, as they were read.
-ghost use Rattle.std.specs.Prelude.{◌≡◌, ◌≤◌, [], false, length, All, IfOk, OnOk, IsTrue};
+ghost use Rattle.std.specs.Prelude.{◌≡◌, ◌≢◌, ◌≤◌, ◌++◌, ◌∷◌, ◌||◌, [], false, All, IfOk, OnOk, IsTrue, IsFalse};
 ghost use Rattle.dnr_spec.specs.Lines.{max_line};
-ghost use Rattle.session_rounds.specs.Lines.{IsLine};
-ghost use Rattle.session_spec.specs.Rounds.{holds_nothing, is_full, with_line, ends_round};
-ghost use Rattle.session_seats.specs.Reading.{ReadsLine};
+ghost use Rattle.session_rounds.specs.Lines.{IsLine, read_seen};
+ghost use Rattle.session_spec.specs.Rounds.{holds_nothing, is_full, is_sync};
+ghost use Rattle.session_seats.specs.Reading.{held_with};
 
 use dnr_base::NoMemory;
-use regex_host::RegexHost;
-use script_read::{Command, LineFault, Memo, read_line_with};
 use session_rounds::ReadLine;
 use std::alloc::Global;
 use std::marker::Model;
@@ -57,48 +55,31 @@ impl RoundLines {
         }
     }
 
-    /// Takes in the line of this number, and says whether the round ends with it. The checker is asked for the patterns
-    /// of updates.
-    pub fn read<H: RegexHost>(
-        &mut self,
-        alloc: Global,
-        number: u32,
-        line: &[u8],
-        memo: &mut Memo,
-        checker: &mut H,
-    ) -> Result<bool, NoMemory>
-        requires short { length line.now ≤ max_line }
+    /// Takes in one more line, of so many bytes, and says whether the round ends with it.
+    pub fn take(&mut self, line: ReadLine, bytes: usize) -> Result<bool, NoMemory>
+        requires short { bytes ≤ max_line }
         requires open { is_full self.old.held ≡ false }
-        ensures ends { IfOk result (λ ends. ends ≡ ends_round self.old.held number line.now) }
-        ensures held { OnOk result (self.new.held ≡ with_line self.old.held number line.now) }
-        ensures read { OnOk result (ReadsLine number line.now (H.faults checker.old) (H.faults checker.new) self.old.reads self.new.reads) }
-        ensures later { H.faults checker.old ≤ H.faults checker.new }
+        requires within { IsLine line }
+        ensures ends { IfOk result (λ ends. ends ≡ (is_sync (read_seen line.read) || is_full (held_with self.old.held bytes line))) }
+        ensures held { OnOk result (self.new.held ≡ held_with self.old.held bytes line) }
+        ensures appended { OnOk result (self.new.reads ≡ self.old.reads ++ line ∷ []) }
     {
-        let read = match read_line_with(alloc, number, line, memo, checker) {
-            Err(LineFault::NoMemory) => return Err(NoMemory),
-            read => read,
-        };
-        let syncs = matches!(&read, Ok(Command::Sync));
-        self.bytes += line.len();
-        self.push(ReadLine { number, read })?;
-        Ok(syncs || self.reads.len() >= MAX_LINES || self.bytes >= FULL_BYTES)
-    }
-
-    // One line more.
-    fn push(&mut self, line: ReadLine) -> Result<(), NoMemory> {
         let place = self.reads.len();
+        let syncs = line.syncs();
         let asks = line.asks();
         self.updates = self.updates || line.updates();
+        self.bytes += bytes;
         self.reads.push(line)?;
         if asks {
             self.asking.push(place)?;
         }
-        Ok(())
+        Ok(syncs || self.reads.len() >= MAX_LINES || self.bytes >= FULL_BYTES)
     }
 
     /// Whether there is no line.
     pub fn is_empty(&self) -> bool
-        ensures { IsTrue result → self.now.reads ≡ [] }
+        ensures none { IsTrue result → self.now.reads ≡ [] }
+        ensures some { IsFalse result → self.now.reads ≢ [] }
     {
         self.reads.is_empty()
     }

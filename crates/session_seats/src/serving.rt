@@ -9,6 +9,7 @@ ghost use Rattle.update_spec.specs.Entries.{replay};
 
 use crate::desk::Desk;
 use crate::office::Office;
+use crate::reading::read_one;
 use crate::round_lines::RoundLines;
 use crate::rounds::serve_round;
 use dnr_base::NoMemory;
@@ -185,7 +186,8 @@ fn serve_lines<
     let mut number = 0;
     while lines.next(source, &mut line)? {
         number += 1;
-        if round.read(alloc, number, &line, &mut memo, checker)? {
+        let read = read_one(alloc, number, &line, &mut memo, checker)?;
+        if round.take(read, line.len())? {
             serve_round(rt, alloc, gate, &round, office, desks, finders, out)?;
             round.clear();
         }

@@ -1,5 +1,5 @@
 //! What a round says, once all its parts have done their work.
-ghost use Rattle.std.specs.Prelude.{◌≡◌, ◌≤◌, ◌<◌, true, length, map, All, OnOk, IsTrue, IsFalse, string_bytes};
+ghost use Rattle.std.specs.Prelude.{◌≡◌, ◌≤◌, ◌<◌, true, length, map, All, OnOk, IsTrue, option_copied, string_bytes};
 ghost use mathlib.Core.List.{IsPrefix};
 ghost use Rattle.session_laws.specs.Turns.{NoneFell};
 ghost use Rattle.session_rounds.specs.Lines.{IsLine, is_asking, read_seen};
@@ -45,7 +45,7 @@ pub fn settle<P: Pair, H: RegexHost>(
     requires written { WriterSays P.opening floor.now reads.now office.now.texts office.now.list }
     ensures settled { OnOk result (Settled P.opening floor.now office.now.list (length desks.now) 0 floor.now reads.now office.now.list latest.old
         (string_bytes into.old) (string_bytes into.new) counted.old counted.new) }
-    ensures counted { NoneFell counted.new (map H.faults finders.new) }
+    ensures counted { OnOk result (NoneFell counted.new (map H.faults finders.new)) }
     ensures later { NoneFell (map H.faults finders.old) (map H.faults finders.new) }
 {
     let mut asked = 0;
@@ -93,7 +93,7 @@ fn say_answer<P: Pair, H: RegexHost>(
     requires above { length floor.now ≤ latest.old }
     requires below { latest.old ≤ length office.now.list }
     requires counted { counted.old ≤ H.faults finder.old }
-    requires said { MaySay P.opening line.now office.now.list said.now }
+    requires said { MaySay P.opening line.now office.now.list (option_copied said) }
     ensures told { OnOk result (SeatTold P.opening floor.now office.now.list line.now.number (read_seen line.now.read) latest.old latest.new
         (string_bytes into.old) (string_bytes into.new) counted.old counted.new) }
     ensures latest { (latest.old ≤ latest.new) × (latest.new ≤ length office.now.list) }
@@ -142,11 +142,27 @@ fn answer_anew<P: Pair, H: RegexHost>(
 {
     match &line.read {
         Ok(Command::Request(request)) => {
-            decide(alloc, office.generation(), line.number, request, finder, into)
+            decide(
+                alloc,
+                office.generation(),
+                line.number,
+                request,
+                finder,
+                into,
+            )
         }
         Ok(Command::Explain(request)) => {
-            explain(alloc, office.generation(), line.number, request, finder, into)
+            explain(
+                alloc,
+                office.generation(),
+                line.number,
+                request,
+                finder,
+                into,
+            )
         }
-        Ok(Command::Blank | Command::Sync | Command::Update(_) | Command::Batch(_)) | Err(_) => Ok(()),
+        Ok(Command::Blank | Command::Sync | Command::Update(_) | Command::Batch(_)) | Err(_) => Ok(
+            (),
+        ),
     }
 }

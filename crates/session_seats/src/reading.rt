@@ -1,0 +1,26 @@
+//! A line of a script, as a seat or the writer is to answer it.
+ghost use Rattle.std.specs.Prelude.{◌≤◌, IfOk};
+ghost use Rattle.session_seats.specs.Reading.{HasRead};
+
+use dnr_base::NoMemory;
+use regex_host::RegexHost;
+use script_read::{LineFault, Memo, read_line_with};
+use session_rounds::ReadLine;
+use std::alloc::Global;
+
+/// Reads the line of this number. The checker is asked for the patterns of updates.
+pub fn read_one<H: RegexHost>(
+    alloc: Global,
+    number: u32,
+    line: &[u8],
+    memo: &mut Memo,
+    checker: &mut H,
+) -> Result<ReadLine, NoMemory>
+    ensures read { IfOk result (HasRead number line.now (H.faults checker.old) (H.faults checker.new)) }
+    ensures later { H.faults checker.old ≤ H.faults checker.new }
+{
+    match read_line_with(alloc, number, line, memo, checker) {
+        Err(LineFault::NoMemory) => Err(NoMemory),
+        read => Ok(ReadLine { number, read }),
+    }
+}
