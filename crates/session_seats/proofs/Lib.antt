@@ -4,3 +4,5 @@ pub mod SoFar
 pub mod Endings
 pub mod Seats
 pub mod Settled
+pub mod Said
+pub mod Parts

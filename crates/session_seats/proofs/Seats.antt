@@ -1,6 +1,6 @@
 -- Answers of a seat, as it sees more, and when the round has ended.
-use Rattle.std.proofs.Common.{◌≡◌, ◌<◌, ◌≤◌, ℕ, zero, suc, List, [], ◌∷◌, length, get_or, Bool, true, false, Option, Some, None, refl, sym, ap, ◌∙◌, subst, arith, All}
-use Rattle.std.specs.Prelude.{IsTrue, IsSome, IfSome, string_bytes}
+use Rattle.std.proofs.Common.{◌≡◌, ◌<◌, ◌≤◌, ℕ, zero, suc, List, [], ◌∷◌, length, get_or, Bool, true, false, Option, Some, None, refl, sym, ap, ◌∙◌, subst, arith, All, Bor}
+use Rattle.std.specs.Prelude.{IsTrue, IsSome, IfSome, option_copied, string_bytes}
 use Rattle.std.specs.List.{Contains}
 use Rattle.std.proofs.lemmas.List.Elements.{All-contains}
 use mathlib.Core.List.{IsPrefix}
@@ -64,9 +64,9 @@ within opening reads end seen place line said inside there here learnt answers =
     }
 
 -- what a seat said to the line at this place may be said
-pub may_say : (opening : Basis) (reads : List ReadLine) (end : List Entry) (desk : DeskSeen) (place : ℕ) (line : ReadLine) (said : Option Answered) → place < length reads → line ≡ get_or reads place line → IsTrusted opening reads end desk
-    → (IsSome said → IsTrue desk.ready) → IfSome said (λ s. Contains desk.answers s × (s.place ≡ place)) → MaySay opening line end said
+pub may_say : (opening : Basis) (reads : List ReadLine) (end : List Entry) (desk : DeskSeen) (place : ℕ) (line : ReadLine) (said : Option (Bor Answered)) → place < length reads → line ≡ get_or reads place line → IsTrusted opening reads end desk
+    → (IsSome said → IsTrue desk.ready) → IfSome said (λ s. Contains desk.answers s.now × (s.now.place ≡ place)) → MaySay opening line end (option_copied said)
 may_say opening reads end desk place line None inside there trusted ready among = tt
 may_say opening reads end desk place line (Some said) inside there trusted ready among =
-    let all = trusted (ready tt) in
-    within opening reads end desk.seen place line said inside there among.1 all.learnt (All-contains (Answers opening reads desk.seen) desk.answers said all.all among.0)
+    let all = trusted (ready refl) in
+    within opening reads end desk.seen place line said.now inside there among.1 all.learnt (All-contains (Answers opening reads desk.seen) desk.answers said.now all.all among.0)

@@ -1,5 +1,5 @@
 -- One line that asks a seat, when the round has ended, and how that goes on.
-use Rattle.std.proofs.Common.{◌≡◌, ◌<◌, ◌≤◌, ◌+◌, ℕ, zero, suc, List, [], ◌∷◌, ◌++◌, length, map, set, get_or, replicate, Bool, true, false, Result, Ok, Err, OnOk, refl, sym, ap, ◌∙◌, subst, arith, length-append}
+use Rattle.std.proofs.Common.{◌≡◌, ◌<◌, ◌≤◌, ◌+◌, ℕ, zero, suc, List, [], ◌∷◌, ◌++◌, length, map, set, get_or, replicate, Bool, true, false, refl, sym, ap, ◌∙◌, subst, arith, length-append}
 use Rattle.std.specs.Prelude.{cond, string_bytes, IsTrue}
 use mathlib.Core.List.{IsPrefix}
 use Rattle.generation.specs.Basis.{Basis}
@@ -45,27 +45,24 @@ stands opening floor end line said least last before now was is begins above lat
       rises = subst (λ (b : Bool). RisesBy (cond b 1 0) (record { before = was; now = is })) (sym says.answer.kind) rises;
     }
 
-pub stands_calm : {T E : Type 0} (result : Result T E) (opening : Basis) (floor end : List Entry) (line : ReadLine) (said : Answered) (least last : ℕ) (before now : List ℕ) (was is : ℕ) → IsPrefix floor end → length floor ≤ least → least ≤ said.number → said.number ≤ length end
-    → SaysWithin opening line end said → OnOk result (now ≡ before ++ string_bytes said.text) → last ≡ said.number → said.failed ≡ false → is ≡ was
-    → OnOk result (SeatTold opening floor end line.number (read_seen line.read) least last before now was is)
-stands_calm (Err e) opening floor end line said least last before now was is begins above later within says grown same calm stays = tt
-stands_calm (Ok x) opening floor end line said least last before now was is begins above later within says grown same calm stays =
+pub stands_calm : (opening : Basis) (floor end : List Entry) (line : ReadLine) (said : Answered) (least last : ℕ) (before now : List ℕ) (was is : ℕ) → IsPrefix floor end → length floor ≤ least → least ≤ said.number → said.number ≤ length end
+    → SaysWithin opening line end said → now ≡ before ++ string_bytes said.text → last ≡ said.number → said.failed ≡ false → is ≡ was
+    → SeatTold opening floor end line.number (read_seen line.read) least last before now was is
+stands_calm opening floor end line said least last before now was is begins above later within says grown same calm stays =
     stands opening floor end line said least last before now was is begins above later within says grown same (told_calm said.failed was is calm stays)
 
-pub stands_failed : {T E : Type 0} (result : Result T E) (opening : Basis) (floor end : List Entry) (line : ReadLine) (said : Answered) (least last : ℕ) (before now : List ℕ) (was is : ℕ) → IsPrefix floor end → length floor ≤ least → least ≤ said.number → said.number ≤ length end
-    → SaysWithin opening line end said → OnOk result (now ≡ before ++ string_bytes said.text) → last ≡ said.number → is ≡ was + 1
-    → OnOk result (SeatTold opening floor end line.number (read_seen line.read) least last before now was is)
-stands_failed (Err e) opening floor end line said least last before now was is begins above later within says grown same up = tt
-stands_failed (Ok x) opening floor end line said least last before now was is begins above later within says grown same up =
+pub stands_failed : (opening : Basis) (floor end : List Entry) (line : ReadLine) (said : Answered) (least last : ℕ) (before now : List ℕ) (was is : ℕ) → IsPrefix floor end → length floor ≤ least → least ≤ said.number → said.number ≤ length end
+    → SaysWithin opening line end said → now ≡ before ++ string_bytes said.text → last ≡ said.number → is ≡ was + 1
+    → SeatTold opening floor end line.number (read_seen line.read) least last before now was is
+stands_failed opening floor end line said least last before now was is begins above later within says grown same up =
     stands opening floor end line said least last before now was is begins above later within says grown same (told_fault said.failed was is up)
 
 -- ---- what is decided anew
 
-pub anew : {T E : Type 0} (result : Result T E) (opening : Basis) (floor end : List Entry) (line : ReadLine) (least last : ℕ) (before now : List ℕ) (counted was is : ℕ) → opening.state.count ≡ 0 → IsPrefix floor end → least ≤ length end → last ≡ length end → counted ≤ was
-    → is_asking line ≡ true → OnOk result (AnsweredAnew opening end line before now was is)
-    → OnOk result (SeatTold opening floor end line.number (read_seen line.read) least last before now counted is)
-anew (Err e) opening floor end line least last before now counted was is fresh begins below same rose asks told = tt
-anew (Ok x) opening floor end line least last before now counted was is fresh begins below same rose asks told =
+pub anew : (opening : Basis) (floor end : List Entry) (line : ReadLine) (least last : ℕ) (before now : List ℕ) (counted was is : ℕ) → opening.state.count ≡ 0 → IsPrefix floor end → least ≤ length end → last ≡ length end → counted ≤ was
+    → is_asking line ≡ true → AnsweredAnew opening end line before now was is
+    → SeatTold opening floor end line.number (read_seen line.read) least last before now counted is
+anew opening floor end line least last before now counted was is fresh begins below same rose asks told =
     let answered = told asks in
     let count : (replay opening.state end).count ≡ length end = omega (arith, entries_are_counted opening.state end, fresh) in
     record {
@@ -115,3 +112,15 @@ below_at faults [] (h ∷ hosts) seat d inside fell = absurd fell
 below_at faults (c ∷ counted) [] seat d inside fell = absurd fell
 below_at faults (c ∷ counted) (h ∷ hosts) zero d inside fell = fell.0
 below_at faults (c ∷ counted) (h ∷ hosts) (suc seat) d inside fell = below_at faults counted hosts seat d (omega (arith, inside)) fell.1
+
+-- ---- lists
+
+pub set_long : {A : Type 0} (xs : List A) (i : ℕ) (x : A) → length (set xs i x) ≡ length xs
+set_long [] i x = refl
+set_long (y ∷ xs) zero x = refl
+set_long (y ∷ xs) (suc i) x = omega (arith, set_long xs i x)
+
+pub at_map : {A B : Type 0} (f : A → B) (xs : List A) (i : ℕ) (d : A) → get_or (map f xs) i (f d) ≡ f (get_or xs i d)
+at_map f [] i d = refl
+at_map f (x ∷ xs) zero d = refl
+at_map f (x ∷ xs) (suc i) d = at_map f xs i d

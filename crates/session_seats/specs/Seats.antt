@@ -58,3 +58,15 @@ MaySay opening line end said = IfSome said (SaysWithin opening line end)
 -- each is one of so many
 abbrev pub AreSeats : ℕ → List DeskSeen → Type 0
 AreSeats count desks = All (λ desk. desk.seats ≡ count) desks
+
+-- a seat that begins a round has answered nothing
+abbrev pub HasBegun : DeskSeen → DeskSeen → Type 0
+HasBegun before now = (now.answers ≡ []) × (now.seats ≡ before.seats)
+
+-- what it has answered
+abbrev pub HasAnswered : Basis → List ReadLine → DeskSeen → Type 0
+HasAnswered opening reads desk = All (Answers opening reads desk.seen) desk.answers
+
+-- and when the round has ended
+abbrev pub HasEnded : Basis → List ReadLine → List Entry → DeskSeen → DeskSeen → Type 0
+HasEnded opening reads end before now = IsTrusted opening reads end now × (now.seats ≡ before.seats)

@@ -1,9 +1,9 @@
 //! A seat: what it answers in a round.
-ghost use Rattle.std.specs.Prelude.{◌≡◌, ◌≤◌, ◌<◌, [], length, get_or, All, IfOk, IfSome, IsSome, IsTrue};
+ghost use Rattle.std.specs.Prelude.{◌≡◌, ◌≤◌, ◌<◌, [], length, get_or, IfOk, IfSome, IsSome, IsTrue};
 ghost use Rattle.std.specs.List.{Contains};
 ghost use mathlib.Core.List.{IsPrefix};
 ghost use Rattle.session_rounds.specs.Lines.{IsLine, read_seen};
-ghost use Rattle.session_seats.specs.Seats.{Answers, IsTrusted, SaysAt};
+ghost use Rattle.session_seats.specs.Seats.{HasAnswered, IsTrusted, SaysAt};
 
 use crate::answered::Answered;
 use crate::gathering::{decided, explained};
@@ -76,7 +76,7 @@ impl<P: Pair> Desk<P> {
 
     /// Ends a round: the seat takes in what was published by then. Its answers count where it did.
     pub fn end(&mut self, note: Note<P>, _reads: &[ReadLine])
-        requires { All (Answers P.opening _reads.now self.old.seen) self.old.answers }
+        requires { HasAnswered P.opening _reads.now self.old }
         ensures trusted { IsTrusted P.opening _reads.now note self.new }
         ensures seats { self.new.seats ≡ self.old.seats }
     {
@@ -106,10 +106,10 @@ impl<P: Pair> Desk<P> {
         ensures ready { IsSome result → IsTrue self.now.ready }
         ensures there { IfSome result (λ said. Contains self.now.answers said.now × (said.now.place ≡ place)) }
     {
-        if !self.ready {
+        if !self.ready || turn >= self.answers.len() {
             return None;
         }
-        let answered = self.answers.get(turn)?;
+        let answered = &self.answers[turn];
         if answered.place == place {
             Some(answered)
         } else {
@@ -127,8 +127,8 @@ impl<P: Pair> Desk<P> {
     )
         requires line { IsLine line.now }
         requires there { (place < length _reads.now) × (line.now ≡ get_or _reads.now place line.now) }
-        requires so_far { All (Answers P.opening _reads.now self.old.seen) self.old.answers }
-        ensures answers { All (Answers P.opening _reads.now self.new.seen) self.new.answers }
+        requires so_far { HasAnswered P.opening _reads.now self.old }
+        ensures answers { HasAnswered P.opening _reads.now self.new }
         ensures seats { self.new.seats ≡ self.old.seats }
         ensures host { H.faults host.old ≤ H.faults host.new }
     {
@@ -147,12 +147,12 @@ impl<P: Pair> Desk<P> {
 }
 
 impl<P: Pair, H: RegexHost> ToolSeat<RoundLines, H> for Desk<P> {
-    ghost use Rattle.std.specs.Prelude.{◌≡◌, ◌≤◌, ◌<◌, [], All};
-    ghost use Rattle.session_seats.specs.Seats.{Answers};
+    ghost use Rattle.std.specs.Prelude.{◌≡◌, ◌≤◌, ◌<◌, []};
+    ghost use Rattle.session_seats.specs.Seats.{HasAnswered};
 
     ghost can_work = { λ round d. (d.answers ≡ []) × (0 < d.seats) };
 
-    ghost worked = { λ round d e. All (Answers P.opening round.reads e.seen) e.answers × (e.seats ≡ d.seats) };
+    ghost worked = { λ round d e. HasAnswered P.opening round.reads e × (e.seats ≡ d.seats) };
 
     ghost used = { λ before now. H.faults before ≤ H.faults now };
 

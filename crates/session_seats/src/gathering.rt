@@ -32,25 +32,32 @@ pub fn decided<P: Pair, H: RegexHost>(
     ensures says { IfOk result (λ found. IfSome found (SaysAt P.opening place line (Ok (spec.request request.now)) pass.new)) }
     ensures host { H.faults host.old ≤ H.faults host.new }
 {
-    let mut text = String::new(alloc);
-    let (number, failed) = match verdict_by(alloc, pass, request, host) {
+    // The count is a `u64`, so it has not fallen where it rose.
+    let _failed = host.faults();
+    match verdict_by(alloc, pass, request, host) {
         Ok(answer) => {
+            let mut text = String::new(alloc);
             write_verdict(alloc, line, answer.number, &answer.verdict, &mut text)?;
-            (answer.number, false)
+            Ok(Some(Answered {
+                place,
+                number: answer.number,
+                failed: false,
+                text,
+            }))
         }
         Err(ReadRefusal::HostFault(number, rule)) => {
+            let mut text = String::new(alloc);
             write_fault(alloc, line, number, &rule, &mut text)?;
-            (number, true)
+            Ok(Some(Answered {
+                place,
+                number,
+                failed: true,
+                text,
+            }))
         }
-        Err(ReadRefusal::NotEntered) => return Ok(None),
-        Err(ReadRefusal::NoMemory) => return Err(NoMemory),
-    };
-    Ok(Some(Answered {
-        place,
-        number,
-        failed,
-        text,
-    }))
+        Err(ReadRefusal::NotEntered) => Ok(None),
+        Err(ReadRefusal::NoMemory) => Err(NoMemory),
+    }
 }
 
 /// What the pass answers to a request that is to be explained, unless there is no copy to enter.
@@ -67,25 +74,32 @@ pub fn explained<P: Pair, H: RegexHost>(
     ensures says { IfOk result (λ found. IfSome found (SaysAt P.opening place line (Ok (spec.explain request.now)) pass.new)) }
     ensures host { H.faults host.old ≤ H.faults host.new }
 {
-    let mut text = String::new(alloc);
-    let (number, failed) = match explanation_by(alloc, pass, request, host) {
+    // The count is a `u64`, so it has not fallen where it rose.
+    let _failed = host.faults();
+    match explanation_by(alloc, pass, request, host) {
         Ok(answer) => {
+            let mut text = String::new(alloc);
             write_explain(alloc, line, answer.number, &answer.explanation, &mut text)?;
-            (answer.number, false)
+            Ok(Some(Answered {
+                place,
+                number: answer.number,
+                failed: false,
+                text,
+            }))
         }
         Err(ReadRefusal::HostFault(number, rule)) => {
+            let mut text = String::new(alloc);
             write_fault(alloc, line, number, &rule, &mut text)?;
-            (number, true)
+            Ok(Some(Answered {
+                place,
+                number,
+                failed: true,
+                text,
+            }))
         }
-        Err(ReadRefusal::NotEntered) => return Ok(None),
-        Err(ReadRefusal::NoMemory) => return Err(NoMemory),
-    };
-    Ok(Some(Answered {
-        place,
-        number,
-        failed,
-        text,
-    }))
+        Err(ReadRefusal::NotEntered) => Ok(None),
+        Err(ReadRefusal::NoMemory) => Err(NoMemory),
+    }
 }
 
 // What the pass decides. No steps are counted.

@@ -20,7 +20,14 @@ pub fn read_one<H: RegexHost>(
     ensures later { H.faults checker.old ≤ H.faults checker.new }
 {
     match read_line_with(alloc, number, line, memo, checker) {
+        Ok(command) => Ok(ReadLine {
+            number,
+            read: Ok(command),
+        }),
         Err(LineFault::NoMemory) => Err(NoMemory),
-        read => Ok(ReadLine { number, read }),
+        Err(fault) => Ok(ReadLine {
+            number,
+            read: Err(fault),
+        }),
     }
 }

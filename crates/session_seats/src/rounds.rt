@@ -1,11 +1,11 @@
 //! A round: all parts answer its lines, and what they say is written.
-ghost use Rattle.std.specs.Prelude.{◌≡◌, ◌≤◌, ◌<◌, ◌++◌, [], false, length, map, replicate, All, IfOk, IfErr, OnOk, IsFalse, string_bytes};
+ghost use Rattle.std.specs.Prelude.{◌≡◌, ◌<◌, [], length, map, All, IfOk, IfErr, OnOk, string_bytes};
 ghost use Rattle.std.specs.List.{AllZip};
 ghost use Rattle.dnr_base.specs.Faults.{HasCauseOf};
 ghost use Rattle.session_laws.specs.Turns.{NoneFell};
 ghost use Rattle.session_rounds.specs.Rounds.{RoundAnswered};
 ghost use Rattle.session_seats.specs.Rounds.{StopsRound, WritesRound};
-ghost use Rattle.session_seats.specs.Seats.{Answers, AreSeats, IsTrusted};
+ghost use Rattle.session_seats.specs.Seats.{AreSeats, HasAnswered, HasBegun, HasEnded};
 
 use crate::desk::Desk;
 use crate::office::Office;
@@ -130,23 +130,29 @@ fn counts_of<H: RegexHost>(alloc: Global, hosts: &[H]) -> Result<Vec<u64>, NoMem
     Ok(counts)
 }
 
+// Each seat takes in what was published before the round.
+#[cycle(beginning)]
 fn begin_all<P: Pair>(desks: &mut [Desk<P>], floor: &Note<P>)
-    ensures fresh { All (λ desk. desk.answers ≡ []) desks.new }
-    ensures seats { AllZip (λ before now. now.seats ≡ before.seats) desks.old desks.new }
+    ensures { AllZip HasBegun desks.old desks.new }
 {
-    for desk in desks.iter_mut() {
-        desk.begin(floor.again());
-    }
+    let Some((first, rest)) = desks.split_first_mut() else {
+        return;
+    };
+    first.begin(floor.again());
+    begin_all(rest, floor);
 }
 
+// Each seat takes in what was published by the end of the round.
+#[cycle(ending)]
 fn end_all<P: Pair>(desks: &mut [Desk<P>], end: &Note<P>, reads: &[ReadLine])
-    requires { All (λ desk. All (Answers P.opening reads.now desk.seen) desk.answers) desks.old }
-    ensures trusted { All (IsTrusted P.opening reads.now end.now) desks.new }
-    ensures seats { AllZip (λ before now. now.seats ≡ before.seats) desks.old desks.new }
+    requires { All (HasAnswered P.opening reads.now) desks.old }
+    ensures { AllZip (HasEnded P.opening reads.now end.now) desks.old desks.new }
 {
-    for desk in desks.iter_mut() {
-        desk.end(end.again(), reads);
-    }
+    let Some((first, rest)) = desks.split_first_mut() else {
+        return;
+    };
+    first.end(end.again(), reads);
+    end_all(rest, end, reads);
 }
 
 // Whether memory ran out for a seat.

@@ -128,20 +128,19 @@ fn serve_pair<
     served
 }
 
-// So many seats, of which the first have a pass.
+// So many seats, each with a pass while there are any.
 fn desks_of<P: Pair>(
     alloc: Global,
-    passes: Vec<ReaderPass<P>>,
+    mut passes: Vec<ReaderPass<P>>,
     count: usize,
 ) -> Result<Vec<Desk<P>>, NoMemory>
     requires { 0 < count }
     ensures count { IfOk result (λ desks. length desks.items ≡ count) }
     ensures seats { IfOk result (λ desks. AreSeats count desks.items) }
 {
-    let mut passes = passes.into_iter();
     let mut desks = Vec::with_capacity(alloc, count)?;
     for seat in 0..count {
-        desks.push(Desk::new(alloc, seat, count, passes.next()))?;
+        desks.push(Desk::new(alloc, seat, count, passes.pop()))?;
     }
     Ok(desks)
 }

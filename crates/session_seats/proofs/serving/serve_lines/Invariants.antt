@@ -10,7 +10,7 @@ use Rattle.session_seats.proofs.serving.serve_lines.Given as goal
 
 abbrev pub invariant-loop-round : goal.invariant-loop-round
 invariant-loop-round g l = record {
-  so_far : SoFar g.P.opening (length l.fn.finders) (g.O.Sink.taken l.fn.out) (g.O.Sink.taken l.out)
+  so_far : SoFar g.P.Pair.opening (length l.fn.finders) (g.O.Sink.taken l.fn.out) (g.O.Sink.taken l.out)
       (g.H.RegexHost.faults l.fn.checker ∷ map g.H.RegexHost.faults l.fn.finders) (g.H.RegexHost.faults l.checker) (map g.H.RegexHost.faults l.finders)
       (g.S.Source.left l.fn.source) (ahead l.lines (g.S.Source.left l.source)) l.lines.count [] l.round l.office.list;
   open : is_full l.round.held ≡ false;
