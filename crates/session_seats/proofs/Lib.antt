@@ -6,3 +6,4 @@ pub mod Seats
 pub mod Settled
 pub mod Said
 pub mod Parts
+pub mod Replies

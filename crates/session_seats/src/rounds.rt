@@ -145,7 +145,7 @@ fn begin_all<P: Pair>(desks: &mut [Desk<P>], floor: &Note<P>)
 // Each seat takes in what was published by the end of the round.
 #[cycle(ending)]
 fn end_all<P: Pair>(desks: &mut [Desk<P>], end: &Note<P>, reads: &[ReadLine])
-    requires { All (HasAnswered P.opening reads.now) desks.old }
+    requires answered { All (HasAnswered P.opening reads.now) desks.old }
     ensures { AllZip (HasEnded P.opening reads.now end.now) desks.old desks.new }
 {
     let Some((first, rest)) = desks.split_first_mut() else {

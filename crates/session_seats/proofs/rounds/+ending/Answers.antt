@@ -6,9 +6,9 @@ use Rattle.session_seats.proofs.rounds.+ending.Goals as goal
 pub end-requires : goal.end-requires
 end-requires g t c =
     let is : c.args.desks.now ≡ c.in-Some.first.now ∷ c.in-Some.rest.now = search rules in
-    All-head (HasAnswered g.P.Pair.opening c.args.reads.now) c.in-Some.first.now c.in-Some.rest.now (subst (All (HasAnswered g.P.Pair.opening c.args.reads.now)) is c.requires)
+    All-head (HasAnswered g.P.Pair.opening c.args.reads.now) c.in-Some.first.now c.in-Some.rest.now (subst (All (HasAnswered g.P.Pair.opening c.args.reads.now)) is c.requires.answered)
 
-pub end_all-requires : goal.end_all-requires
-end_all-requires g t c κs within =
+pub end_all-requires-clause-answered : goal.end_all-requires-clause-answered
+end_all-requires-clause-answered g t c κs within =
     let is : c.args.desks.now ≡ c.in-Some.first.now ∷ c.in-Some.rest.now = search rules in
-    All-rest (HasAnswered g.P.Pair.opening c.args.reads.now) c.in-Some.first.now c.in-Some.rest.now c.args.desks.now is c.requires
+    All-rest (HasAnswered g.P.Pair.opening c.args.reads.now) c.in-Some.first.now c.in-Some.rest.now c.args.desks.now is c.requires.answered
