@@ -23,7 +23,7 @@ pub(crate) fn load_suffixes<F: Shelf>(
     name: Option<&str>,
     shelf: &mut F,
 ) -> Result<SuffixList, Stop>
-    requires { IfSome (option_copied name.entry) F.allows }
+    requires { IfSome (option_copied name) F.allows }
     ensures suffixes { IfOk result (TellsSuffixes (F.Source.files shelf.old) (option_copied name.entry)) }
     ensures stops { IfErr result (StopsInSuffixes (F.Source.files shelf.old) (option_copied name.entry)) }
     ensures files { F.Source.files shelf.new ≡ F.Source.files shelf.old }
