@@ -1,4 +1,4 @@
-use Rattle.std.proofs.Common.{◌∙◌, ◌+◌, sym, subst, map, arith, get_or}
+use Rattle.std.proofs.Common.{◌∙◌, ◌+◌, ◌<◌, length, sym, subst, map, arith, get_or}
 use Rattle.std.specs.Prelude.{IfSome, IfErr}
 use Rattle.std.proofs.lemmas.List.{get_or-map, length-map}
 use Rattle.std.proofs.lemmas.Result.{err_from_is_err_and}
@@ -15,7 +15,7 @@ use Rattle.session_load.proofs.serving.load_extensions.Goals as goal
 pub load_one-requires : goal.load_one-requires
 load_one-requires g c =
     let l = c.loop-one in
-    let inside = omega (arith, length-map c.args.installed.now installed_seen, c.loop-one-test.true) in
+    let inside : l.one-index < length (map installed_seen c.args.installed.now) = omega (arith, length-map c.args.installed.now installed_seen, c.loop-one-test.true) in
     subst (λ k. MayAsk g.F.Shelf.allows k (installed_seen (get_or c.args.installed.now l.one-index no_one))) (sym l.invariant.files)
     (subst (λ (one : Installed). MayAsk g.F.Shelf.allows (g.F.Source.files c.args.shelf.now) one) (get_or-map installed_seen c.args.installed.now l.one-index no_one (installed_seen no_one) c.loop-one-test.true)
     (c.requires l.one-index (installed_seen no_one) inside))
