@@ -14,6 +14,7 @@ mod last;
 mod list;
 mod number;
 mod passed;
+mod shape;
 #[cfg(test)]
 mod tests;
 mod tree;
@@ -23,7 +24,8 @@ pub use field::Field;
 pub use fields::{Form, read_fields, text_fields};
 pub use held::Held;
 pub use last::{count_members, pass_others, seek_last};
-pub use list::open_list;
+pub use list::{open_list, open_object};
 pub use number::read_number;
 pub use passed::pass_value;
+pub use shape::{Keys, Shape, next_list, next_object, next_or_null};
 pub use tree::{Fault, next_value};

@@ -1,0 +1,54 @@
+use Rattle.std.proofs.Common.{◌≡◌, ◌-◌, ◌<◌, length, Some, None, refl, sym, ap, ◌∙◌, subst, arith}
+use Rattle.json.specs.Json.{read_key, members, value}
+use Rattle.json.proofs.Grammar.{read_key-shorter}
+use Rattle.serde_json.specs.Data.{no_members, put}
+use Rattle.serde_json.specs.Read.{of_members, converted}
+use Rattle.json_fields.specs.Shapes.{HasAsked}
+use Rattle.serde_json.specs.View.{members_view}
+use Rattle.json_fields.proofs.Turns.{member_read, member_refused, key_refused, members_over}
+use Rattle.json_fields.proofs.shape.shaped_members.Goals as goal
+
+pub members-init : goal.members-init
+members-init g c = record { left = length c.args.reader.now; found = no_members; enough = omega arith; same = refl; holds = subst (λ es. HasAsked g.K.Keys.asks g.K.Keys.gives no_members (members_view es)) (sym c.new-kept.ensures.empty) (λ k asked. tt); shorter = omega arith }
+
+pub returns-in_err-name-clause-bad : goal.returns-in_err-name-clause-bad
+returns-in_err-name-clause-bad g c = λ _.
+    let l = c.members in
+    l.invariant.same ∙ key_refused (value c.args.depth) l.invariant.found l.invariant.left l.reader c.in_err-name.ensures.value
+
+pub members-preserved : goal.members-preserved
+members-preserved g c =
+    let p = value c.args.depth in
+    let l = c.members in
+    let n = l.invariant.left in
+    let k = c.in-Some.name.now in
+    let s = c.next_key.new.self in
+    let named : read_key l.reader ≡ Some (Some k, s) = grind arith in
+    let done = c.in_ok-shaped_member.ensures in
+    let one = done.ok in
+    let r = c.shaped_member.new.reader in
+    let less = read_key-shorter l.reader (Some k) s named in
+    let lesser = done.shorter in
+    let enough = l.invariant.enough in
+    record {
+      left = n - 1;
+      found = put k one.0 l.invariant.found;
+      enough = omega arith;
+      same = l.invariant.same ∙ member_read p l.invariant.found n k l.reader s r one.0 (omega arith) named one.1;
+      holds = one.2 l.invariant.found l.invariant.holds;
+      shorter = omega (arith, l.invariant.shorter);
+    }
+
+pub returns-in_err-shaped_member-clause-bad : goal.returns-in_err-shaped_member-clause-bad
+returns-in_err-shaped_member-clause-bad g c = λ e.
+    let l = c.members in
+    let k = c.in-Some.name.now in
+    let s = c.next_key.new.self in
+    let named : read_key l.reader ≡ Some (Some k, s) = grind arith in
+    l.invariant.same ∙ member_refused (value c.args.depth) l.invariant.found l.invariant.left k l.reader s named (c.in_err-shaped_member.ensures.bad (grind (arith, e)))
+
+pub returns-clause-ok : goal.returns-clause-ok
+returns-clause-ok g c =
+    let l = c.members in
+    let closed : read_key l.reader ≡ Some (None, c.next_key.new.self) = grind arith in
+    (l.invariant.found, l.invariant.same ∙ members_over (value c.args.depth) l.invariant.found l.invariant.left l.reader c.next_key.new.self l.invariant.enough closed, l.invariant.holds)
