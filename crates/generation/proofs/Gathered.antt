@@ -108,7 +108,7 @@ within_frames request place part is = go request.frames place is
     go (frame ∷ frames) (suc k) is = let h = go frames k is in omega (arith, h)
 
 -- the hits of the own part and of the frames have each rule that reaches
-all_there : (rules : List Rule) (index : ListIndex) (request : Request) (suffixes : List SuffixRule) (place part : ℕ) (rule : Rule)
+pub all_there : (rules : List Rule) (index : ListIndex) (request : Request) (suffixes : List SuffixRule) (place part : ℕ) (rule : Rule)
     → IsListIndexOf rules index → IsView request.view → ((n : ℕ) → n < length request.frames → IfSome (frame_part request n) (λ p. IsView p.view))
     → slice_get rules place ≡ Some rule → reaches_by suffixes rule request (part_at part) ≡ true
     → Contains (hits_by (near index.whole (Some (shown_by (own_part request))) (own_part request)) 0 ++ frame_hits index.framing request 0 request.frames) (place, part)

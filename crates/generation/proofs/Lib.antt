@@ -17,3 +17,8 @@ mod Outdone
 mod Sorts
 mod Ordered
 mod Reasons
+mod PlainRules
+mod Pieces
+mod PlainHits
+mod Levels
+mod PlainScanned

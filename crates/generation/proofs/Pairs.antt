@@ -170,13 +170,16 @@ module _ (block : Block) where
   rules_in_force (rule ∷ rules) (lines ∷ origins) =
       rules_case (has_number block.off.now rule.id) (record { rank = block.rank; set = block.set.now; rule = rule; lines = lines }) (lives_at block.rank block.set.now block.off.now rules origins) (without_ids block.off.now rules) (rules_in_force rules origins)
 
-  pub hits_few : (request : Request) (hits : List (ℕ × ℕ)) → AreHits block.rules.now request hits → sum_by (live_count block) hits ≤ pairs_by (lives_in block) request
-  hits_few request hits are =
-      let a = are.few heavy in
+  pub found_few : (request : Request) (hits : List (ℕ × ℕ)) → ((weight : ℕ → ℕ) → sum_by (λ hit. weight hit.0) hits ≤ weight_of weight block.rules.now request) → sum_by (live_count block) hits ≤ pairs_by (lives_in block) request
+  found_few request hits few =
+      let a = few heavy in
       let b = own_weigh (own_part request) in
       let d = all_framing request 0 request.frames in
       let e : pairs_by (lives_in block) request ≡ pairs_of_rules (without_ids block.off.now block.rules.now) request = ap (λ rules. pairs_of_rules rules request) (rules_in_force block.rules.now block.origins.now) in
       omega (arith, a, b, d, e)
+
+  pub hits_few : (request : Request) (hits : List (ℕ × ℕ)) → AreHits block.rules.now request hits → sum_by (live_count block) hits ≤ pairs_by (lives_in block) request
+  hits_few request hits are = found_few request hits are.few
 
 -- ---- added up
 
@@ -194,7 +197,7 @@ frames_add xs ys request place (frame ∷ frames) =
     let b = frames_add xs ys request (place + 1) frames in
     omega (arith, a, b)
 
-rules_add : (xs ys : List Rule) (request : Request) → pairs_of_rules (xs ++ ys) request ≡ pairs_of_rules xs request + pairs_of_rules ys request
+pub rules_add : (xs ys : List Rule) (request : Request) → pairs_of_rules (xs ++ ys) request ≡ pairs_of_rules xs request + pairs_of_rules ys request
 rules_add xs ys request =
     let a = sum_by-append (λ (rule : Rule). length (shared rule (own_part request))) xs ys in
     let b = frames_add xs ys request 0 request.frames in

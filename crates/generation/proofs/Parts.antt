@@ -61,7 +61,7 @@ module _ (test : ℕ → Bool) where
 -- ---- how a rule reaches
 
 module _ (suffixes : List SuffixRule) (request : Request) (rule : Rule) where
-  abbrev on_frame : ℕ → List Frame → ℕ → Bool
+  abbrev pub on_frame : ℕ → List Frame → ℕ → Bool
   on_frame place frames k = holds_on_part suffixes rule (option_and_then (frame_part_of request (place + k)) (slice_get frames k))
 
   frame_found : (frames : List Frame) (place k : ℕ) → ((j : ℕ) → j < k → on_frame place frames j ≡ false) → on_frame place frames k ≡ true → first_frame suffixes rule request place frames ≡ Some (place + k)
@@ -132,7 +132,7 @@ module _ (suffixes : List SuffixRule) (request : Request) (rule : Rule) where
       cond-false (holds suffixes rule (own_part request)) (Some Own) (through_frames suffixes rule request rule.action) (none 0)
       ∙ not_through rule.action (λ k. none (suc k))
 
-  reached : (part : ℕ) → by_part part ≡ true → is_some (reach_of suffixes rule request) ≡ true
+  pub reached : (part : ℕ) → by_part part ≡ true → is_some (reach_of suffixes rule request) ≡ true
   reached part here = let first = least by_part part here in ap is_some (reached_first first.place first.passes first.before)
 
 -- ---- what is kept

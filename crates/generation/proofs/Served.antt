@@ -31,10 +31,10 @@ module _ (suffixes : List SuffixRule) (request : Request) where
   in_force_case true live part h = cc
   in_force_case false live part h = h
 
-  record Reaches (rules : List Rule) (place part : ℕ) : Type 0 where
-    rule : Rule
-    there : slice_get rules place ≡ Some rule
-    reaches : reaches_by suffixes rule request (part_at part) ≡ true
+  pub record Reaches (rules : List Rule) (place part : ℕ) : Type 0 where
+    pub rule : Rule
+    pub there : slice_get rules place ≡ Some rule
+    pub reaches : reaches_by suffixes rule request (part_at part) ≡ true
 
   found_case : (block : Block) (place part : ℕ) (o : Option Rule) → slice_get block.rules.now place ≡ o → reaches_there suffixes request (option_and_then (live_in block place) o) part ≡ true → Reaches block.rules.now place part
   found_case block place part None is h = cc
@@ -44,7 +44,7 @@ module _ (suffixes : List SuffixRule) (request : Request) where
     reaches = in_force_case (has_number block.off.now rule.id) (record { rank = block.rank; set = block.set.now; rule = rule; lines = lines_at block.origins.now place }) part h;
   }
 
-  found : (block : Block) (place part : ℕ) → reaches_there suffixes request (live_there block place) part ≡ true → Reaches block.rules.now place part
+  pub found : (block : Block) (place part : ℕ) → reaches_there suffixes request (live_there block place) part ≡ true → Reaches block.rules.now place part
   found block place part h = found_case block place part (slice_get block.rules.now place) refl h
 
   nothing_past : (block : Block) (place part : ℕ) → length block.rules.now ≤ place → reaches_there suffixes request (live_there block place) part ≡ false
@@ -66,7 +66,7 @@ module _ (suffixes : List SuffixRule) (request : Request) where
   abbrev with_place : Block → Kept → ℕ → Kept
   with_place block kept place = with_some suffixes request kept (live_there block place)
 
-  abbrev behind : Block → ℕ → List Live
+  abbrev pub behind : Block → ℕ → List Live
   behind block place = filter_map (live_at block.rank block.set.now block.off.now) (with_lines (drop place block.rules.now) (drop place block.origins.now))
 
   places_are : (block : Block) (left place : ℕ) (kept : Kept) → place + left ≡ length block.rules.now → fold (with_place block) kept (counted place left) ≡ with_lives suffixes request kept (behind block place)
@@ -127,7 +127,7 @@ tail_there : (o : Option Live) (lives : List Live) (live : Live) → Contains li
 tail_there None lives live has = has
 tail_there (Some own) lives live has = let within = has.1 in (suc has.0, omega (arith, within), has.2)
 
-in_force_at : (test : Rule × List ℕ → Option Live) (rules : List Rule) (origins : List (List ℕ)) (place : ℕ) (live : Live)
+pub in_force_at : (test : Rule × List ℕ → Option Live) (rules : List Rule) (origins : List (List ℕ)) (place : ℕ) (live : Live)
     → option_and_then (λ rule. test (rule, lines_at origins place)) (slice_get rules place) ≡ Some live → Contains (filter_map test (with_lines rules origins)) live
 in_force_at test [] origins zero live is = cc
 in_force_at test [] origins (suc place) live is = cc

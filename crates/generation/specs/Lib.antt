@@ -5,5 +5,6 @@ pub mod Targets
 pub mod Block
 pub mod Kept
 pub mod Hits
+pub mod Plain
 pub mod Choice
 pub mod Explained

@@ -1,10 +1,11 @@
-ghost use Rattle.std.specs.Prelude.{◌≡◌, ◌<◌, ◌≤◌, ◌+◌, length, None, Ok, IfOk, IfErr, OnOk};
+ghost use Rattle.std.specs.Prelude.{◌≡◌, ◌↔◌, ◌<◌, ◌≤◌, ◌+◌, ◌*◌, ◌^◌, length, true, None, Ok, IsTrue, IfOk, IfErr, OnOk};
 ghost use Rattle.dnr_base.specs.Request.{max_frames};
 ghost use Rattle.explain_spec.specs.Explanation.{explanation_of};
 ghost use Rattle.generation.specs.First.{IsFirstRefusal};
 ghost use Rattle.generation.specs.Kept.{kept_from};
+ghost use Rattle.generation.specs.Plain.{is_plain};
 ghost use Rattle.generation.specs.Refused.{Ends};
-ghost use Rattle.index_spec.specs.Pairs.{pairs_of};
+ghost use Rattle.index_spec.specs.Pairs.{pairs_of, rules_in};
 ghost use Rattle.ruleset_store.specs.Seen.{IsBatchRefusal, IsRefusalOf, update_seen, updates_seen};
 ghost use Rattle.update_spec.specs.Entries as entries;
 ghost use Rattle.update_spec.specs.Entries.{opening};
@@ -16,11 +17,15 @@ use crate::conclusion::conclude;
 use crate::explanation::newest_first;
 use crate::first::first_store;
 use crate::kept::Kept;
+use crate::plain::PlainScan;
+use crate::plain_rules::all_are_plain;
 use crate::scan::Scan;
+use crate::segments::most_segments;
 use crate::{BatchRefusal, DecideRefusal, FirstRefusal, Refusal, Update};
 use dnr_base::{Items, Request, Steps};
 use dnr_verdict::{Explanation, Verdict};
 use regex_host::RegexHost;
+use rule_spec::Outcome;
 use ruleset_store::{Extension, InstalledExtension, Store};
 use std::alloc::Global;
 use std::marker::Model;
@@ -179,6 +184,37 @@ impl Generation {
             Ok(kepts) => self.explained(alloc, request, kepts.as_slice(), host),
             Err(refusal) => Err(refusal),
         }
+    }
+
+    /// Whether no rule in force has a `regexFilter` or is a redirect. It walks the rules that are installed, and takes no
+    /// memory.
+    #[tactic(auto, using(crate::proofs::PlainRules::state_told))]
+    pub fn is_plain(&self) -> bool
+        ensures { result ≡ is_plain self.now.state }
+    {
+        all_are_plain(self.extensions())
+    }
+
+    /// Whether a request, which has at most 64 frames, is blocked: whether the verdict of `decide` is a block, with the
+    /// same bound on tests. It asks no host and takes no memory, so there is no refusal.
+    #[tactic(auto, using(crate::proofs::PlainRules::all_in_force, crate::proofs::PlainScanned::blocked))]
+    pub fn plain_block<L: Ledger>(&self, request: &Request, steps: &mut Steps<L>) -> bool
+        requires frames { length request.now.frames ≤ max_frames }
+        requires plain { is_plain self.now.state ≡ true }
+        ensures value { IsTrue result
+            ↔ ((scan self.now.suffixes self.now.state request.now).outcome ≡ Outcome.Block) }
+        ensures bound { steps.new ≤ steps.old + pairs_of self.now.state request.now }
+    {
+        PlainScan::new(request, self.list()).some_blocks(self.extensions(), steps)
+    }
+
+    /// In how many segments rules stand that were added to an extension as dynamic or as session rules: the most of any
+    /// such list. There are few for so many rules in force. It takes no memory.
+    #[tactic(auto, using(crate::proofs::PlainRules::all_in_force))]
+    pub fn segments(&self) -> usize
+        ensures { 2 ^ result ≤ 2 * length (rules_in self.now.state) + 1 }
+    {
+        most_segments(self.extensions())
     }
 
     fn list(&self) -> &SuffixList

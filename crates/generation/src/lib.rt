@@ -16,8 +16,11 @@ mod live;
 mod offer;
 mod offers;
 mod operations;
+mod plain;
+mod plain_rules;
 mod refusal;
 mod scan;
+mod segments;
 mod sorted;
 mod targets;
 

@@ -88,7 +88,7 @@ pub(crate) fn refusal_at(
 }
 
 // The part of this number: the request itself, and behind it its frames.
-fn part_at(part: u32) -> Reach
+pub(crate) fn part_at(part: u32) -> Reach
     ensures { result ≡ part_at part }
 {
     if part == 0 {

@@ -34,7 +34,7 @@ other_gives_none key shown pair differs =
     rw other (none_by (shows pair.needed shown) pair.place)
 
 -- where all have other keys, none gives a place
-none_here : (texts key : List ℕ) (shown : Option ℕ) (entries : List Entry) → HaveOthers texts key entries 0 (length entries) → near_of key shown (pairs_in texts entries) ≡ []
+pub none_here : (texts key : List ℕ) (shown : Option ℕ) (entries : List Entry) → HaveOthers texts key entries 0 (length entries) → near_of key shown (pairs_in texts entries) ≡ []
 none_here texts key shown [] others = refl
 none_here texts key shown (entry ∷ entries) others =
     let first : near_if key shown (pair_in texts entry) ≡ None = other_gives_none key shown (pair_in texts entry) (others 0 entry (omega arith) (omega arith)) in

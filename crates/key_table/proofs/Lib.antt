@@ -6,3 +6,4 @@ pub mod Rising
 pub mod Between
 pub mod Longer
 pub mod Rest
+pub mod Marked

@@ -7,6 +7,7 @@ use Rattle.key_table.specs.declared.entry.Entry.{Entry}
 use Rattle.key_table.specs.Hash.{tag_of}
 use Rattle.key_table.specs.Pairs.{Pair}
 use Rattle.key_table.specs.Cuts.{AreCuts}
+use Rattle.key_table.specs.Marks.{AreMarked}
 
 abbrev pub key_in : List ℕ → Entry → List ℕ
 key_in texts entry = slice_range texts entry.at (entry.at + entry.len)
@@ -45,3 +46,8 @@ pub record IsKept (texts : List ℕ) (entries : List Entry) (starts : List ℕ) 
   pub all : AreEntries texts entries
   pub rising : IsRising texts entries
   pub cut : AreCuts (length starts - 1) (tags_in entries) starts
+
+-- the same with the marks of the keys
+pub record IsTable (texts : List ℕ) (entries : List Entry) (starts marks : List ℕ) : Type 0 where
+  pub kept : IsKept texts entries starts
+  pub marked : AreMarked marks (tags_in entries)

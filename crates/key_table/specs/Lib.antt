@@ -2,4 +2,5 @@ pub mod Asked
 pub mod Hash
 pub mod Pairs
 pub mod Cuts
+pub mod Marks
 pub mod Kept

@@ -5,6 +5,7 @@ ghost use Rattle.key_table.specs.Kept.{IsRising};
 use crate::asked::Asked;
 use crate::cuts::starts_of;
 use crate::entry::Entry;
+use crate::marks::marks_of;
 use crate::order::compare;
 use crate::table::Table;
 use std::alloc::{AllocError, Global};
@@ -91,6 +92,7 @@ impl Draft {
         let Draft { texts, mut entries } = self;
         sort(&texts, &mut entries)?;
         let starts = starts_of(alloc, &entries)?;
-        Ok(Table::new(texts, entries, starts))
+        let marks = marks_of(alloc, &entries)?;
+        Ok(Table::new(texts, entries, starts, marks))
     }
 }

@@ -1,14 +1,15 @@
-ghost use Rattle.std.specs.Prelude.{◌≡◌, ◌≤◌, ◌<◌, ℕ, [], length, slice_range, slice_index_or, Option, Some, true, false, ◌∷◌};
+ghost use Rattle.std.specs.Prelude.{◌≡◌, ◌↔◌, ◌≤◌, ◌<◌, ℕ, IsTrue, [], length, slice_range, slice_index_or, Option, Some, true, false, ◌∷◌};
 ghost use Rattle.std.specs.Ordering.{nat_cmp, is_le};
 ghost use Rattle.std.specs.Cmp.Lexicographic.{slice_cmp};
 ghost use Rattle.key_table.specs.declared.entry.Entry.{Entry as Seen};
 ghost use Rattle.key_table.specs.Hash.{tag_of};
-ghost use Rattle.key_table.specs.Kept.{AreEntries, IsRising, IsKept, pairs_in, rank_in, is_below};
+ghost use Rattle.key_table.specs.Kept.{AreEntries, IsRising, IsKept, IsTable, pairs_in, rank_in, is_below};
 ghost use Rattle.key_table.specs.Pairs.{near_of, places_of};
 
 use crate::asked::Asked;
 use crate::entry::Entry;
 use crate::hashes::bucket_of;
+use crate::marks::is_marked;
 use crate::order::compare_asked;
 use crate::places::Places;
 use std::marker::Model;
@@ -22,18 +23,19 @@ pub struct Table {
     texts: Vec<u8>,
     entries: Vec<Entry>,
     starts: Vec<u32>,
+    marks: Vec<u8>,
 }
 
 impl Model for Table {
     ghost use Rattle.std.specs.Prelude.{List};
     ghost use Rattle.key_table.specs.Pairs.{Pair};
-    ghost use Rattle.key_table.specs.Kept.{pairs_in, IsKept};
+    ghost use Rattle.key_table.specs.Kept.{pairs_in, IsTable};
 
     ghost Value = { List Pair };
 
     ghost view = { λ t. pairs_in t.texts.items t.entries.items };
 
-    ghost invariant = { λ t. IsKept t.texts.items t.entries.items t.starts.items };
+    ghost invariant = { λ t. IsTable t.texts.items t.entries.items t.starts.items t.marks.items };
 }
 
 // The part of the entries that stands there.
@@ -105,15 +107,43 @@ fn bucket<'a>(
     part(entries, start, end)
 }
 
+// Those of them that may have the key. Most keys that are asked for have no mark, and none of them has an entry.
+fn marked<'a>(
+    texts: &[u8],
+    entries: &'a [Entry],
+    starts: &[u32],
+    marks: &[u8],
+    tag: u32,
+    asked: &Asked<'_>,
+) -> &'a [Entry]
+    requires table { IsTable texts.now entries.now starts.now marks.now }
+    requires tag { tag ≡ tag_of asked.now }
+    ensures entries { AreEntries texts.now result.now }
+    ensures places { (shown : Option ℕ) → near_of asked.now shown (pairs_in texts.now result.now)
+        ≡ near_of asked.now shown (pairs_in texts.now entries.now) }
+{
+    if is_marked(marks, tag) {
+        bucket(texts, entries, starts, tag, asked)
+    } else {
+        &[]
+    }
+}
+
 impl Table {
-    pub(crate) fn new(texts: Vec<u8>, entries: Vec<Entry>, starts: Vec<u32>) -> Table
-        requires { IsKept texts.items entries.items starts.items }
+    pub(crate) fn new(
+        texts: Vec<u8>,
+        entries: Vec<Entry>,
+        starts: Vec<u32>,
+        marks: Vec<u8>,
+    ) -> Table
+        requires { IsTable texts.items entries.items starts.items marks.items }
         ensures { result ≡ pairs_in texts.items entries.items }
     {
         Table {
             texts,
             entries,
             starts,
+            marks,
         }
     }
 
@@ -137,8 +167,22 @@ impl Table {
         ensures { result ≡ near_of asked.entry shown self.now }
     {
         let tag = asked.tag();
-        let entries = bucket(&self.texts, &self.entries, &self.starts, tag, &asked);
+        let entries = marked(
+            &self.texts,
+            &self.entries,
+            &self.starts,
+            &self.marks,
+            tag,
+            &asked,
+        );
         Places::new(&self.texts, entries, asked, tag, shown)
+    }
+
+    /// Whether there are no pairs.
+    pub fn is_empty(&self) -> bool
+        ensures { IsTrue result ↔ (length self.now ≡ 0) }
+    {
+        self.entries.is_empty()
     }
 
     /// No places.

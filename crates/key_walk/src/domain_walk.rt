@@ -1,4 +1,4 @@
-ghost use Rattle.std.specs.Prelude.{◌≡◌, Some};
+ghost use Rattle.std.specs.Prelude.{◌≡◌, ℕ, Option, Some};
 ghost use Rattle.std.specs.Iterator.{YieldsFirst, item_count};
 ghost use Rattle.key_walk.specs.Over as spec;
 
@@ -25,6 +25,17 @@ impl<'a> Model for DomainWalk<'a> {
     ghost view = { λ w. w.places ++ near_each w.table.now w.shown w.domains };
 }
 
+// The domains over a host that are asked for: none in a table without pairs.
+fn domains_for<'a>(table: &Table, host: &'a str) -> Domains<'a>
+    ensures { (shown : Option ℕ) → spec.near_each table.now shown result ≡ spec.near_host table.now shown host.now }
+{
+    if table.is_empty() {
+        Domains::none()
+    } else {
+        Domains::new(host)
+    }
+}
+
 impl<'a> DomainWalk<'a> {
     /// The places that have a domain over the host.
     pub fn new(table: &'a Table, host: &'a str) -> DomainWalk<'a>
@@ -40,7 +51,7 @@ impl<'a> DomainWalk<'a> {
         DomainWalk {
             table,
             shown,
-            domains: Domains::new(host),
+            domains: domains_for(table, host),
             places: table.no_places(),
         }
     }

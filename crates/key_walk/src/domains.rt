@@ -1,4 +1,4 @@
-ghost use Rattle.std.specs.Prelude.{◌≡◌, false};
+ghost use Rattle.std.specs.Prelude.{◌≡◌, [], false};
 ghost use Rattle.std.specs.Iterator.{YieldsFirstRef, item_count};
 ghost use Rattle.std.specs.Option.{option_copied};
 ghost use Rattle.index_spec.specs.Keys.{domains_over, rests_of};
@@ -33,6 +33,16 @@ impl<'a> Domains<'a> {
         Domains {
             left: Some(host.as_bytes()),
             whole: is_ip_host(host),
+        }
+    }
+
+    /// No domains.
+    pub(crate) fn none() -> Domains<'a>
+        ensures { result ≡ [] }
+    {
+        Domains {
+            left: None,
+            whole: true,
         }
     }
 }

@@ -1,4 +1,4 @@
-ghost use Rattle.std.specs.Prelude.{◌≡◌, take, Some};
+ghost use Rattle.std.specs.Prelude.{◌≡◌, ℕ, Option, take, Some};
 ghost use Rattle.std.specs.Iterator.{YieldsFirst, item_count};
 ghost use Rattle.key_walk.specs.Met as spec;
 ghost use Rattle.index_spec.specs.Words.{words_of, has_word};
@@ -41,6 +41,13 @@ fn is_met(text: &[u8], passed: usize, word: &[u8]) -> bool
         .any(|other| other.eq_ignore_ascii_case(word))
 }
 
+// The text whose words are asked for: none in a table without pairs.
+fn text_for<'a>(table: &Table, text: &'a [u8]) -> &'a [u8]
+    ensures { (shown : Option ℕ) → spec.near_text table.now shown result.now ≡ spec.near_text table.now shown text.now }
+{
+    if table.is_empty() { &[] } else { text }
+}
+
 impl<'a> WordWalk<'a> {
     /// The places that share a word with the text.
     pub fn new(table: &'a Table, text: &'a [u8]) -> WordWalk<'a>
@@ -60,6 +67,7 @@ impl<'a> WordWalk<'a> {
     pub fn asked(table: &'a Table, text: &'a [u8], shown: Option<u64>) -> WordWalk<'a>
         ensures { result ≡ spec.near_text table.now shown text.now }
     {
+        let text = text_for(table, text);
         WordWalk {
             table,
             text,

@@ -24,7 +24,7 @@ and_false false = refl
 -- the fields in the order of the definition, and in the order in which they are tested
 in_order : (kind by not_by tabs not_tabs hosts not_hosts fits from not_from party response not_response : Bool)
     → (kind && by && not_by && tabs && not_tabs && hosts && not_hosts && fits && from && not_from && party && response && not_response && true)
-    ≡ ((kind && by && not_by) && (hosts && from) && (not_hosts && not_from && tabs && not_tabs) && fits && (response && not_response) && party)
+    ≡ ((kind && by && not_by) && (hosts && from) && fits && (not_hosts && not_from && tabs && not_tabs) && (response && not_response) && party)
 in_order false b c t n h x f i y p r s = refl
 in_order true false c t n h x f i y p r s = refl
 in_order true true false t n h x f i y p r s = refl
@@ -42,8 +42,8 @@ in_order true true true true true true true true true true true true true = refl
 
 pub holds_by_groups : (suffixes : List SuffixRule) (condition : Condition) (part : Part)
     → holds_on suffixes (without_pattern condition) part
-    ≡ (holds_by_type condition part && holds_by_domains condition part && holds_by_rest condition part
-    && fits_url condition.url_filter (not condition.case_sensitive) part.view && holds_by_response condition part && holds_by_party suffixes condition part)
+    ≡ (holds_by_type condition part && holds_by_domains condition part && fits_url condition.url_filter (not condition.case_sensitive) part.view
+    && holds_by_rest condition part && holds_by_response condition part && holds_by_party suffixes condition part)
 holds_by_groups suffixes condition part =
     in_order (has_kind condition.kinds part.kind) (is_by condition.methods part.view.scheme part.method)
     (is_not_by condition.not_methods part.view.scheme part.method) (is_in condition.tabs part.tab) (not (has_tab condition.not_tabs part.tab))

@@ -52,8 +52,8 @@ impl<'a> PreparedPart<'a> {
         PreparedPart { part, list }
     }
 
-    // Whether all of the condition holds but for its pattern. Cheap tests come first, and last the urlFilter, what very
-    // few rules ask for, and the party, which takes more to tell than the rest.
+    // Whether all of the condition holds but for its pattern. What most rules give is tested first, the cheap before the
+    // urlFilter, which few fit; then what few rules give, and last the party, which takes more to tell than the rest.
     #[tactic(auto, using(crate::proofs::PatternLast::holds_by_groups))]
     fn holds_but_pattern(&self, condition: &Condition) -> bool
         ensures { result
@@ -61,12 +61,12 @@ impl<'a> PreparedPart<'a> {
     {
         self.holds_by_type(condition)
             && self.holds_by_domains(condition)
-            && self.holds_by_rest(condition)
             && fits(
                 condition.url_filter(),
                 !condition.case_sensitive(),
                 self.part.view,
             )
+            && self.holds_by_rest(condition)
             && self.holds_by_response(condition)
             && self.holds_by_party(condition)
     }

@@ -147,6 +147,26 @@ impl<'a> PreparedRequest<'a> {
         }
     }
 
+    /// The same of a rule without `regexFilter`. It takes no memory.
+    pub fn plain_reaches_by<L: Ledger>(
+        &self,
+        part: Reach,
+        rule: &Rule,
+        steps: &mut Steps<L>,
+    ) -> bool
+        requires { rule.now.condition.regex_filter ≡ None }
+        ensures value { result ≡ reaches_by self.now.suffixes rule.now self.now.request part }
+        ensures few { steps.new ≤ steps.old + 1 }
+    {
+        match part {
+            Reach::Own => self.own.plain_matches(rule, steps),
+            Reach::Frame(place) => {
+                reaches_by_frames(rule.action())
+                    && self.plain_matches_frame(place as usize, rule, steps)
+            }
+        }
+    }
+
     /// How the rule reaches the request: by the request itself, or, where it is an `allowAllRequests`, by the
     /// first frame on which it holds, the outermost first. `None`: it does not reach it. Each part tested is one
     /// step.

@@ -6,7 +6,7 @@ pub mod Pairs
 pub mod Same
 pub mod Chains
 pub mod RulesRead
-pub mod Asked
+pub mod Asking
 pub mod SetIds
 pub mod SetsRead
 pub mod UpdatesRead

@@ -3,6 +3,7 @@
 //! What a line reads as stands in `line_spec`, `specs/Line.antt`.
 #![tactic(auto)]
 
+mod asked;
 mod batch;
 mod chosen;
 mod command;
@@ -18,7 +19,8 @@ mod set_id;
 mod update_fields;
 mod updates;
 
+pub use asked::Asked;
 pub use command::Command;
 pub use line_spec::{CommandPath, LineFault, UpdateField};
 pub use memo::Memo;
-pub use reading::{is_blank, read_line, read_line_with};
+pub use reading::{ask_line, finish_line, is_blank, read_line, read_line_with};

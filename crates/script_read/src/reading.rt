@@ -10,11 +10,12 @@ ghost use Rattle.line_spec.specs.IsFault.{IsFaultOf, IsFaultOfLine, MayRefuse, I
 ghost use Rattle.line_spec.specs.Line as spec;
 ghost use Rattle.line_spec.specs.Stops.{StopsIn};
 ghost use Rattle.json_fields.specs.Fields.{AreApart, IsEmpty, key_of, value_in};
-ghost use Rattle.script_read.specs.Asked.{IsAsked, Reads, Asks};
+ghost use Rattle.script_read.specs.Asked.{Asks, AsksFor, IsAsked, Reads};
 ghost use Rattle.script_read.specs.Fields.{line_keys, request_from, IsFaultFrom};
 ghost use Rattle.script_read.specs.Seen.{command_seen};
 
 use crate::Command;
+use crate::asked::Asked;
 use crate::batch::batch_in;
 use crate::chosen::{read_batch, read_update};
 use crate::fields::{field_at, initiator_in, kind_in, line_fields, method_in, tab_in, url_in};
@@ -64,7 +65,6 @@ pub fn read_line<H: RegexHost>(
 }
 
 /// The same with what was kept of the lines before, of the same script or of another.
-#[tactic(auto, unfolding(line_spec::specs::Line::command_of))]
 pub fn read_line_with<H: RegexHost>(
     alloc: Global,
     line: u32,
@@ -79,37 +79,54 @@ pub fn read_line_with<H: RegexHost>(
     ensures calm { IsCalm (H.faults host.old) (H.faults host.new) result }
     ensures later { H.faults host.old ≤ H.faults host.new }
 {
-    if is_blank(bytes) {
-        return Ok(Command::Blank);
+    match ask_line(alloc, line, bytes, memo) {
+        Ok(asked) => finish_line(alloc, line, bytes, asked, memo, host),
+        Err(fault) => Err(fault),
     }
-    let asked = match asked_of(alloc, line, bytes, memo) {
-        Ok(asked) => asked,
-        Err(fault) => return Err(fault),
-    };
-    command_of(alloc, line, bytes, asked, &mut memo.scratch, host)
 }
 
-// The command of a line that is not blank and asks for this.
-fn command_of<H: RegexHost>(
+/// The first step of reading a line, which needs no pattern host: all of it, but for the fields of an update or of a
+/// batch. So threads that share no host may read the lines of a script side by side, and `finish_line` does the rest.
+///
+/// # Errors
+///
+/// Those of `read_line`, but for `RuleRefused` and `InBatch`.
+#[tactic(auto, unfolding(line_spec::specs::Line::command_of))]
+pub fn ask_line(alloc: Global, line: u32, bytes: &[u8], memo: &mut Memo) -> Result<Asked, LineFault>
+    ensures asks { IfOk result (AsksFor line bytes.now) }
+    ensures refused { IfErr result (IsFaultOf (spec.command_of line bytes.now)) }
+{
+    if is_blank(bytes) {
+        return Ok(Asked::Command(Command::Blank));
+    }
+    asked_of(alloc, line, bytes, memo)
+}
+
+/// The second step: the command of the line of this number that asks for this.
+///
+/// # Errors
+///
+/// Those of `read_line`.
+pub fn finish_line<H: RegexHost>(
     alloc: Global,
     line: u32,
     bytes: &[u8],
     asked: Asked,
-    scratch: &mut Scratch,
+    memo: &mut Memo,
     host: &mut H,
 ) -> Result<Command, LineFault>
-    requires { IsAsked line (tree_of bytes.now) asked }
-    ensures read { IfOk result (λ command. spec.command_of_tree line (tree_of bytes.now) ≡ Ok (command_seen command)) }
+    requires asks { AsksFor line bytes.now asked }
+    ensures read { IfOk result (λ command. spec.command_of line bytes.now ≡ Ok (command_seen command)) }
     ensures within_limits { IfOk result (λ command. spec.IsWithinLimits (command_seen command)) }
-    ensures refused { IfErr result (MayRefuse (spec.command_of_tree line (tree_of bytes.now)) (λ fault.
-        Rose (H.faults host.old) (H.faults host.new) × StopsIn (tree_of bytes.now) fault)) }
+    ensures refused { IfErr result
+        (IsFaultOfLine line bytes.now (Rose (H.faults host.old) (H.faults host.new))) }
     ensures calm { IsCalm (H.faults host.old) (H.faults host.new) result }
     ensures later { H.faults host.old ≤ H.faults host.new }
 {
     match asked {
         Asked::Command(command) => Ok(command),
-        Asked::Update(name) => update_of(alloc, line, bytes, name, scratch, host),
-        Asked::Batch => batch_of(alloc, line, bytes, scratch, host),
+        Asked::Update(name) => update_of(alloc, line, bytes, name, &mut memo.scratch, host),
+        Asked::Batch => batch_of(alloc, line, bytes, &mut memo.scratch, host),
     }
 }
 
@@ -118,17 +135,6 @@ pub fn is_blank(bytes: &[u8]) -> bool
     ensures { result ≡ lines.is_blank bytes.now }
 {
     bytes.iter().all(|byte| *byte == b' ' || *byte == b'\t')
-}
-
-// What the fields of a request say of a line.
-#[derive(Drop)]
-pub(crate) enum Asked {
-    // It asks for this.
-    Command(Command),
-    // It asks for the update of this name.
-    Update(UpdateName),
-    // It asks for several updates.
-    Batch,
 }
 
 // What a line that is not blank asks for.

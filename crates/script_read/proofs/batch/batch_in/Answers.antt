@@ -5,7 +5,7 @@ use Rattle.line_spec.specs.Batch.{elements_from, batch_in, updates_at}
 use Rattle.line_spec.specs.IsFault.{MayRefuse}
 use Rattle.line_spec.specs.RequestLine.{count_of}
 use Rattle.script_read.specs.Stops.{StopsInEach, StopsInList}
-use Rattle.script_read.proofs.Asked.{if_err}
+use Rattle.script_read.proofs.Asking.{if_err}
 use Rattle.script_read.proofs.BatchIn.{batch_is_refused}
 use Rattle.script_read.proofs.Limits.{count_is}
 use Rattle.script_read.proofs.batch.batch_in.Goals as goal

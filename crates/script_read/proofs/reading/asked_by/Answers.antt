@@ -4,7 +4,7 @@ use Rattle.line_spec.specs.IsFault.{IsFaultOf}
 use Rattle.line_spec.specs.Line.{command_of_tree}
 use Rattle.script_read.specs.Asked.{IsAsked, Reads}
 use Rattle.script_read.specs.Fields.{IsFaultFrom}
-use Rattle.script_read.proofs.Asked.{if_ok, if_err, asked_is, fault_is}
+use Rattle.script_read.proofs.Asking.{if_ok, if_err, asked_is, fault_is}
 use Rattle.script_read.proofs.Same.{no_object}
 use Rattle.script_read.proofs.reading.asked_by.Goals as goal
 

@@ -1,12 +1,9 @@
-use Rattle.std.proofs.Common.{◌≡◌, [], Some, None, Ok, Err, sym, ap, ◌∙◌, subst, arith}
+use Rattle.std.proofs.Common.{◌≡◌, [], Some, None, Ok, sym, ap, ◌∙◌, subst, arith}
 use Rattle.std.specs.Prelude.{IsSome, option_and_then}
-use Rattle.serde_json.specs.Data.{Items}
 use Rattle.serde_json.specs.Find.{get, as_array}
 use Rattle.dnr_base.specs.Faults.{Rose}
 use Rattle.json_spec.specs.Json.{tree_of}
 use Rattle.json_spec.specs.RulesFile.{StopsInTree}
-use Rattle.json_spec.specs.ReadRule.{read_items}
-use Rattle.rule_read.specs.Reading.{MayStop}
 use Rattle.script_read.specs.Apart.{added_at, add_from}
 use Rattle.script_read.specs.Faults.{MayRefuse}
 use Rattle.script_read.proofs.Apart.{add_absent, add_other, add_rules, add_refused}

@@ -1,8 +1,7 @@
-use Rattle.std.proofs.Common.{◌≡◌, Some, None, sym, ◌∙◌}
+use Rattle.std.proofs.Common.{sym, ◌∙◌}
 use Rattle.serde_json.specs.View.{view}
 use Rattle.dnr_base.specs.Faults.{Rose}
 use Rattle.json_spec.specs.Json.{tree_of}
-use Rattle.line_spec.specs.declared.update_fault.UpdateFault.{UpdateFault}
 use Rattle.line_spec.specs.Updates.{update_in}
 use Rattle.line_spec.specs.Stops.{StopsInUpdate}
 use Rattle.script_read.specs.Apart.{replacing_with, update_of_tree, StopsApart, StopsInTheUpdate}

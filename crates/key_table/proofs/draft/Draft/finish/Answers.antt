@@ -7,9 +7,12 @@ starts_of-requires c = rw c.deref-2.ensures.value (tags_rise c.deref.result.now 
 
 pub new-requires : goal.new-requires
 new-requires c = record {
-  all = entries_in_order _ _ _ c.sort.ensures.moved c.self.invariant;
-  rising = (let sorted : IsRising c.deref.result.now c.sort.new.entries.items = c.in_ok-sort.ensures.sorted in rw c.deref.ensures.value at sorted);
-  cut = rw c.deref-2.ensures.value at c.in_ok-starts.ensures;
+  kept = record {
+    all = entries_in_order _ _ _ c.sort.ensures.moved c.self.invariant;
+    rising = (let sorted : IsRising c.deref.result.now c.sort.new.entries.items = c.in_ok-sort.ensures.sorted in rw c.deref.ensures.value at sorted);
+    cut = rw c.deref-2.ensures.value at c.in_ok-starts.ensures;
+  };
+  marked = rw c.deref-3.ensures.value at c.in_ok-marks.ensures;
 }
 
 pub returns : goal.returns

@@ -13,8 +13,8 @@ use Rattle.line_spec.specs.Line.{command_of_tree}
 use Rattle.json_fields.specs.declared.field.Field.{Field}
 use Rattle.json_fields.specs.declared.fields.Form.TheVariants.{Object}
 use Rattle.json_fields.specs.Fields.{key_of, Gives}
-use Rattle.script_read.specs.declared.reading.Asked.{Asked}
-use Rattle.script_read.specs.declared.reading.Asked.TheVariants as asked
+use Rattle.script_read.specs.declared.asked.Asked.{Asked}
+use Rattle.script_read.specs.declared.asked.Asked.TheVariants as asked
 use Rattle.script_read.specs.Asked.{Asks, IsAsked, Reads}
 use Rattle.script_read.specs.Fields.{line_keys, name_at, IsFaultFrom}
 use Rattle.script_read.specs.Seen.{command_seen}
