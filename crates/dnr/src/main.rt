@@ -26,7 +26,15 @@ fn main(rt: HostRuntime) -> ExitCode {
             let mut shelf = DirShelf::new(&rt);
             let mut out = Output::new(rt.stdout());
             nine_hosts_are_enough();
-            run(&rt, rt.alloc(), &words, &mut shelf, &mut out, &mut hosts, &NoGate)
+            run(
+                &rt,
+                rt.alloc(),
+                &words,
+                &mut shelf,
+                &mut out,
+                &mut hosts,
+                &NoGate,
+            )
         }
         (Err(status), _) => status,
         (_, Err(NoMemory)) => Status::NoMemory,

@@ -1,8 +1,8 @@
 -- Installations before a script count for nothing.
-use Rattle.std.proofs.Common.{◌≡◌, List, [], ◌∷◌, Option, Some, None, Result, Ok, Err, refl, ap, sym, ◌∙◌}
+use Rattle.std.proofs.Common.{◌≡◌, List, [], ◌∷◌, Option, Some, None, Result, Ok, refl, ap, sym, ◌∙◌}
 use Rattle.generation.specs.Basis.{Basis}
 use Rattle.rule_spec.specs.State.{State}
-use Rattle.update_spec.specs.Entries.{RefusedInstall, empty, changed_unless, install_then, install_all, opening}
+use Rattle.update_spec.specs.Entries.{RefusedInstall, empty, changed_unless, install_then, install_all}
 use Rattle.update_spec.specs.Judge.{judge_update}
 use Rattle.update_spec.specs.Update.{NewExtension, install, changed}
 use Rattle.update_spec.specs.declared.refusal.Refusal.{Refusal}

@@ -65,13 +65,7 @@ pub fn serve<R: Threads + Wait + Sync, F: Shelf, O: Sink, H: RegexHost + Send, G
 }
 
 // Serves what the source has left with so many of the finders.
-fn serve_started<
-    R: Threads + Wait + Sync,
-    S: Source,
-    O: Sink,
-    H: RegexHost + Send,
-    G: Gate + Sync,
->(
+fn serve_started<R: Threads + Wait + Sync, S: Source, O: Sink, H: RegexHost + Send, G: Gate + Sync>(
     rt: &R,
     alloc: Global,
     generation: Generation,
@@ -96,20 +90,16 @@ fn serve_started<
     ensures write_fault { HasCauseOf ServeStop.WriteFault (O.faults out.old) (O.faults out.new) result }
 {
     if updates {
-        serve_beside(rt, alloc, generation, workers, source, out, checker, finders, gate)
+        serve_beside(
+            rt, alloc, generation, workers, source, out, checker, finders, gate,
+        )
     } else {
         serve_in_turn(alloc, generation, workers, source, out, checker, finders)
     }
 }
 
 // By seats beside the writer of updates.
-fn serve_beside<
-    R: Threads + Wait + Sync,
-    S: Source,
-    O: Sink,
-    H: RegexHost + Send,
-    G: Gate + Sync,
->(
+fn serve_beside<R: Threads + Wait + Sync, S: Source, O: Sink, H: RegexHost + Send, G: Gate + Sync>(
     rt: &R,
     alloc: Global,
     generation: Generation,

@@ -185,8 +185,10 @@ fn a_request_is_decided_beside_an_update(rt: HostRuntime) -> Result<(), Fail> {
     assert!(rt; flags.held());
     let mut lines = written.as_slice().split(|byte| *byte == b'\n');
     let first = lines.next();
-    assert!(rt; first == Some(b"{\"line\":1,\"generation\":0,\"verdict\":\"none\"}".as_slice())
-        || first == Some(b"{\"line\":1,\"generation\":1,\"verdict\":\"none\"}".as_slice()));
+    assert!(rt;
+        first == Some(b"{\"line\":1,\"generation\":0,\"verdict\":\"none\"}".as_slice())
+            || first == Some(b"{\"line\":1,\"generation\":1,\"verdict\":\"none\"}".as_slice())
+    );
     assert!(rt; lines.next() == Some(b"{\"line\":2,\"accepted\":1}".as_slice()));
     Ok(())
 }
@@ -242,12 +244,17 @@ impl Gate for Crossed<'_> {
 fn two_seats_work_beside_each_other(rt: HostRuntime) -> Result<(), Fail> {
     let flags = Flags::new();
     let gate = Crossed { flags: &flags };
-    written(&rt, "serve --workers 2 --ext a requests.jsonl", &flags, &gate)?;
+    written(
+        &rt,
+        "serve --workers 2 --ext a requests.jsonl",
+        &flags,
+        &gate,
+    )?;
     assert!(rt; flags.held());
     Ok(())
 }
 
-// Which lines seat 0 decides, as bits.
+// Which lines each of two seats decides, as bits.
 struct Shares {
     first: AtomicU32,
     second: AtomicU32,
@@ -272,7 +279,12 @@ fn seats_take_turns(rt: HostRuntime) -> Result<(), Fail> {
         first: AtomicU32::new(0),
         second: AtomicU32::new(0),
     };
-    written(&rt, "serve --workers 2 --ext a requests.jsonl", &flags, &gate)?;
+    written(
+        &rt,
+        "serve --workers 2 --ext a requests.jsonl",
+        &flags,
+        &gate,
+    )?;
     assert_eq!(rt; gate.first.load(Ordering::SeqCst), 0b10_1010);
     assert_eq!(rt; gate.second.load(Ordering::SeqCst), 0b01_0100);
     Ok(())

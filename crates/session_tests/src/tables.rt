@@ -64,10 +64,7 @@ fn ended(
 }
 
 // What it writes where nothing fails.
-fn whole(
-    rt: &(impl Threads + Wait + Sync + AllocGlobal),
-    session: &str,
-) -> Result<Vec<u8>, Fail> {
+fn whole(rt: &(impl Threads + Wait + Sync + AllocGlobal), session: &str) -> Result<Vec<u8>, Fail> {
     let (status, written) = ended(rt, session, 4096, NOTHING)?;
     if status == Status::Done {
         Ok(written)
