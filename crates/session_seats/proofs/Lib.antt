@@ -9,3 +9,4 @@ pub mod Parts
 pub mod Replies
 pub mod Desks
 pub mod Offices
+pub mod Answering
