@@ -7,6 +7,6 @@ pub mod Settled
 pub mod Said
 pub mod Parts
 pub mod Replies
-pub mod Offices
 pub mod Desks
+pub mod Offices
 pub mod Answering
