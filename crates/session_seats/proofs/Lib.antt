@@ -7,3 +7,4 @@ pub mod Settled
 pub mod Said
 pub mod Parts
 pub mod Replies
+pub mod Desks

@@ -3,7 +3,7 @@ ghost use Rattle.std.specs.Prelude.{◌≡◌, ◌≤◌, ◌<◌, [], length, g
 ghost use Rattle.std.specs.List.{Contains};
 ghost use mathlib.Core.List.{IsPrefix};
 ghost use Rattle.session_rounds.specs.Lines.{IsLine, read_seen};
-ghost use Rattle.session_seats.specs.Seats.{HasAnswered, IsTrusted, SaysAt};
+ghost use Rattle.session_seats.specs.Seats.{Answers, HasAnswered, IsTrusted, SaysAt};
 
 use crate::answered::Answered;
 use crate::gathering::{decided, explained};
@@ -89,10 +89,10 @@ impl<P: Pair> Desk<P> {
         ensures answers { self.new.answers ≡ self.old.answers }
         ensures seats { self.new.seats ≡ self.old.seats }
     {
-        match &mut self.pass {
-            Some(pass) => pass.learn(note),
-            None => false,
-        }
+        let Some(pass) = &mut self.pass else {
+            return false;
+        };
+        pass.learn(note)
     }
 
     /// Whether memory ran out.
@@ -117,18 +117,44 @@ impl<P: Pair> Desk<P> {
         }
     }
 
+    // Serves the line at this place, of which the gate is told before.
+    fn serve<H: RegexHost, G: Gate>(
+        &mut self,
+        place: usize,
+        round: &RoundLines,
+        host: &mut H,
+        gate: &G,
+    )
+        requires { HasAnswered P.opening round.now.reads self.old }
+        ensures answers { HasAnswered P.opening round.now.reads self.new }
+        ensures seats { self.new.seats ≡ self.old.seats }
+        ensures host { H.faults host.old ≤ H.faults host.new }
+    {
+        let reads = round.reads();
+        let Some(line) = reads.get(place) else {
+            return;
+        };
+        gate.before(self.number(), line.number);
+        self.answer(place, line, host, reads);
+    }
+
+    // Which seat it is, as the gate is told.
+    fn number(&self) -> u32 {
+        u32::try_from(self.seat).unwrap_or(u32::MAX)
+    }
+
     // Answers the line at this place.
     fn answer<H: RegexHost>(
         &mut self,
         place: usize,
         line: &ReadLine,
         host: &mut H,
-        _reads: &[ReadLine],
+        reads: &[ReadLine],
     )
         requires line { IsLine line.now }
-        requires there { (place < length _reads.now) × (line.now ≡ get_or _reads.now place line.now) }
-        requires so_far { HasAnswered P.opening _reads.now self.old }
-        ensures answers { HasAnswered P.opening _reads.now self.new }
+        requires there { (place < length reads.now) × (line.now ≡ get_or reads.now place line.now) }
+        requires so_far { HasAnswered P.opening reads.now self.old }
+        ensures answers { HasAnswered P.opening reads.now self.new }
         ensures seats { self.new.seats ≡ self.old.seats }
         ensures host { H.faults host.old ≤ H.faults host.new }
     {
@@ -139,10 +165,20 @@ impl<P: Pair> Desk<P> {
             return;
         };
         match answer_by(self.alloc, pass, place, line, host) {
-            Ok(Some(answered)) => self.stopped = self.answers.push(answered).is_err(),
+            Ok(Some(answered)) => self.keep(answered, reads),
             Ok(None) => self.ready = false,
             Err(NoMemory) => self.stopped = true,
         }
+    }
+
+    // Keeps one answer more, if there is memory for it.
+    fn keep(&mut self, answered: Answered, _reads: &[ReadLine])
+        requires answer { Answers P.opening _reads.now self.old.seen answered }
+        requires so_far { HasAnswered P.opening _reads.now self.old }
+        ensures answers { HasAnswered P.opening _reads.now self.new }
+        ensures seats { self.new.seats ≡ self.old.seats }
+    {
+        self.stopped = self.answers.push(answered).is_err();
     }
 }
 
@@ -161,14 +197,12 @@ impl<P: Pair, H: RegexHost> ToolSeat<RoundLines, H> for Desk<P> {
     }
 
     fn work<G: Gate>(&mut self, round: &RoundLines, host: &mut H, gate: &G) {
+        let asking = round.asking();
+        let seats = self.seats;
         let mut turn = self.seat;
-        while turn < round.asking().len() {
-            let place = round.asking()[turn];
-            if let Some(line) = round.reads().get(place) {
-                gate.before(self.seat as u32, line.number);
-                self.answer(place, line, host, round.reads());
-            }
-            turn += self.seats;
+        while turn < asking.len() {
+            self.serve(asking[turn], round, host, gate);
+            turn = turn.saturating_add(seats);
         }
     }
 }

@@ -1,5 +1,5 @@
 //! The lines of a round, as they were read.
-ghost use Rattle.std.specs.Prelude.{◌≡◌, ◌≢◌, ◌≤◌, ◌++◌, ◌∷◌, ◌||◌, [], false, All, IfOk, OnOk, IsTrue, IsFalse};
+ghost use Rattle.std.specs.Prelude.{◌≡◌, ◌≢◌, ◌≤◌, ◌+◌, ◌++◌, ◌∷◌, ◌||◌, [], false, length, if◌then◌else◌, All, IfOk, OnOk, IsTrue, IsFalse};
 ghost use Rattle.dnr_spec.specs.Lines.{max_line};
 ghost use Rattle.session_rounds.specs.Lines.{IsLine, read_seen};
 ghost use Rattle.session_spec.specs.Rounds.{holds_nothing, is_full, is_sync};
@@ -67,13 +67,11 @@ impl RoundLines {
         let place = self.reads.len();
         let syncs = line.syncs();
         let asks = line.asks();
-        self.updates = self.updates || line.updates();
+        self.updates |= line.updates();
         self.bytes += bytes;
         self.reads.push(line)?;
-        if asks {
-            self.asking.push(place)?;
-        }
-        Ok(syncs || self.reads.len() >= MAX_LINES || self.bytes >= FULL_BYTES)
+        mark(&mut self.asking, place, asks)?;
+        Ok(ends(syncs, self.reads.len(), self.bytes))
     }
 
     /// Whether there is no line.
@@ -111,4 +109,23 @@ impl RoundLines {
     pub fn updates(&self) -> bool {
         self.updates
     }
+}
+
+// Keeps the place of a line that asks a seat.
+fn mark(asking: &mut Vec<usize>, place: usize, asks: bool) -> Result<(), NoMemory>
+    ensures marked { OnOk result (length asking.new.items ≡ length asking.old.items + (if asks then 1 else 0)) }
+    ensures most { length asking.new.items ≤ length asking.old.items + 1 }
+{
+    if !asks {
+        return Ok(());
+    }
+    asking.push(place)?;
+    Ok(())
+}
+
+// Whether a round of so many lines and bytes ends, of which the last line may be a `sync`.
+fn ends(syncs: bool, lines: usize, bytes: usize) -> bool
+    ensures { result ≡ (syncs || is_full (record { lines = lines; bytes = bytes; asked = 0 })) }
+{
+    syncs || lines >= MAX_LINES || bytes >= FULL_BYTES
 }
