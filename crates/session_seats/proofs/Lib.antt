@@ -8,3 +8,4 @@ pub mod Said
 pub mod Parts
 pub mod Replies
 pub mod Desks
+pub mod Offices

@@ -1,11 +1,12 @@
 //! The writer's part of a round.
-ghost use Rattle.std.specs.Prelude.{◌≡◌, ◌≤◌, ◌<◌, ◌++◌, [], Ok, false, length, map, IfOk, OnOk, string_bytes};
+ghost use Rattle.std.specs.Prelude.{◌≡◌, ◌≤◌, ◌<◌, ◌++◌, ◌∷◌, [], Ok, false, length, map, All, IfOk, OnOk, string_bytes};
 ghost use Rattle.line_spec.specs.Batch.{max_batch};
 ghost use Rattle.line_spec.specs.Line as spec;
 ghost use Rattle.published.specs.Shared.{basis_after};
 ghost use Rattle.ruleset_store.specs.Seen.{update_seen, updates_seen};
 ghost use Rattle.session_rounds.specs.Lines.{IsLine, read_seen, is_asking};
 ghost use Rattle.session_rounds.specs.Writing.{Replied, WriterLine};
+ghost use Rattle.session_seats.specs.Writing.{WroteAll};
 ghost use Rattle.session_serve.specs.Told.{IsNamed};
 ghost use Rattle.session_spec.specs.Output.{accepted_line, refused_line, refused_batch_line};
 ghost use Rattle.update_spec.specs.Entries.{replay};
@@ -119,6 +120,38 @@ impl<P: Pair> Office<P> {
         writer.close(rt);
     }
 
+    // Says what there is to say to each line, in their order.
+    fn write_all<R: Wait, G: Gate>(
+        &mut self,
+        rt: &R,
+        lines: &[ReadLine],
+        gate: &G,
+    ) -> Result<(), NoMemory>
+        requires lines { All IsLine lines.now }
+        requires idle { self.old.staged ≡ [] }
+        requires texts { self.old.texts ≡ [] }
+        ensures { OnOk result (WroteAll P.opening self.old.list lines.now self.new) }
+    {
+        for line in lines {
+            let text = self.say(rt, line)?;
+            self.keep(text)?;
+            if line.updates() {
+                gate.after_update(line.number);
+            }
+        }
+        Ok(())
+    }
+
+    // Takes in what the writer says to one more line.
+    fn keep(&mut self, text: String) -> Result<(), NoMemory>
+        ensures texts { OnOk result (self.new.texts ≡ self.old.texts ++ string_bytes text ∷ []) }
+        ensures list { self.new.list ≡ self.old.list }
+        ensures staged { self.new.staged ≡ self.old.staged }
+    {
+        self.texts.push(text)?;
+        Ok(())
+    }
+
     // What the writer says to a line.
     fn say<R: Wait>(&mut self, rt: &R, line: &ReadLine) -> Result<String, NoMemory>
         requires line { IsLine line.now }
@@ -150,7 +183,9 @@ impl<P: Pair> Office<P> {
             Ok(Command::Sync) => self.sync(line.number, into),
             Ok(Command::Update(update)) => self.update(rt, line.number, update, into),
             Ok(Command::Batch(updates)) => self.batch(rt, line.number, updates, into),
-            Ok(Command::Blank | Command::Request(_) | Command::Explain(_)) => Ok(()),
+            Ok(Command::Blank) => Ok(()),
+            // A seat answers these.
+            Ok(Command::Request(_) | Command::Explain(_)) => Ok(()),
             Err(fault) => write_bad(self.alloc, line.number, fault, into),
         }
     }
@@ -234,24 +269,7 @@ impl<P: Pair> SharedWriter<RoundLines> for Office<P> {
     }
 
     fn write<R: Wait, G: Gate>(&mut self, rt: &R, round: &RoundLines, gate: &G) {
-        for place in 0..round.reads().len() {
-            let line = &round.reads()[place];
-            match self.say(rt, line) {
-                Ok(text) => {
-                    if self.texts.push(text).is_err() {
-                        self.stopped = true;
-                        return;
-                    }
-                }
-                Err(NoMemory) => {
-                    self.stopped = true;
-                    return;
-                }
-            }
-            if line.updates() {
-                gate.after_update(line.number);
-            }
-        }
+        self.stopped = self.write_all(rt, round.reads(), gate).is_err();
     }
 }
 
