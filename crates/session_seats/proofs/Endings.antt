@@ -1,7 +1,7 @@
 -- How the serving of a script ends.
 use Rattle.std.proofs.Common.{◌≡◌, ◌⊎◌, ℕ, zero, suc, ◌+◌, ◌≤◌, List, [], ◌∷◌, ◌++◌, take, length, Bool, true, false, Option, Some, None, Result, Ok, Err, refl, sym, ap, ◌∙◌, inl, inr, subst, arith, append_assoc, append-nil, length-append}
 use Rattle.std.proofs.Math.Seq.{take-append_seam}
-use Rattle.std.specs.Prelude.{IfSome, IsErrAnd}
+use Rattle.std.specs.Prelude.{IfSome, IfErr, OnOk, IsErrAnd, IsErrOf}
 use Rattle.std.specs.Io.KnownBytes.{Appends, IsAtEnd}
 use Rattle.dnr_base.specs.Faults.{Count}
 use Rattle.dnr_io.specs.Lines.{GivesLine, IsBeyond, StopsIn, StopsWithin}
@@ -28,7 +28,7 @@ use Rattle.session_spec.specs.Rounds.{Held, holds_nothing, ends_round, rounds_of
 use Rattle.update_spec.specs.Entries.{Entry, replay}
 use Rattle.session_seats.specs.Reading.{ReadRound, ReadsLine}
 use Rattle.session_seats.specs.Rounds.{WritesRound, CutsRound, StopsRound}
-use Rattle.session_seats.proofs.SoFar.{IsServedSoFar, SoFar, line_taken, served_on, appends_append, nothing_read, start}
+use Rattle.session_seats.proofs.SoFar.{IsServedSoFar, SoFar, line_taken, line_next, served_on, appends_append, nothing_read, start}
 
 -- what was allowed is allowed after further faults
 serves_later : (was at is : List ℕ) (setting : Setting) (first : State) (rounds : List (List (List ℕ))) (written : List ℕ) → NoneFell was at → NoneFell at is
@@ -308,3 +308,31 @@ pub stop_said : (known left before now : Option (List ℕ)) (hosts : List Count)
     → IfSome known (λ script. EndsServing before now hosts setting first script left result)
 stop_said known left before now hosts setting first (Ok done) P is each = absurd is
 stop_said known left before now hosts setting first (Err e) P is each = each e is
+
+-- The next line was read of the source, and its round, which so many seats were to answer, is not written.
+pub round_stopped : (opening : Basis) (seats many : ℕ) (before middle now : Option (List ℕ)) (was : List ℕ) (checker is : ℕ) (finders others : List ℕ) (known rest next left : Option (List ℕ)) (given later number : ℕ) (round whole : ReadRound) (list : List Entry) (line text : List ℕ) (why e : ServeStop)
+    → e ≡ why → opening.state.count ≡ 0 → many ≡ seats → number ≡ given → later ≡ given + 1 → later ≤ max_lines → text ≡ line → ends_round round.held (number + 1) text ≡ true → checker ≤ is → NoneFell finders others
+    → ReadsLine (number + 1) text checker is round.reads whole.reads → GivesLine rest next line → SoFar opening seats before middle was checker finders known rest given [] round list
+    → StopsRound opening many whole.reads list middle now finders others why
+    → IfSome known (λ script. EndsServing before now (counts_between was (is ∷ others)) (serving opening.suffixes seats) opening.state script left (Err e))
+round_stopped opening seats many before middle now was checker is finders others known rest next left given later number round whole list line text why e so fresh all place up few same ends rose fell takes gives so_far stops =
+    stops_serving opening seats before middle now was checker is finders others known next left number [] round whole list text why e so fresh ends (omega (arith, place, up, few)) rose fell
+    (line_next opening seats before middle was checker finders known rest next given number round list line text place same gives so_far) takes
+    (subst (λ (n : ℕ). StopsRound opening n whole.reads list middle now finders others why) all stops)
+
+-- the last round, however it ends
+pub last_round : (opening : Basis) (seats many : ℕ) (before middle now : Option (List ℕ)) (was : List ℕ) (checker : ℕ) (finders others : List ℕ) (known rest left : Option (List ℕ)) (given : ℕ) (round : ReadRound) (list end : List Entry) (result : Result (Unit {0}) ServeStop)
+    → opening.state.count ≡ 0 → many ≡ seats → given ≤ max_lines → IsAtEnd rest → (round.reads ≡ [] → ⊥) → NoneFell finders others → SoFar opening seats before middle was checker finders known rest given [] round list
+    → OnOk result (WritesRound opening many round.reads list end middle now finders others) → IfErr result (StopsRound opening many round.reads list middle now finders others)
+    → IfSome known (λ script. EndsServing before now (counts_between was (checker ∷ others)) (serving opening.suffixes seats) opening.state script left result)
+last_round opening seats many before middle now was checker finders others known rest left given round list end (Ok done) fresh all few at_end some fell so_far writes stops =
+    last_written opening seats before middle now was checker finders others known rest left given round list end fresh few at_end some so_far
+    (subst (λ (n : ℕ). WritesRound opening n round.reads list end middle now finders others) all writes)
+last_round opening seats many before middle now was checker finders others known rest left given round list end (Err e) fresh all few at_end some fell so_far writes stops =
+    last_stopped opening seats before middle now was checker finders others known rest left given round list e e refl fresh few at_end some fell so_far
+    (subst (λ (n : ℕ). StopsRound opening n round.reads list middle now finders others e) all stops)
+
+-- a round that is not written blames no fault of the source
+pub not_of_source : (opening : Basis) (many : ℕ) (reads : List ReadLine) (list : List Entry) (before now : Option (List ℕ)) (finders others : List ℕ) (result : Result (Unit {0}) ServeStop)
+    → IfErr result (StopsRound opening many reads list before now finders others) → IsErrOf result stop.ReadFault → ⊥
+not_of_source opening many reads list before now finders others result stops is = subst (λ (r : Result (Unit {0}) ServeStop). IfErr r (StopsRound opening many reads list before now finders others)) is stops

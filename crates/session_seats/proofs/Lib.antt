@@ -9,3 +9,5 @@ pub mod Parts
 pub mod Replies
 pub mod Desks
 pub mod Offices
+pub mod Cuts
+pub mod Taken

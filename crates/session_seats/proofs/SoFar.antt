@@ -1,7 +1,8 @@
 -- A script whose rounds are served by seats, up to some line.
 use Rattle.std.proofs.Common.{◌≡◌, ◌⊎◌, ℕ, zero, suc, ◌+◌, ◌≤◌, List, [], ◌∷◌, ◌++◌, take, length, Bool, true, false, Option, Some, None, Result, Ok, Err, refl, sym, ap, ◌∙◌, inl, inr, subst, arith, append_assoc, append-nil, length-append}
+use Rattle.std.proofs.lemmas.Bool.{or_parts}
 use Rattle.std.proofs.Math.Seq.{take-append_seam}
-use Rattle.std.specs.Prelude.{IfSome, slice_get}
+use Rattle.std.specs.Prelude.{IfSome, IfOk, OnOk, slice_get, ◌||◌}
 use Rattle.std.specs.Io.KnownBytes.{Appends, IsAtEnd, prepend_known}
 use Rattle.dnr_base.specs.Faults.{Count}
 use Rattle.dnr_io.specs.Lines.{Reading, ahead, GivesLine, IsBeyond, StopsIn, StopsWithin}
@@ -16,7 +17,9 @@ use Rattle.session_laws.proofs.Cut.{Cut, cut_first, cut_on, cut_end, alone_open}
 use Rattle.session_laws.proofs.Rises.{place_rises, nothing_risen, none_fell_yet, none_fell_on, as_long, later_rises}
 use Rattle.session_laws.proofs.Served.{Served, served_first, served_whole, serves_rounds}
 use Rattle.session_laws.specs.Turns.{times_of, RiseBy, NoneFell, counts_between}
+use Rattle.line_spec.specs.Line.{command_of}
 use Rattle.session_rounds.proofs.Read.{round_served}
+use Rattle.session_rounds.specs.Lines.{read_seen}
 use Rattle.session_rounds.specs.Read.{LinesRead, serving, RoundServed}
 use Rattle.session_rounds.specs.Rounds.{RoundAnswered}
 use Rattle.session_rounds.specs.declared.read_line.ReadLine.{ReadLine}
@@ -25,12 +28,13 @@ use Rattle.session_serve.specs.Serving.{stop_of, WritesRounds, WritesPart, some_
 use Rattle.session_serve.specs.declared.stop.ServeStop.{ServeStop}
 use Rattle.session_serve.specs.declared.stop.ServeStop.TheVariants as stop
 use Rattle.session_spec.specs.Answers.{RisesBy, HostRisesBy, Serves}
-use Rattle.session_spec.specs.Rounds.{Held, holds_nothing, with_line, ends_round, rounds_of, whole_rounds_of, short_lines, ended_lines}
+use Rattle.session_spec.specs.Rounds.{Held, holds_nothing, with_line, ends_round, is_sync, is_full, rounds_of, whole_rounds_of, short_lines, ended_lines}
 use Rattle.session_spec.specs.Said.{count_failed, count_stopped, lines_text}
 use Rattle.update_spec.specs.Entries.{Entry, replay}
-use Rattle.session_seats.specs.Reading.{ReadRound, ReadsLine}
+use Rattle.session_seats.specs.Reading.{ReadRound, ReadsLine, HasRead, held_with}
 use Rattle.session_seats.specs.Rounds.{WritesRound, CutsRound, StopsRound}
 use Rattle.session_seats.proofs.Lines as lines
+use Rattle.session_seats.proofs.Readings.{held_so, ends_so}
 
 -- So many lines of the script were given to rounds, those of the queue were read beside them, and `rest` is left. Some rounds
 -- were served, and `begun` was given of the next one, whose first line has the number `start`. The counts of the hosts were
@@ -254,3 +258,59 @@ whole_round_more opening seats before middle now was checker is finders others N
 whole_round_more opening seats before middle now was checker is finders others (Some script) None given queue round whole left list end line fresh ends rose fell empty so_far takes writes = absurd so_far
 whole_round_more opening seats before middle now was checker is finders others (Some script) (Some rest) given queue round whole left list end line fresh ends rose fell empty so_far takes writes =
     round_more opening seats before middle now was checker is finders others script rest given queue round whole left list end line fresh ends rose fell empty so_far takes writes
+
+-- ---- how it is said of the code
+
+-- a line that was read is taken into its round
+pub ends_as_taken : {E : Type 0} (result : Result Bool E) (held : Held) (number : ℕ) (line : List ℕ) (bytes was is : ℕ) (read : ReadLine) → bytes ≡ length line → HasRead number line was is read
+    → IfOk result (λ ends. ends ≡ (is_sync (read_seen read.read) || is_full (held_with held bytes read))) → IfOk result (λ ends. ends_round held number line ≡ ends)
+ends_as_taken (Err e) held number line bytes was is read long has same = tt
+ends_as_taken (Ok ends) held number line bytes was is read long has same =
+    ends_so held number line was is read ends has (subst (λ (n : ℕ). ends ≡ (is_sync (read_seen read.read) || is_full (held_with held n read))) long same)
+
+pub held_as_taken : {T E : Type 0} (result : Result T E) (held now : Held) (number : ℕ) (line : List ℕ) (bytes was is : ℕ) (read : ReadLine) → bytes ≡ length line → HasRead number line was is read
+    → OnOk result (now ≡ held_with held bytes read) → OnOk result (now ≡ with_line held number line)
+held_as_taken (Err e) held now number line bytes was is read long has same = tt
+held_as_taken (Ok x) held now number line bytes was is read long has same = same ∙ ap (λ (n : ℕ). held_with held n read) long ∙ held_so held number line was is read has
+
+pub reads_as_taken : {T E : Type 0} (result : Result T E) (number : ℕ) (line : List ℕ) (was is : ℕ) (read : ReadLine) (before now : List ReadLine) → HasRead number line was is read
+    → OnOk result (now ≡ before ++ read ∷ []) → OnOk result (ReadsLine number line was is before now)
+reads_as_taken (Err e) number line was is read before now has appended = tt
+reads_as_taken (Ok x) number line was is read before now has appended = record { read = read; has = has; appended = appended }
+
+-- a round that does not end with a line has room for one more
+pub room_left : (held now : Held) (number : ℕ) (line : List ℕ) → ends_round held number line ≡ false → now ≡ with_line held number line → is_full now ≡ false
+room_left held now number line on same = subst (λ (h : Held). is_full h ≡ false) (sym same) (or_parts (is_sync (command_of number line)) (is_full (with_line held number line)) on).1
+
+-- The next line was read of the source, after so many of them, and has this number and text.
+pub line_next : (opening : Basis) (seats : ℕ) (before now : Option (List ℕ)) (was : List ℕ) (checker : ℕ) (finders : List ℕ) (known rest next : Option (List ℕ)) (given number : ℕ) (round : ReadRound) (list : List Entry) (line text : List ℕ)
+    → number ≡ given → text ≡ line → GivesLine rest next line → SoFar opening seats before now was checker finders known rest given [] round list
+    → SoFar opening seats before now was checker finders known next number (text ∷ []) round list
+line_next opening seats before now was checker finders known rest next given number round list line text place same gives so_far =
+    line_gathered opening seats before now was checker finders known rest next number [] round list text
+    (subst (λ (n : ℕ). SoFar opening seats before now was checker finders known rest n [] round list) (sym place) so_far)
+    (subst (λ (l : List ℕ). GivesLine rest next l) (sym same) gives)
+
+-- its round goes on
+pub line_on : (opening : Basis) (seats : ℕ) (before now : Option (List ℕ)) (was : List ℕ) (checker is : ℕ) (finders : List ℕ) (known rest next : Option (List ℕ)) (given later number : ℕ) (round left : ReadRound) (list : List Entry) (line text : List ℕ)
+    → number ≡ given → later ≡ given + 1 → text ≡ line → ends_round round.held (number + 1) text ≡ false → checker ≤ is → left.held ≡ with_line round.held (number + 1) text
+    → ReadsLine (number + 1) text checker is round.reads left.reads → GivesLine rest next line → SoFar opening seats before now was checker finders known rest given [] round list
+    → SoFar opening seats before now was is finders known next later [] left list
+line_on opening seats before now was checker is finders known rest next given later number round left list line text place up same on rose holds takes gives so_far =
+    let here : number + 1 ≡ later = omega (arith, place, up) in
+    subst (λ (n : ℕ). SoFar opening seats before now was is finders known next n [] left list) here
+    (line_more opening seats before now was checker is finders known next number [] round left list text on rose holds
+    (line_next opening seats before now was checker finders known rest next given number round list line text place same gives so_far) takes)
+
+-- its round ends, was answered by so many seats and written
+pub round_on : (opening : Basis) (seats many : ℕ) (before middle now : Option (List ℕ)) (was : List ℕ) (checker is : ℕ) (finders others : List ℕ) (known rest next : Option (List ℕ)) (given later number : ℕ) (round whole left : ReadRound) (list end : List Entry) (line text : List ℕ)
+    → opening.state.count ≡ 0 → many ≡ seats → number ≡ given → later ≡ given + 1 → text ≡ line → ends_round round.held (number + 1) text ≡ true → checker ≤ is → NoneFell finders others → left ≡ nothing_read
+    → ReadsLine (number + 1) text checker is round.reads whole.reads → GivesLine rest next line → SoFar opening seats before middle was checker finders known rest given [] round list
+    → WritesRound opening many whole.reads list end middle now finders others
+    → SoFar opening seats before now was is others known next later [] left end
+round_on opening seats many before middle now was checker is finders others known rest next given later number round whole left list end line text fresh all place up same ends rose fell empty takes gives so_far writes =
+    let here : number + 1 ≡ later = omega (arith, place, up) in
+    subst (λ (n : ℕ). SoFar opening seats before now was is others known next n [] left end) here
+    (whole_round_more opening seats before middle now was checker is finders others known next number [] round whole left list end text fresh ends rose fell empty
+    (line_next opening seats before middle was checker finders known rest next given number round list line text place same gives so_far) takes
+    (subst (λ (n : ℕ). WritesRound opening n whole.reads list end middle now finders others) all writes))

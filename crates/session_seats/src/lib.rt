@@ -10,6 +10,7 @@
 #![tactic(auto)]
 
 mod answered;
+mod cutting;
 mod desk;
 mod gathering;
 mod office;
@@ -18,5 +19,6 @@ mod round_lines;
 mod rounds;
 mod serving;
 mod settling;
+mod taking;
 
 pub use serving::serve_with_seats;
