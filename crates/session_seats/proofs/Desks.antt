@@ -1,5 +1,5 @@
 -- What a seat has answered, with one answer more, and a round, with one line more.
-use Rattle.std.proofs.Common.{◌≡◌, ◌<◌, ◌≤◌, ◌+◌, ◌-◌, ◌^◌, ℕ, List, [], ◌∷◌, ◌++◌, length, get_or, Bool, true, false, cond, nat_le, min, Option, Some, None, Ok, Err, Result, refl, sym, ap, ◌∙◌, subst, arith, All}
+use Rattle.std.proofs.Common.{◌≡◌, ◌<◌, ◌≤◌, ◌+◌, ◌-◌, ◌^◌, ℕ, List, [], ◌∷◌, ◌++◌, length, get_or, Bool, true, false, cond, nat_le, min, Option, Some, Ok, Err, Result, refl, sym, ap, ◌∙◌, subst, arith, All}
 use Rattle.std.specs.Prelude.{IsTrue, IsFalse, ◌||◌}
 use Rattle.std.proofs.lemmas.Bool.{or_parts, leb-false}
 use Rattle.std.proofs.lemmas.List.{length_push}

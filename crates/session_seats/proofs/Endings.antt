@@ -3,7 +3,7 @@ use Rattle.std.proofs.Common.{◌≡◌, ◌⊎◌, ℕ, zero, suc, ◌+◌, ◌
 use Rattle.std.proofs.Math.Seq.{take-append_seam}
 use Rattle.std.specs.Prelude.{IfSome, IfErr, OnOk, IsErrAnd, IsErrOf}
 use Rattle.std.specs.Io.KnownBytes.{Appends, IsAtEnd}
-use Rattle.dnr_base.specs.Faults.{Count}
+use Rattle.dnr_base.specs.Faults.{Count, Rose}
 use Rattle.dnr_io.specs.Lines.{GivesLine, IsBeyond, StopsIn, StopsWithin}
 use Rattle.dnr_io.specs.Sink.{AppendsPart}
 use Rattle.dnr_io.specs.declared.line_refusal.LineRefusal.{LineRefusal}
@@ -336,3 +336,7 @@ last_round opening seats many before middle now was checker finders others known
 pub not_of_source : (opening : Basis) (many : ℕ) (reads : List ReadLine) (list : List Entry) (before now : Option (List ℕ)) (finders others : List ℕ) (result : Result (Unit {0}) ServeStop)
     → IfErr result (StopsRound opening many reads list before now finders others) → IsErrOf result stop.ReadFault → ⊥
 not_of_source opening many reads list before now finders others result stops is = subst (λ (r : Result (Unit {0}) ServeStop). IfErr r (StopsRound opening many reads list before now finders others)) is stops
+
+-- a count that rose since some moment rose since an earlier one
+pub rose_since : (first middle last : ℕ) → first ≤ middle → Rose middle last → Rose first last
+rose_since first middle last earlier rose = omega (arith, earlier, rose)

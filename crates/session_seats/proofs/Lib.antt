@@ -11,3 +11,4 @@ pub mod Desks
 pub mod Offices
 pub mod Cuts
 pub mod Taken
+pub mod Answering

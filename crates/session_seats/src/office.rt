@@ -147,6 +147,7 @@ impl<P: Pair> Office<P> {
         ensures texts { OnOk result (self.new.texts ≡ self.old.texts ++ string_bytes text ∷ []) }
         ensures list { self.new.list ≡ self.old.list }
         ensures staged { self.new.staged ≡ self.old.staged }
+        ensures stopped { self.new.stopped ≡ self.old.stopped }
     {
         self.texts.push(text)?;
         Ok(())

@@ -1,11 +1,12 @@
 //! A round: all parts answer its lines, and what they say is written.
-ghost use Rattle.std.specs.Prelude.{◌≡◌, ◌<◌, [], length, map, All, IfOk, IfErr, OnOk, string_bytes};
+ghost use Rattle.std.specs.Prelude.{◌≡◌, ◌<◌, [], false, length, map, All, IfOk, IfErr, OnOk, IsFalse, string_bytes};
 ghost use Rattle.std.specs.List.{AllZip};
 ghost use Rattle.dnr_base.specs.Faults.{HasCauseOf};
 ghost use Rattle.session_laws.specs.Turns.{NoneFell};
 ghost use Rattle.session_rounds.specs.Rounds.{RoundAnswered};
 ghost use Rattle.session_seats.specs.Rounds.{StopsRound, WritesRound};
 ghost use Rattle.session_seats.specs.Seats.{AreSeats, HasAnswered, HasBegun, HasEnded};
+ghost use Rattle.session_seats.specs.Writing.{HasWritten};
 
 use crate::desk::Desk;
 use crate::office::Office;
@@ -98,10 +99,8 @@ fn answer_round<
     let floor = office.note();
     let mut latest = vec![in alloc; floor.number(); desks.len()]?;
     let mut counted = counts_of(alloc, finders)?;
-    office.begin();
-    begin_all(desks, &floor);
-    round_with_tools(rt, gate, lines, office, desks, finders);
-    if office.stopped() || have_stopped(desks) {
+    work_round(rt, gate, lines, &floor, office, desks, finders);
+    if have_stopped(office, desks) {
         return Err(NoMemory);
     }
     let end = office.note();
@@ -117,6 +116,32 @@ fn answer_round<
         &mut counted,
         into,
     )
+}
+
+// Begins a round after what was published before, and lets all its parts do their work.
+fn work_round<R: Threads + Wait + Sync, P: Pair + Send + Sync, H: RegexHost + Send, G: Gate + Sync>(
+    rt: &R,
+    gate: &G,
+    lines: &RoundLines,
+    floor: &Note<P>,
+    office: &mut Office<P>,
+    desks: &mut [Desk<P>],
+    finders: &mut [H],
+)
+    requires some { 0 < length desks.old }
+    requires finders { length finders.old ≡ length desks.old }
+    requires seats { AreSeats (length desks.old) desks.old }
+    requires idle { office.old.staged ≡ [] }
+    ensures wrote { HasWritten P.opening office.old.list lines.now.reads office.new }
+    ensures answered { All (HasAnswered P.opening lines.now.reads) desks.new }
+    ensures count { length desks.new ≡ length desks.old }
+    ensures seats { AreSeats (length desks.old) desks.new }
+    ensures finders { length finders.new ≡ length finders.old }
+    ensures later { NoneFell (map H.faults finders.old) (map H.faults finders.new) }
+{
+    office.begin();
+    begin_all(desks, floor);
+    round_with_tools(rt, gate, lines, office, desks, finders);
 }
 
 // How often each host has failed.
@@ -155,7 +180,9 @@ fn end_all<P: Pair>(desks: &mut [Desk<P>], end: &Note<P>, reads: &[ReadLine])
     end_all(rest, end, reads);
 }
 
-// Whether memory ran out for a seat.
-fn have_stopped<P: Pair>(desks: &[Desk<P>]) -> bool {
-    desks.iter().any(|desk| desk.stopped())
+// Whether memory ran out for the writer or for a seat.
+fn have_stopped<P: Pair>(office: &Office<P>, desks: &[Desk<P>]) -> bool
+    ensures { IsFalse result → office.now.stopped ≡ false }
+{
+    office.stopped() || desks.iter().any(|desk| desk.stopped())
 }

@@ -1,11 +1,13 @@
 //! A script, served from its first line to its last by seats beside a writer.
-ghost use Rattle.std.specs.Prelude.{◌≡◌, ◌<◌, ◌≤◌, ◌∷◌, [], true, length, map, is_some, IfOk, IfSome};
+ghost use Rattle.std.specs.Prelude.{◌≡◌, ◌<◌, ◌≤◌, ◌∷◌, [], false, length, map, is_some, IfOk, IfSome, OnOk};
 ghost use Rattle.dnr_base.specs.Faults.{HasCauseOf};
 ghost use Rattle.session_laws.specs.Turns.{NoneFell, counts_between};
+ghost use Rattle.dnr_spec.specs.Lines.{max_line};
 ghost use Rattle.session_rounds.specs.Read.{serving};
+ghost use Rattle.session_seats.specs.Reading.{ReadsLine};
 ghost use Rattle.session_seats.specs.Seats.{AreSeats};
 ghost use Rattle.session_serve.specs.Serving.{EndsServing};
-ghost use Rattle.update_spec.specs.Entries.{replay};
+ghost use Rattle.session_spec.specs.Rounds.{ends_round, is_full, with_line};
 
 use crate::desk::Desk;
 use crate::office::Office;
@@ -110,22 +112,56 @@ fn serve_pair<
 {
     let (writer, passes) = publish_pair::<P>(alloc, opened, generation, finders.len() as u32)?;
     let mut office = Office::new(alloc, writer);
-    let served = match desks_of(alloc, passes, finders.len()) {
-        Ok(mut desks) => serve_lines(
-            rt,
-            alloc,
-            gate,
-            &mut office,
-            &mut desks,
-            source,
-            out,
-            checker,
-            finders,
-        ),
-        Err(NoMemory) => Err(ServeStop::NoMemory),
-    };
+    let served = serve_desks(
+        rt,
+        alloc,
+        gate,
+        &mut office,
+        passes,
+        source,
+        out,
+        checker,
+        finders,
+    );
     office.close(rt);
     served
+}
+
+// The same by a writer that has said nothing, and a seat for each finder.
+fn serve_desks<
+    P: Pair + Send + Sync,
+    R: Threads + Wait + Sync,
+    S: Source,
+    O: Sink,
+    H: RegexHost + Send,
+    G: Gate + Sync,
+>(
+    rt: &R,
+    alloc: Global,
+    gate: &G,
+    office: &mut Office<P>,
+    passes: Vec<ReaderPass<P>>,
+    source: &mut S,
+    out: &mut O,
+    checker: &mut H,
+    finders: &mut [H],
+) -> Result<(), ServeStop>
+    requires fresh { P.opening.state.count ≡ 0 }
+    requires some { 0 < length finders.old }
+    requires opening { office.old.list ≡ [] }
+    requires idle { office.old.staged ≡ [] }
+    ensures served { IfSome (S.left source.old) (λ script. EndsServing (O.taken out.old) (O.taken out.new)
+        (counts_between (H.faults checker.old ∷ map H.faults finders.old) (H.faults checker.new ∷ map H.faults finders.new))
+        (serving P.opening.suffixes (length finders.old)) P.opening.state script (S.left source.new) result) }
+    ensures later { NoneFell (H.faults checker.old ∷ map H.faults finders.old) (H.faults checker.new ∷ map H.faults finders.new) }
+    ensures told { is_some (S.left source.new) ≡ is_some (S.left source.old) }
+    ensures read_fault { HasCauseOf ServeStop.ReadFault (S.faults source.old) (S.faults source.new) result }
+    ensures write_fault { HasCauseOf ServeStop.WriteFault (O.faults out.old) (O.faults out.new) result }
+{
+    let mut desks = desks_of(alloc, passes, finders.len())?;
+    serve_lines(
+        rt, alloc, gate, office, &mut desks, source, out, checker, finders,
+    )
 }
 
 // So many seats, each with a pass while there are any.
@@ -185,14 +221,34 @@ fn serve_lines<
     let mut number = 0;
     while lines.next(source, &mut line)? {
         number += 1;
-        let read = read_one(alloc, number, &line, &mut memo, checker)?;
-        if round.take(read, line.len())? {
+        let ends = take_line(alloc, number, &line, &mut memo, checker, &mut round)?;
+        if ends {
             serve_round(rt, alloc, gate, &round, office, desks, finders, out)?;
             round.clear();
         }
     }
-    if !round.is_empty() {
-        serve_round(rt, alloc, gate, &round, office, desks, finders, out)?;
+    if round.is_empty() {
+        return Ok(());
     }
-    Ok(())
+    serve_round(rt, alloc, gate, &round, office, desks, finders, out)
+}
+
+// Reads a line into the round, and says whether the round ends with it.
+fn take_line<H: RegexHost>(
+    alloc: Global,
+    number: u32,
+    line: &[u8],
+    memo: &mut Memo,
+    checker: &mut H,
+    round: &mut RoundLines,
+) -> Result<bool, NoMemory>
+    requires short { length line.now ≤ max_line }
+    requires room { is_full round.old.held ≡ false }
+    ensures ends { IfOk result (λ ends. ends_round round.old.held number line.now ≡ ends) }
+    ensures held { OnOk result (round.new.held ≡ with_line round.old.held number line.now) }
+    ensures reads { OnOk result (ReadsLine number line.now (H.faults checker.old) (H.faults checker.new) round.old.reads round.new.reads) }
+    ensures later { H.faults checker.old ≤ H.faults checker.new }
+{
+    let read = read_one(alloc, number, line, memo, checker)?;
+    round.take(read, line.len())
 }

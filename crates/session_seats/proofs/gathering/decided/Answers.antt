@@ -1,4 +1,4 @@
-use Rattle.std.proofs.Common.{◌≡◌, ◌++◌, refl, ap, ◌∙◌}
+use Rattle.std.proofs.Common.{◌++◌, refl, ap, ◌∙◌}
 use Rattle.session_spec.specs.Output.{verdict_line, fault_line}
 use Rattle.session_seats.proofs.Said.{verdict_said, fault_said}
 use Rattle.session_seats.proofs.gathering.decided.Goals as goal

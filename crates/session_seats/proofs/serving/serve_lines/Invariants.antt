@@ -13,7 +13,7 @@ invariant-loop-round g l = record {
   so_far : SoFar g.P.Pair.opening (length l.fn.finders) (g.O.Sink.taken l.fn.out) (g.O.Sink.taken l.out)
       (g.H.RegexHost.faults l.fn.checker ∷ map g.H.RegexHost.faults l.fn.finders) (g.H.RegexHost.faults l.checker) (map g.H.RegexHost.faults l.finders)
       (g.S.Source.left l.fn.source) (ahead l.lines (g.S.Source.left l.source)) l.lines.count [] l.round l.office.list;
-  open : is_full l.round.held ≡ false;
+  room : is_full l.round.held ≡ false;
   count : length l.desks ≡ length l.fn.desks;
   seats : AreSeats (length l.fn.desks) l.desks;
   finders : length l.finders ≡ length l.fn.finders;

@@ -1,4 +1,4 @@
-use Rattle.std.proofs.Common.{◌≡◌, ◌<◌, length, sym, rules}
+use Rattle.std.proofs.Common.{◌<◌, length, sym, rules}
 use Rattle.session_seats.proofs.desk.Desk.answer_to.Goals as goal
 
 pub returns-then-answered-place-clause-there : goal.returns-then-answered-place-clause-there

@@ -1,7 +1,7 @@
-use Rattle.std.proofs.Common.{◌≡◌, ◌≤◌, ◌<◌, ◌+◌, ◌++◌, ◌∷◌, [], ℕ, Bool, cond, length, refl, ap, ◌∙◌, subst, arith}
+use Rattle.std.proofs.Common.{◌≡◌, ◌<◌, ◌+◌, ◌++◌, ◌∷◌, [], Bool, cond, length, refl, ap, ◌∙◌, subst, arith}
 use Rattle.std.specs.Prelude.{◌||◌}
 use Rattle.std.proofs.lemmas.List.{length_push}
-use Rattle.session_rounds.specs.Lines.{read_seen, is_asking}
+use Rattle.session_rounds.specs.Lines.{read_seen}
 use Rattle.session_spec.specs.Rounds.{Held, is_full, is_sync}
 use Rattle.session_seats.specs.Reading.{ReadRound, held_with}
 use Rattle.session_seats.proofs.Desks.{has_room, stays_bounded, bounded_on, holds_line, ends_line}
