@@ -199,3 +199,9 @@ behind_long count now left behind why stands is = subst (λ (w : LineRefusal). S
 
 pub behind_fault : (count : ℕ) (now left behind : Option (List ℕ)) (why : LineRefusal) → StandsBehind count now left (Err why) behind → why ≡ refusal.ReadFault → StopsIn behind left
 behind_fault count now left behind why stands is = subst (λ (w : LineRefusal). StandsBehind count now left (Err w) behind) is stands
+
+-- no fault of the source is blamed where one is not
+pub not_of_cut : (opening : Basis) (seats : ℕ) (from : Standing) (now : Option (List ℕ)) (is : ℕ) (others : List ℕ) (why : ServeStop) (lines : List CutSeen) (result : Result (Unit {0}) ServeStop) → IsErrAnd result (λ e. e ≡ why)
+    → StopsLines opening seats from now is others why lines → IsErrOf result stop.ReadFault → ⊥
+not_of_cut opening seats from now is others why lines result same stops read =
+    lines_blame opening seats from now is others why lines (sym (subst (λ (r : Result (Unit {0}) ServeStop). IsErrAnd r (λ e. e ≡ why)) read same)) stops

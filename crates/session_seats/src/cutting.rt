@@ -1,7 +1,8 @@
 //! The lines of a script, cut from it ahead of their turn.
-ghost use Rattle.std.specs.Prelude.{◌≡◌, ◌+◌, ◌<◌, [], length, is_some, true, Ok, IsTrue};
+ghost use Rattle.std.specs.Prelude.{◌≡◌, ◌+◌, ◌<◌, ◌≤◌, [], length, is_some, true, Ok, IsTrue};
 ghost use Rattle.dnr_base.specs.Faults.{HasCauseOf};
 ghost use Rattle.dnr_io.specs.Lines.{ahead};
+ghost use Rattle.dnr_spec.specs.Lines.{max_lines};
 ghost use Rattle.session_seats.specs.Cutting.{CutsLines, StandsBehind};
 
 use crate::round_lines::Room;
@@ -19,7 +20,6 @@ use std::alloc::Global;
 /// # Errors
 ///
 /// Those of `Lines::next`. The lines before are cut.
-#[tactic(none)]
 pub fn cut_lines<S: Source>(
     alloc: Global,
     number: &mut u32,
@@ -34,6 +34,7 @@ pub fn cut_lines<S: Source>(
     ensures cut { CutsLines (ahead lines.old (S.left source.old)) number.old cut.new.items
         (StandsBehind number.new (ahead lines.new (S.left source.new)) (S.left source.new) result) }
     ensures number { number.new ≡ number.old + length cut.new.items }
+    ensures few { number.old ≤ max_lines → number.new ≤ max_lines }
     ensures some { result ≡ Ok true → number.old < number.new }
     ensures here { result ≡ Ok true → number.new ≡ lines.new.count }
     ensures live { result ≡ Ok true → IsTrue lines.new.live }

@@ -5,33 +5,9 @@ ghost use Rattle.session_seats.specs.Reading.{HasRead};
 use dnr_base::NoMemory;
 use lines_ahead::CutLine;
 use regex_host::RegexHost;
-use script_read::{LineFault, Memo, read_line_with};
+use script_read::{LineFault, Memo};
 use session_rounds::ReadLine;
 use std::alloc::Global;
-
-/// Reads the line of this number. The checker is asked for the patterns of updates.
-pub fn read_one<H: RegexHost>(
-    alloc: Global,
-    number: u32,
-    line: &[u8],
-    memo: &mut Memo,
-    checker: &mut H,
-) -> Result<ReadLine, NoMemory>
-    ensures read { IfOk result (HasRead number line.now (H.faults checker.old) (H.faults checker.new)) }
-    ensures later { H.faults checker.old ≤ H.faults checker.new }
-{
-    match read_line_with(alloc, number, line, memo, checker) {
-        Ok(command) => Ok(ReadLine {
-            number,
-            read: Ok(command),
-        }),
-        Err(LineFault::NoMemory) => Err(NoMemory),
-        Err(fault) => Ok(ReadLine {
-            number,
-            read: Err(fault),
-        }),
-    }
-}
 
 /// Reads a line that was cut. The checker is asked for the patterns of updates.
 pub fn read_cut<H: RegexHost>(

@@ -30,7 +30,6 @@ use std::thread::Threads;
 ///
 /// - `WriteFault`: the sink failed, and has taken some first bytes of what a round says.
 /// - `NoMemory`: memory ran out. Some first rounds are written.
-#[tactic(none)]
 pub fn serve_cut<
     P: Pair + Send + Sync,
     R: Threads + Wait + Sync,
@@ -80,7 +79,6 @@ pub fn serve_cut<
 }
 
 // Takes a line into the round, and serves the round where it ends with it.
-#[tactic(none)]
 fn serve_line<
     P: Pair + Send + Sync,
     R: Threads + Wait + Sync,
@@ -131,7 +129,6 @@ fn serve_line<
 }
 
 // Takes a line into the round, and says whether the round ends with it.
-#[tactic(none)]
 fn take_cut<H: RegexHost>(
     alloc: Global,
     line: CutLine,
@@ -146,7 +143,7 @@ fn take_cut<H: RegexHost>(
     ensures reads { OnOk result (ReadsLine line.number line.bytes (H.faults checker.old) (H.faults checker.new) round.old.reads round.new.reads) }
     ensures later { H.faults checker.old ≤ H.faults checker.new }
 {
-    let bytes = line.bytes().len();
+    let count = line.bytes().len();
     let read = read_cut(alloc, line, memo, checker)?;
-    round.take(read, bytes)
+    round.take(read, count)
 }

@@ -12,6 +12,7 @@ invariant-loop-going g l = record {
   more : l.number ≡ l.fn.number + length l.cut.items;
   here : l.number ≡ l.lines.count;
   live : IsTrue l.lines.live;
+  few : l.fn.number ≤ max_lines → l.number ≤ max_lines;
   some : l.going ≡ false → l.fn.number < l.number;
   told : is_some (g.S.Source.left l.source) ≡ is_some (g.S.Source.left l.fn.source);
   files : g.S.Source.files l.source ≡ g.S.Source.files l.fn.source;

@@ -65,7 +65,7 @@ returns-in_err-serve_line-clause-stops g c =
     (standing (g.O.Sink.taken c.args.out.now) (g.H.RegexHost.faults c.args.checker.now) (map g.H.RegexHost.faults c.args.finders.now) c.args.round.now c.args.office.now.list)
     (standing (g.O.Sink.taken at.out) (g.H.RegexHost.faults at.checker) (map g.H.RegexHost.faults at.finders) at.round at.office.list)
     (g.O.Sink.taken c.serve_line.new.out) (g.H.RegexHost.faults c.serve_line.new.checker) (map g.H.RegexHost.faults c.serve_line.new.finders) c.in_err-serve_line.field-0.0 _
-    c.in-Some.line (into_iter_items at.line-iterator) (into_iter_items c.next.new.self) c.args.cut.items c.from_residual-in_err-serve_line.ensures.1 inv.count c.in-Some.ensures.steps.0 c.in_err-serve_line.ensures.stops inv.stops
+    c.in-Some.line (into_iter_items at.line-iterator) (into_iter_items c.next.new.self) c.args.cut.items c.from_residual.ensures.1 inv.count c.in-Some.ensures.steps.0 c.in_err-serve_line.ensures.stops inv.stops
 
 pub returns-in_err-serve_line-clause-seats : goal.returns-in_err-serve_line-clause-seats
 returns-in_err-serve_line-clause-seats g c = subst (λ n. AreSeats n c.serve_line.new.desks) c.loop-line.invariant.count c.in_err-serve_line.ensures.seats
