@@ -1,5 +1,5 @@
 -- Lines that are cut from a source ahead of their turn, and the rounds that they are given to.
-use Rattle.std.proofs.Common.{◌≡◌, ℕ, ◌+◌, ◌≤◌, List, [], ◌∷◌, ◌++◌, length, Bool, true, false, Option, Some, None, Result, Ok, Err, refl, sym, ap, ◌∙◌, subst, arith, append_assoc, append-nil}
+use Rattle.std.proofs.Common.{◌≡◌, ℕ, ◌+◌, ◌≤◌, List, [], ◌∷◌, ◌++◌, length, Bool, true, false, Option, Some, None, Result, Ok, Err, refl, sym, ap, ◌∙◌, subst, arith, append_assoc, append-nil, take, drop, take_all, drop_of_length-le}
 use Rattle.std.specs.Prelude.{IfSome, IsErrAnd}
 use Rattle.std.specs.Io.KnownBytes.{IsAtEnd}
 use Rattle.dnr_io.specs.Lines.{GivesLine, IsBeyond, StopsIn}
@@ -49,6 +49,14 @@ stands_unread count now left behind (Ok more) is = absurd is
 stands_unread count now left behind (Err refusal.ReadFault) is = absurd (cc is)
 stands_unread count now left behind (Err refusal.LineTooLong) is = absurd (cc is)
 stands_unread count now left behind (Err refusal.NoMemory) is = tt
+
+-- ---- lines that are asked
+
+-- what a slice of all of them is, written back
+pub written_back : (items now : List CutSeen) (count : ℕ) → now ≡ items → length items ≤ count → take count (now ++ drop (length now) items) ≡ items
+written_back items now count same long =
+    subst (λ (ls : List CutSeen). take count (ls ++ drop (length ls) items) ≡ items) (sym same)
+    (ap (λ (ls : List CutSeen). take count (items ++ ls)) (drop_of_length-le items {i = length items} (omega arith)) ∙ ap (λ (ls : List CutSeen). take count ls) (append-nil items) ∙ take_all count items long)
 
 -- ---- the lines of a queue
 

@@ -7,9 +7,10 @@ ghost use Rattle.session_seats.specs.Cutting.{CutsLines, StandsBehind};
 
 use crate::round_lines::Room;
 use dnr_io::{LineRefusal, Lines, Source};
-use lines_ahead::CutLine;
+use lines_ahead::{CutLine, ask_all};
 use memchr::{memchr, memmem};
 use std::alloc::Global;
+use std::thread::Threads;
 
 /// Cuts the lines that may be the rest of a round with this room: to the end of the script, to one that may be a sync, or
 /// until there is no more room. `Ok(false)` is the end of the script, before which lines may have been cut, and `Ok(true)`
@@ -54,6 +55,14 @@ pub fn cut_lines<S: Source>(
         *number = place;
     }
     Ok(true)
+}
+
+/// Asks the lines that were cut what they ask for, in at most so many threads.
+pub fn ask_cut<R: Threads + Sync>(rt: &R, alloc: Global, threads: usize, cut: &mut Vec<CutLine>)
+    requires { 0 < threads }
+    ensures { cut.new.items ≡ cut.old.items }
+{
+    ask_all(rt, alloc, threads, cut);
 }
 
 // Whether the line may be a sync: it has the word, or may write it by escapes.

@@ -6,7 +6,7 @@ ghost use Rattle.session_rounds.specs.Read.{serving};
 ghost use Rattle.session_seats.specs.Seats.{AreSeats};
 ghost use Rattle.session_serve.specs.Serving.{EndsServing};
 
-use crate::cutting::cut_lines;
+use crate::cutting::{ask_cut, cut_lines};
 use crate::desk::Desk;
 use crate::office::Office;
 use crate::round_lines::RoundLines;
@@ -15,7 +15,6 @@ use crate::taking::serve_cut;
 use dnr_base::NoMemory;
 use dnr_io::{Lines, Sink, Source};
 use generation::Generation;
-use lines_ahead::ask_all;
 use lookup_pool::Gate;
 use published::{Opening, Pair, ReaderPass, publish_pair};
 use regex_host::RegexHost;
@@ -221,7 +220,7 @@ fn serve_lines<
         let mut cut = Vec::new(alloc);
         let room = round.room();
         let more = cut_lines(alloc, &mut number, &mut lines, source, room, &mut cut);
-        ask_all(rt, alloc, desks.len(), &mut cut);
+        ask_cut(rt, alloc, desks.len(), &mut cut);
         serve_cut(
             rt, alloc, gate, cut, office, desks, &mut memo, &mut round, out, checker, finders,
         )?;

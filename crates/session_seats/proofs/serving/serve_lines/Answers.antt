@@ -49,7 +49,7 @@ pub serve_cut-requires-clause-seats : goal.serve_cut-requires-clause-seats
 serve_cut-requires-clause-seats g c κs within = subst (λ n. AreSeats n c.rounds.desks) (sym c.rounds.invariant.count) c.rounds.invariant.seats
 
 pub serve_cut-requires-clause-short : goal.serve_cut-requires-clause-short
-serve_cut-requires-clause-short g c κs within = subst (λ (ls : List CutSeen). AreShort ls) (sym (c.ask_all.ensures ∙ c.deref_mut.ensures.value)) (short_of c.rounds.number c.cut_lines-more.new.cut.items c.cut_lines-more.ensures.cut.follow)
+serve_cut-requires-clause-short g c κs within = subst (λ (ls : List CutSeen). AreShort ls) (sym c.ask_cut.ensures) (short_of c.rounds.number c.cut_lines-more.new.cut.items c.cut_lines-more.ensures.cut.follow)
 
 pub returns-in_err-serve_cut-clause-served : goal.returns-in_err-serve_cut-clause-served
 returns-in_err-serve_cut-clause-served g c =
@@ -58,10 +58,10 @@ returns-in_err-serve_cut-clause-served g c =
     let cut = c.cut_lines-more.ensures in
     stop_said _ _ _ _ _ _ _ _ _ c.from_residual-in_err-serve_cut.ensures.1 (λ e same. cut_stopped g.P.Pair.opening (length c.args.finders.now) (length at.desks) (g.O.Sink.taken c.args.out.now) (g.O.Sink.taken c.serve_cut.new.out)
     (g.H.RegexHost.faults c.args.checker.now ∷ map g.H.RegexHost.faults c.args.finders.now) (g.H.RegexHost.faults c.serve_cut.new.checker) (map g.H.RegexHost.faults c.serve_cut.new.finders) (g.S.Source.left c.args.source.now)
-    (ahead at.lines (g.S.Source.left at.source)) (g.S.Source.left c.cut_lines-more.new.source) at.number c.cut_lines-more.new.number c.cut_lines-more.new.cut.items c.ask_all.new.lines
+    (ahead at.lines (g.S.Source.left at.source)) (g.S.Source.left c.cut_lines-more.new.source) at.number c.cut_lines-more.new.number c.cut_lines-more.new.cut.items c.ask_cut.new.cut.items
     (StandsBehind c.cut_lines-more.new.number (ahead c.cut_lines-more.new.lines (g.S.Source.left c.cut_lines-more.new.source)) (g.S.Source.left c.cut_lines-more.new.source) c.cut_lines-more.result)
     (standing (g.O.Sink.taken at.out) (g.H.RegexHost.faults at.checker) (map g.H.RegexHost.faults at.finders) at.round at.office.list) c.in_err-serve_cut.field-0.0 e same
-    c.requires.fresh (inv.count ∙ sym c.requires.finders) (c.ask_all.ensures ∙ c.deref_mut.ensures.value) cut.number (cut.few inv.few) cut.cut inv.so_far c.in_err-serve_cut.ensures.stops)
+    c.requires.fresh (inv.count ∙ sym c.requires.finders) c.ask_cut.ensures cut.number (cut.few inv.few) cut.cut inv.so_far c.in_err-serve_cut.ensures.stops)
 
 pub returns-in_err-serve_cut-clause-later : goal.returns-in_err-serve_cut-clause-later
 returns-in_err-serve_cut-clause-later g c = (
@@ -83,10 +83,10 @@ returns-in_err-more-clause-served g c =
     (g.H.RegexHost.faults c.args.checker.now ∷ map g.H.RegexHost.faults c.args.finders.now) (g.H.RegexHost.faults c.serve_cut.new.checker) (map g.H.RegexHost.faults c.serve_cut.new.finders) (g.S.Source.left c.args.source.now)
     cut.cut.behind left c.cut_lines-more.new.number c.serve_cut.new.round c.serve_cut.new.office.list why e same (cut.few inv.few) (behind_long c.cut_lines-more.new.number now left cut.cut.behind why cut.cut.holds) (behind_fault c.cut_lines-more.new.number now left cut.cut.behind why cut.cut.holds)
     (cut_taken g.P.Pair.opening (length c.args.finders.now) (length at.desks) (g.O.Sink.taken c.args.out.now) (g.H.RegexHost.faults c.args.checker.now ∷ map g.H.RegexHost.faults c.args.finders.now) (g.S.Source.left c.args.source.now)
-    (ahead at.lines (g.S.Source.left at.source)) at.number c.cut_lines-more.new.number c.cut_lines-more.new.cut.items c.ask_all.new.lines Holds
+    (ahead at.lines (g.S.Source.left at.source)) at.number c.cut_lines-more.new.number c.cut_lines-more.new.cut.items c.ask_cut.new.cut.items Holds
     (standing (g.O.Sink.taken at.out) (g.H.RegexHost.faults at.checker) (map g.H.RegexHost.faults at.finders) at.round at.office.list)
     (standing (g.O.Sink.taken c.serve_cut.new.out) (g.H.RegexHost.faults c.serve_cut.new.checker) (map g.H.RegexHost.faults c.serve_cut.new.finders) c.serve_cut.new.round c.serve_cut.new.office.list)
-    c.requires.fresh (inv.count ∙ sym c.requires.finders) (c.ask_all.ensures ∙ c.deref_mut.ensures.value) cut.number cut.cut inv.so_far served.takes))
+    c.requires.fresh (inv.count ∙ sym c.requires.finders) c.ask_cut.ensures cut.number cut.cut inv.so_far served.takes))
 
 pub returns-in_err-more-clause-later : goal.returns-in_err-more-clause-later
 returns-in_err-more-clause-later g c = (
@@ -111,10 +111,10 @@ rounds-preserved g c =
           (g.H.RegexHost.faults c.args.checker.now ∷ map g.H.RegexHost.faults c.args.finders.now) (g.H.RegexHost.faults c.serve_cut.new.checker) (map g.H.RegexHost.faults c.serve_cut.new.finders)
           (g.S.Source.left c.args.source.now) rest c.cut_lines-more.new.number [] c.serve_cut.new.round c.serve_cut.new.office.list) (sym stands)
           (cut_taken g.P.Pair.opening (length c.args.finders.now) (length at.desks) (g.O.Sink.taken c.args.out.now) (g.H.RegexHost.faults c.args.checker.now ∷ map g.H.RegexHost.faults c.args.finders.now) (g.S.Source.left c.args.source.now)
-          (ahead at.lines (g.S.Source.left at.source)) at.number c.cut_lines-more.new.number c.cut_lines-more.new.cut.items c.ask_all.new.lines Holds
+          (ahead at.lines (g.S.Source.left at.source)) at.number c.cut_lines-more.new.number c.cut_lines-more.new.cut.items c.ask_cut.new.cut.items Holds
           (standing (g.O.Sink.taken at.out) (g.H.RegexHost.faults at.checker) (map g.H.RegexHost.faults at.finders) at.round at.office.list)
           (standing (g.O.Sink.taken c.serve_cut.new.out) (g.H.RegexHost.faults c.serve_cut.new.checker) (map g.H.RegexHost.faults c.serve_cut.new.finders) c.serve_cut.new.round c.serve_cut.new.office.list)
-          c.requires.fresh (inv.count ∙ sym c.requires.finders) (c.ask_all.ensures ∙ c.deref_mut.ensures.value) cut.number cut.cut inv.so_far served.takes);
+          c.requires.fresh (inv.count ∙ sym c.requires.finders) c.ask_cut.ensures cut.number cut.cut inv.so_far served.takes);
       room = served.room;
       count = served.count ∙ inv.count;
       seats = subst (λ n. AreSeats n c.serve_cut.new.desks) inv.count served.seats;
@@ -145,10 +145,10 @@ returns-then-is_empty-clause-served g c =
     (g.H.RegexHost.faults c.args.checker.now ∷ map g.H.RegexHost.faults c.args.finders.now) (g.H.RegexHost.faults c.serve_cut.new.checker) (map g.H.RegexHost.faults c.serve_cut.new.finders) (g.S.Source.left c.args.source.now)
     cut.cut.behind left c.cut_lines-more.new.number c.serve_cut.new.round c.serve_cut.new.office.list (cut.few inv.few) stands (c.if-is_empty.ensures.none refl)
     (cut_taken g.P.Pair.opening (length c.args.finders.now) (length at.desks) (g.O.Sink.taken c.args.out.now) (g.H.RegexHost.faults c.args.checker.now ∷ map g.H.RegexHost.faults c.args.finders.now) (g.S.Source.left c.args.source.now)
-    (ahead at.lines (g.S.Source.left at.source)) at.number c.cut_lines-more.new.number c.cut_lines-more.new.cut.items c.ask_all.new.lines Holds
+    (ahead at.lines (g.S.Source.left at.source)) at.number c.cut_lines-more.new.number c.cut_lines-more.new.cut.items c.ask_cut.new.cut.items Holds
     (standing (g.O.Sink.taken at.out) (g.H.RegexHost.faults at.checker) (map g.H.RegexHost.faults at.finders) at.round at.office.list)
     (standing (g.O.Sink.taken c.serve_cut.new.out) (g.H.RegexHost.faults c.serve_cut.new.checker) (map g.H.RegexHost.faults c.serve_cut.new.finders) c.serve_cut.new.round c.serve_cut.new.office.list)
-    c.requires.fresh (inv.count ∙ sym c.requires.finders) (c.ask_all.ensures ∙ c.deref_mut.ensures.value) cut.number cut.cut inv.so_far served.takes)
+    c.requires.fresh (inv.count ∙ sym c.requires.finders) c.ask_cut.ensures cut.number cut.cut inv.so_far served.takes)
 
 pub returns-then-is_empty-clause-later : goal.returns-then-is_empty-clause-later
 returns-then-is_empty-clause-later g c = (
@@ -178,10 +178,10 @@ returns-clause-served g c =
     (g.S.Source.left c.args.source.now) cut.cut.behind left c.cut_lines-more.new.number c.serve_cut.new.round c.serve_cut.new.office.list c.serve_round.new.office.list
     c.serve_round.result c.requires.fresh (served.count ∙ inv.count ∙ sym c.requires.finders) (cut.few inv.few) stands (c.if-is_empty.ensures.some refl) round.later
     (cut_taken g.P.Pair.opening (length c.args.finders.now) (length at.desks) (g.O.Sink.taken c.args.out.now) (g.H.RegexHost.faults c.args.checker.now ∷ map g.H.RegexHost.faults c.args.finders.now) (g.S.Source.left c.args.source.now)
-    (ahead at.lines (g.S.Source.left at.source)) at.number c.cut_lines-more.new.number c.cut_lines-more.new.cut.items c.ask_all.new.lines Holds
+    (ahead at.lines (g.S.Source.left at.source)) at.number c.cut_lines-more.new.number c.cut_lines-more.new.cut.items c.ask_cut.new.cut.items Holds
     (standing (g.O.Sink.taken at.out) (g.H.RegexHost.faults at.checker) (map g.H.RegexHost.faults at.finders) at.round at.office.list)
     (standing (g.O.Sink.taken c.serve_cut.new.out) (g.H.RegexHost.faults c.serve_cut.new.checker) (map g.H.RegexHost.faults c.serve_cut.new.finders) c.serve_cut.new.round c.serve_cut.new.office.list)
-    c.requires.fresh (inv.count ∙ sym c.requires.finders) (c.ask_all.ensures ∙ c.deref_mut.ensures.value) cut.number cut.cut inv.so_far served.takes)
+    c.requires.fresh (inv.count ∙ sym c.requires.finders) c.ask_cut.ensures cut.number cut.cut inv.so_far served.takes)
     round.written round.stops
 
 pub returns-clause-later : goal.returns-clause-later
@@ -207,6 +207,6 @@ returns-in_err-serve_cut-clause-read_fault g c =
     record {
       later = omega (arith, at.invariant.read, c.cut_lines-more.ensures.cause.later);
       failed = λ is. absurd (not_of_cut g.P.Pair.opening (length at.desks) (standing (g.O.Sink.taken at.out) (g.H.RegexHost.faults at.checker) (map g.H.RegexHost.faults at.finders) at.round at.office.list)
-          (g.O.Sink.taken c.serve_cut.new.out) (g.H.RegexHost.faults c.serve_cut.new.checker) (map g.H.RegexHost.faults c.serve_cut.new.finders) c.in_err-serve_cut.field-0.0 c.ask_all.new.lines _ c.from_residual-in_err-serve_cut.ensures.1
+          (g.O.Sink.taken c.serve_cut.new.out) (g.H.RegexHost.faults c.serve_cut.new.checker) (map g.H.RegexHost.faults c.serve_cut.new.finders) c.in_err-serve_cut.field-0.0 c.ask_cut.new.cut.items _ c.from_residual-in_err-serve_cut.ensures.1
           c.in_err-serve_cut.ensures.stops is);
     }
