@@ -1,20 +1,20 @@
 -- How the serving of a script ends.
-use Rattle.std.proofs.Common.{◌≡◌, ◌⊎◌, ℕ, zero, suc, ◌+◌, ◌≤◌, List, [], ◌∷◌, ◌++◌, take, length, Bool, true, false, Option, Some, None, Result, Ok, Err, refl, sym, ap, ◌∙◌, inl, inr, subst, arith, append_assoc, append-nil, length-append}
+use Rattle.std.proofs.Common.{◌≡◌, ◌⊎◌, ℕ, zero, suc, ◌+◌, ◌≤◌, List, [], ◌∷◌, ◌++◌, take, length, true, Option, Some, None, Result, Ok, Err, refl, sym, ap, ◌∙◌, inl, inr, subst, arith, append_assoc, append-nil}
 use Rattle.std.proofs.Math.Seq.{take-append_seam}
 use Rattle.std.specs.Prelude.{IfSome, IfErr, OnOk, IsErrAnd, IsErrOf}
 use Rattle.std.specs.Io.KnownBytes.{Appends, IsAtEnd}
 use Rattle.dnr_base.specs.Faults.{Count, Rose}
-use Rattle.dnr_io.specs.Lines.{GivesLine, IsBeyond, StopsIn, StopsWithin}
+use Rattle.dnr_io.specs.Lines.{GivesLine, IsBeyond, StopsIn}
 use Rattle.dnr_io.specs.Sink.{AppendsPart}
 use Rattle.dnr_io.specs.declared.line_refusal.LineRefusal.{LineRefusal}
 use Rattle.dnr_io.specs.declared.line_refusal.LineRefusal.TheVariants as refusal
 use Rattle.dnr_io.proofs.ReadSoFar.{IsReadSoFar, all_read, all_within, is_beyond}
-use Rattle.dnr_spec.specs.Lines.{lines_of, is_within_limits, max_lines}
+use Rattle.dnr_spec.specs.Lines.{lines_of, max_lines}
 use Rattle.generation.specs.Basis.{Basis}
 use Rattle.rule_spec.specs.State.{State}
 use Rattle.session_laws.proofs.Cut.{Cut, cut_end, alone_open}
-use Rattle.session_laws.proofs.Rises.{none_fell_yet, none_fell_on, as_long, later_rises}
-use Rattle.session_laws.proofs.Served.{Served, serves_rounds}
+use Rattle.session_laws.proofs.Rises.{none_fell_yet, as_long, later_rises}
+use Rattle.session_laws.proofs.Served.{serves_rounds}
 use Rattle.session_laws.specs.Turns.{NoneFell, counts_between}
 use Rattle.session_rounds.specs.Read.{LinesRead, serving}
 use Rattle.session_rounds.specs.Rounds.{RoundAnswered}

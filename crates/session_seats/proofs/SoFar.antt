@@ -1,38 +1,26 @@
 -- A script whose rounds are served by seats, up to some line.
-use Rattle.std.proofs.Common.{◌≡◌, ◌⊎◌, ℕ, zero, suc, ◌+◌, ◌≤◌, List, [], ◌∷◌, ◌++◌, take, length, Bool, true, false, Option, Some, None, Result, Ok, Err, refl, sym, ap, ◌∙◌, inl, inr, subst, arith, append_assoc, append-nil, length-append}
+use Rattle.std.proofs.Common.{◌≡◌, ℕ, zero, suc, ◌+◌, ◌≤◌, List, [], ◌∷◌, ◌++◌, length, Bool, true, false, Option, Some, None, Result, Ok, Err, refl, sym, ap, ◌∙◌, subst, arith, append_assoc, append-nil, length-append}
 use Rattle.std.proofs.lemmas.Bool.{or_parts}
-use Rattle.std.proofs.Math.Seq.{take-append_seam}
-use Rattle.std.specs.Prelude.{IfSome, IfOk, OnOk, slice_get, ◌||◌}
-use Rattle.std.specs.Io.KnownBytes.{Appends, IsAtEnd, prepend_known}
-use Rattle.dnr_base.specs.Faults.{Count}
-use Rattle.dnr_io.specs.Lines.{Reading, ahead, GivesLine, IsBeyond, StopsIn, StopsWithin}
-use Rattle.dnr_io.specs.Sink.{AppendsPart}
-use Rattle.dnr_io.specs.declared.line_refusal.LineRefusal.{LineRefusal}
-use Rattle.dnr_io.specs.declared.line_refusal.LineRefusal.TheVariants as refusal
-use Rattle.dnr_io.proofs.ReadSoFar.{IsReadSoFar, one_read, all_read, all_within, is_beyond}
-use Rattle.dnr_spec.specs.Lines.{lines_of, is_within_limits, max_lines}
+use Rattle.std.specs.Prelude.{IfOk, OnOk, ◌||◌}
+use Rattle.std.specs.Io.KnownBytes.{Appends, prepend_known}
+use Rattle.dnr_io.specs.Lines.{Reading, ahead, GivesLine}
+use Rattle.dnr_io.proofs.ReadSoFar.{IsReadSoFar, one_read}
 use Rattle.generation.specs.Basis.{Basis}
-use Rattle.rule_spec.specs.State.{State}
-use Rattle.session_laws.proofs.Cut.{Cut, cut_first, cut_on, cut_end, alone_open}
-use Rattle.session_laws.proofs.Rises.{place_rises, nothing_risen, none_fell_yet, none_fell_on, as_long, later_rises}
-use Rattle.session_laws.proofs.Served.{Served, served_first, served_whole, serves_rounds}
+use Rattle.session_laws.proofs.Cut.{Cut, cut_first, cut_on, cut_end}
+use Rattle.session_laws.proofs.Rises.{place_rises, nothing_risen, none_fell_yet, none_fell_on, as_long}
+use Rattle.session_laws.proofs.Served.{Served, served_first, served_whole}
 use Rattle.session_laws.specs.Turns.{times_of, RiseBy, NoneFell, counts_between}
 use Rattle.line_spec.specs.Line.{command_of}
 use Rattle.session_rounds.proofs.Read.{round_served}
 use Rattle.session_rounds.specs.Lines.{read_seen}
-use Rattle.session_rounds.specs.Read.{LinesRead, serving, RoundServed}
+use Rattle.session_rounds.specs.Read.{LinesRead, serving}
 use Rattle.session_rounds.specs.Rounds.{RoundAnswered}
 use Rattle.session_rounds.specs.declared.read_line.ReadLine.{ReadLine}
-use Rattle.session_serve.proofs.Short.{first_short, all_short, GaveLines, gave_lines}
-use Rattle.session_serve.specs.Serving.{stop_of, WritesRounds, WritesPart, some_rounds, EndsUnread, EndsServing}
-use Rattle.session_serve.specs.declared.stop.ServeStop.{ServeStop}
-use Rattle.session_serve.specs.declared.stop.ServeStop.TheVariants as stop
-use Rattle.session_spec.specs.Answers.{RisesBy, HostRisesBy, Serves}
-use Rattle.session_spec.specs.Rounds.{Held, holds_nothing, with_line, ends_round, is_sync, is_full, rounds_of, whole_rounds_of, short_lines, ended_lines}
-use Rattle.session_spec.specs.Said.{count_failed, count_stopped, lines_text}
+use Rattle.session_spec.specs.Answers.{RisesBy}
+use Rattle.session_spec.specs.Rounds.{Held, holds_nothing, with_line, ends_round, is_sync, is_full}
 use Rattle.update_spec.specs.Entries.{Entry, replay}
 use Rattle.session_seats.specs.Reading.{ReadRound, ReadsLine, HasRead, held_with}
-use Rattle.session_seats.specs.Rounds.{WritesRound, CutsRound, StopsRound}
+use Rattle.session_seats.specs.Rounds.{WritesRound}
 use Rattle.session_seats.proofs.Lines as lines
 use Rattle.session_seats.proofs.Readings.{held_so, ends_so}
 
