@@ -73,7 +73,9 @@ pub fn serve_cut<
     ensures cause { HasCauseOf ServeStop.WriteFault (O.faults out.old) (O.faults out.new) result }
 {
     for line in cut {
-        serve_line(rt, alloc, gate, line, office, desks, memo, round, out, checker, finders)?;
+        serve_line(
+            rt, alloc, gate, line, office, desks, memo, round, out, checker, finders,
+        )?;
     }
     Ok(())
 }
