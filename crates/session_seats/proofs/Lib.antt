@@ -9,4 +9,6 @@ pub mod Parts
 pub mod Replies
 pub mod Desks
 pub mod Offices
+pub mod Cuts
+pub mod Taken
 pub mod Answering

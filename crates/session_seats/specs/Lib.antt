@@ -2,3 +2,5 @@ pub mod Reading
 pub mod Seats
 pub mod Writing
 pub mod Rounds
+pub mod Cutting
+pub mod Taking

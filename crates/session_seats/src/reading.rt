@@ -3,23 +3,24 @@ ghost use Rattle.std.specs.Prelude.{◌≤◌, IfOk};
 ghost use Rattle.session_seats.specs.Reading.{HasRead};
 
 use dnr_base::NoMemory;
+use lines_ahead::CutLine;
 use regex_host::RegexHost;
-use script_read::{LineFault, Memo, read_line_with};
+use script_read::{LineFault, Memo};
 use session_rounds::ReadLine;
 use std::alloc::Global;
 
-/// Reads the line of this number. The checker is asked for the patterns of updates.
-pub fn read_one<H: RegexHost>(
+/// Reads a line that was cut. The checker is asked for the patterns of updates.
+pub fn read_cut<H: RegexHost>(
     alloc: Global,
-    number: u32,
-    line: &[u8],
+    line: CutLine,
     memo: &mut Memo,
     checker: &mut H,
 ) -> Result<ReadLine, NoMemory>
-    ensures read { IfOk result (HasRead number line.now (H.faults checker.old) (H.faults checker.new)) }
+    ensures read { IfOk result (HasRead line.number line.bytes (H.faults checker.old) (H.faults checker.new)) }
     ensures later { H.faults checker.old ≤ H.faults checker.new }
 {
-    match read_line_with(alloc, number, line, memo, checker) {
+    let number = line.number();
+    match line.finish(alloc, memo, checker) {
         Ok(command) => Ok(ReadLine {
             number,
             read: Ok(command),

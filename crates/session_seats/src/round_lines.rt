@@ -15,6 +15,22 @@ const MAX_LINES: usize = 1_024;
 
 const FULL_BYTES: usize = 8_388_608;
 
+/// How many lines and bytes a round still takes.
+#[derive(Clone, Copy)]
+pub struct Room {
+    lines: usize,
+    bytes: usize,
+}
+
+impl Room {
+    /// Less the room of a line of so many bytes, and whether there is room for another line.
+    pub fn take(&mut self, bytes: usize) -> bool {
+        self.lines = self.lines.saturating_sub(1);
+        self.bytes = self.bytes.saturating_sub(bytes);
+        self.lines > 0 && self.bytes > 0
+    }
+}
+
 /// The lines of a round so far, and how much it holds.
 #[derive(Drop)]
 pub struct RoundLines {
@@ -90,6 +106,14 @@ impl RoundLines {
         self.asking.clear();
         self.bytes = 0;
         self.updates = false;
+    }
+
+    /// What it still takes.
+    pub fn room(&self) -> Room {
+        Room {
+            lines: MAX_LINES.saturating_sub(self.reads.len()),
+            bytes: FULL_BYTES.saturating_sub(self.bytes),
+        }
     }
 
     /// The lines.

@@ -1,19 +1,17 @@
 //! A script, served from its first line to its last by seats beside a writer.
-ghost use Rattle.std.specs.Prelude.{◌≡◌, ◌<◌, ◌≤◌, ◌∷◌, [], false, length, map, is_some, IfOk, IfSome, OnOk};
+ghost use Rattle.std.specs.Prelude.{◌≡◌, ◌<◌, ◌≤◌, ◌∷◌, [], length, map, is_some, IfOk, IfSome};
 ghost use Rattle.dnr_base.specs.Faults.{HasCauseOf};
 ghost use Rattle.session_laws.specs.Turns.{NoneFell, counts_between};
-ghost use Rattle.dnr_spec.specs.Lines.{max_line};
 ghost use Rattle.session_rounds.specs.Read.{serving};
-ghost use Rattle.session_seats.specs.Reading.{ReadsLine};
 ghost use Rattle.session_seats.specs.Seats.{AreSeats};
 ghost use Rattle.session_serve.specs.Serving.{EndsServing};
-ghost use Rattle.session_spec.specs.Rounds.{ends_round, is_full, with_line};
 
+use crate::cutting::{ask_cut, cut_lines};
 use crate::desk::Desk;
 use crate::office::Office;
-use crate::reading::read_one;
 use crate::round_lines::RoundLines;
 use crate::rounds::serve_round;
+use crate::taking::serve_cut;
 use dnr_base::NoMemory;
 use dnr_io::{Lines, Sink, Source};
 use generation::Generation;
@@ -215,40 +213,23 @@ fn serve_lines<
     ensures write_fault { HasCauseOf ServeStop.WriteFault (O.faults out.old) (O.faults out.new) result }
 {
     let mut lines = Lines::new(alloc)?;
-    let mut line = Vec::new(alloc);
     let mut memo = Memo::new(alloc);
     let mut round = RoundLines::new(alloc);
     let mut number = 0;
-    while lines.next(source, &mut line)? {
-        number += 1;
-        let ends = take_line(alloc, number, &line, &mut memo, checker, &mut round)?;
-        if ends {
-            serve_round(rt, alloc, gate, &round, office, desks, finders, out)?;
-            round.clear();
+    'rounds: loop {
+        let mut cut = Vec::new(alloc);
+        let room = round.room();
+        let more = cut_lines(alloc, &mut number, &mut lines, source, room, &mut cut);
+        ask_cut(rt, alloc, desks.len(), &mut cut);
+        serve_cut(
+            rt, alloc, gate, cut, office, desks, &mut memo, &mut round, out, checker, finders,
+        )?;
+        if !more? {
+            break 'rounds;
         }
     }
     if round.is_empty() {
         return Ok(());
     }
     serve_round(rt, alloc, gate, &round, office, desks, finders, out)
-}
-
-// Reads a line into the round, and says whether the round ends with it.
-fn take_line<H: RegexHost>(
-    alloc: Global,
-    number: u32,
-    line: &[u8],
-    memo: &mut Memo,
-    checker: &mut H,
-    round: &mut RoundLines,
-) -> Result<bool, NoMemory>
-    requires short { length line.now ≤ max_line }
-    requires room { is_full round.old.held ≡ false }
-    ensures ends { IfOk result (λ ends. ends_round round.old.held number line.now ≡ ends) }
-    ensures held { OnOk result (round.new.held ≡ with_line round.old.held number line.now) }
-    ensures reads { OnOk result (ReadsLine number line.now (H.faults checker.old) (H.faults checker.new) round.old.reads round.new.reads) }
-    ensures later { H.faults checker.old ≤ H.faults checker.new }
-{
-    let read = read_one(alloc, number, line, memo, checker)?;
-    round.take(read, line.len())
 }

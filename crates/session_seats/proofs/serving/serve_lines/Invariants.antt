@@ -8,18 +8,18 @@ use Rattle.session_seats.specs.Seats.{AreSeats}
 use Rattle.session_seats.proofs.SoFar.{SoFar}
 use Rattle.session_seats.proofs.serving.serve_lines.Given as goal
 
-abbrev pub invariant-loop-round : goal.invariant-loop-round
-invariant-loop-round g l = record {
+abbrev pub invariant-rounds : goal.invariant-rounds
+invariant-rounds g l = record {
   so_far : SoFar g.P.Pair.opening (length l.fn.finders) (g.O.Sink.taken l.fn.out) (g.O.Sink.taken l.out)
       (g.H.RegexHost.faults l.fn.checker ∷ map g.H.RegexHost.faults l.fn.finders) (g.H.RegexHost.faults l.checker) (map g.H.RegexHost.faults l.finders)
-      (g.S.Source.left l.fn.source) (ahead l.lines (g.S.Source.left l.source)) l.lines.count [] l.round l.office.list;
+      (g.S.Source.left l.fn.source) (ahead l.lines (g.S.Source.left l.source)) l.number [] l.round l.office.list;
   room : is_full l.round.held ≡ false;
   count : length l.desks ≡ length l.fn.desks;
   seats : AreSeats (length l.fn.desks) l.desks;
   finders : length l.finders ≡ length l.fn.finders;
   idle : l.office.staged ≡ [];
   here : l.number ≡ l.lines.count;
-  few : l.lines.count ≤ max_lines;
+  few : l.number ≤ max_lines;
   live : IsTrue l.lines.live;
   checker : g.H.RegexHost.faults l.fn.checker ≤ g.H.RegexHost.faults l.checker;
   fell : NoneFell (map g.H.RegexHost.faults l.fn.finders) (map g.H.RegexHost.faults l.finders);
@@ -28,5 +28,5 @@ invariant-loop-round g l = record {
   wrote : g.O.Sink.faults l.fn.out ≤ g.O.Sink.faults l.out;
 }
 
-abbrev pub decreases-loop-round : goal.decreases-loop-round
-decreases-loop-round g l = max_lines - l.lines.count
+abbrev pub decreases-rounds : goal.decreases-rounds
+decreases-rounds g l = max_lines - l.number
