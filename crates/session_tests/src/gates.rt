@@ -161,6 +161,7 @@ fn written<G: Gate + Sync>(
 }
 
 // A request and an update that wait for each other.
+#[derive(Drop)]
 struct Beside<'a> {
     flags: &'a Flags,
 }
@@ -194,6 +195,7 @@ fn a_request_is_decided_beside_an_update(rt: HostRuntime) -> Result<(), Fail> {
 }
 
 // An update that ends only when the patterns of two requests were searched.
+#[derive(Drop)]
 struct Held<'a> {
     flags: &'a Flags,
 }
@@ -223,6 +225,7 @@ fn requests_are_decided_while_the_writer_is_held(rt: HostRuntime) -> Result<(), 
 }
 
 // Two seats: the first waits for the last line of the second, and this one for the first.
+#[derive(Drop)]
 struct Crossed<'a> {
     flags: &'a Flags,
 }
@@ -255,6 +258,7 @@ fn two_seats_work_beside_each_other(rt: HostRuntime) -> Result<(), Fail> {
 }
 
 // Which lines each of two seats decides, as bits.
+#[derive(Drop)]
 struct Shares {
     first: AtomicU32,
     second: AtomicU32,
