@@ -28,7 +28,7 @@ use Rattle.session_spec.specs.Rounds.{Held, holds_nothing, ends_round, rounds_of
 use Rattle.update_spec.specs.Entries.{Entry, replay}
 use Rattle.session_seats.specs.Reading.{ReadRound, ReadsLine}
 use Rattle.session_seats.specs.Rounds.{WritesRound, CutsRound, StopsRound}
-use Rattle.session_seats.proofs.SoFar.{IsServedSoFar, SoFar, line_taken, line_next, served_on, appends_append, nothing_read, start}
+use Rattle.session_seats.proofs.SoFar.{IsServedSoFar, SoFar, line_taken, served_on, appends_append, nothing_read, start}
 
 -- what was allowed is allowed after further faults
 serves_later : (was at is : List ℕ) (setting : Setting) (first : State) (rounds : List (List (List ℕ))) (written : List ℕ) → NoneFell was at → NoneFell at is
@@ -309,17 +309,6 @@ pub stop_said : (known left before now : Option (List ℕ)) (hosts : List Count)
 stop_said known left before now hosts setting first (Ok done) P is each = absurd is
 stop_said known left before now hosts setting first (Err e) P is each = each e is
 
--- The next line was read of the source, and its round, which so many seats were to answer, is not written.
-pub round_stopped : (opening : Basis) (seats many : ℕ) (before middle now : Option (List ℕ)) (was : List ℕ) (checker is : ℕ) (finders others : List ℕ) (known rest next left : Option (List ℕ)) (given later number : ℕ) (round whole : ReadRound) (list : List Entry) (line text : List ℕ) (why e : ServeStop)
-    → e ≡ why → opening.state.count ≡ 0 → many ≡ seats → number ≡ given → later ≡ given + 1 → later ≤ max_lines → text ≡ line → ends_round round.held (number + 1) text ≡ true → checker ≤ is → NoneFell finders others
-    → ReadsLine (number + 1) text checker is round.reads whole.reads → GivesLine rest next line → SoFar opening seats before middle was checker finders known rest given [] round list
-    → StopsRound opening many whole.reads list middle now finders others why
-    → IfSome known (λ script. EndsServing before now (counts_between was (is ∷ others)) (serving opening.suffixes seats) opening.state script left (Err e))
-round_stopped opening seats many before middle now was checker is finders others known rest next left given later number round whole list line text why e so fresh all place up few same ends rose fell takes gives so_far stops =
-    stops_serving opening seats before middle now was checker is finders others known next left number [] round whole list text why e so fresh ends (omega (arith, place, up, few)) rose fell
-    (line_next opening seats before middle was checker finders known rest next given number round list line text place same gives so_far) takes
-    (subst (λ (n : ℕ). StopsRound opening n whole.reads list middle now finders others why) all stops)
-
 -- the last round, however it ends
 pub last_round : (opening : Basis) (seats many : ℕ) (before middle now : Option (List ℕ)) (was : List ℕ) (checker : ℕ) (finders others : List ℕ) (known rest left : Option (List ℕ)) (given : ℕ) (round : ReadRound) (list end : List Entry) (result : Result (Unit {0}) ServeStop)
     → opening.state.count ≡ 0 → many ≡ seats → given ≤ max_lines → IsAtEnd rest → (round.reads ≡ [] → ⊥) → NoneFell finders others → SoFar opening seats before middle was checker finders known rest given [] round list
@@ -336,7 +325,3 @@ last_round opening seats many before middle now was checker finders others known
 pub not_of_source : (opening : Basis) (many : ℕ) (reads : List ReadLine) (list : List Entry) (before now : Option (List ℕ)) (finders others : List ℕ) (result : Result (Unit {0}) ServeStop)
     → IfErr result (StopsRound opening many reads list before now finders others) → IsErrOf result stop.ReadFault → ⊥
 not_of_source opening many reads list before now finders others result stops is = subst (λ (r : Result (Unit {0}) ServeStop). IfErr r (StopsRound opening many reads list before now finders others)) is stops
-
--- a count that rose since some moment rose since an earlier one
-pub rose_since : (first middle last : ℕ) → first ≤ middle → Rose middle last → Rose first last
-rose_since first middle last earlier rose = omega (arith, earlier, rose)

@@ -94,10 +94,6 @@ within_set least most (x ∷ numbers) zero n above below within = set_cons least
 within_set least most (x ∷ numbers) (suc seat) n above below within =
     set_cons least most x (set numbers seat n) (within 0 (omega arith)).0 (within 0 (omega arith)).1 (within_set least most numbers seat n above below (λ k inside. within (suc k) (omega (arith, inside))))
 
-pub all_floor : (least most n : ℕ) → least ≤ most → AreWithin least most (replicate n least)
-all_floor least most zero le = λ k inside. absurd (omega (arith, inside))
-all_floor least most (suc n) le = set_cons least most least (replicate n least) (omega arith) le (all_floor least most n le)
-
 -- no count is above that of its host, after one of each rose
 pub still_below : {H : Type 0} (faults : H → ℕ) (counted : List ℕ) (hosts : List H) (seat n : ℕ) (host : H) → n ≤ faults host → NoneFell counted (map faults hosts) → NoneFell (set counted seat n) (map faults (set hosts seat host))
 still_below faults [] [] seat n host le fell = fell

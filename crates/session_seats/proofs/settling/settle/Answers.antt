@@ -59,8 +59,13 @@ overflow_add-asked g c = omega (arith, c.loop-place.invariant.few, c.loop-place-
 
 pub bounds-texts-place : goal.bounds-texts-place
 bounds-texts-place g c =
-    omega (arith, ap length c.texts.ensures, length-map c.texts.result.now string_bytes, c.loop-place-test.true,
-    as_many_texts g.P.Pair.opening c.args.floor.now c.args.reads.now c.args.office.now.texts c.args.office.now.list c.requires.written)
+    omega (
+      arith,
+      ap length c.texts.ensures,
+      length-map c.texts.result.now string_bytes,
+      c.loop-place-test.true,
+      as_many_texts g.P.Pair.opening c.args.floor.now c.args.reads.now c.args.office.now.texts c.args.office.now.list c.requires.written,
+    )
 
 pub returns-in_err-push_str-clause-later : goal.returns-in_err-push_str-clause-later
 returns-in_err-push_str-clause-later g c = c.loop-place.invariant.later
