@@ -105,12 +105,15 @@ impl RegexHost for Watched<'_> {
     }
 }
 
-// A host for files and lines, and one for each worker.
+// One for files and lines, and one for each worker.
+const HOSTS: usize = 9;
+
+// So many hosts that tell these flags.
 fn hosts_with<'a>(alloc: Global, flags: &'a Flags) -> Result<Vec<Watched<'a>>, NoMemory>
     ensures { IfOk result (λ hosts. length hosts.items ≡ 9) }
 {
     let mut hosts = Vec::new(alloc);
-    for _ in 0..9 {
+    for _ in 0..HOSTS {
         let below = ListHost::new(alloc, PackHost::new(alloc)?, Vec::new(alloc));
         hosts.push(Watched { below, flags })?;
     }
