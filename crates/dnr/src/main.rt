@@ -6,6 +6,7 @@ ghost use Rattle.std.specs.Prelude.{◌≡◌, length, IfOk};
 use dnr_base::NoMemory;
 use dnr_io::{DirShelf, Output, Status};
 use dnr_top::run;
+use lookup_pool::NoGate;
 use regex_host::PackHost;
 use session_laws::nine_hosts_are_enough;
 use std::alloc::Global;
@@ -25,7 +26,15 @@ fn main(rt: HostRuntime) -> ExitCode {
             let mut shelf = DirShelf::new(&rt);
             let mut out = Output::new(rt.stdout());
             nine_hosts_are_enough();
-            run(rt.alloc(), &words, &mut shelf, &mut out, &mut hosts)
+            run(
+                &rt,
+                rt.alloc(),
+                &words,
+                &mut shelf,
+                &mut out,
+                &mut hosts,
+                &NoGate,
+            )
         }
         (Err(status), _) => status,
         (_, Err(NoMemory)) => Status::NoMemory,

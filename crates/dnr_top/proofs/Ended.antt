@@ -1,8 +1,8 @@
 -- How a run may end, by what was read and written on the way.
-use Rattle.std.proofs.Common.{◌≡◌, ◌⊎◌, ℕ, suc, List, [], ◌∷◌, ◌++◌, Bool, true, false, Option, Some, None, Result, Ok, Err, refl, sym, ap, ◌∙◌, inl, inr, append-nil, subst, string_bytes}
-use Rattle.std.specs.Prelude.{IfSome, slice_get, take}
+use Rattle.std.proofs.Common.{◌≡◌, ℕ, suc, List, [], ◌++◌, Bool, true, Option, Some, None, Result, Ok, Err, refl, sym, ap, ◌∙◌, inl, inr, append-nil, subst, string_bytes}
+use Rattle.std.specs.Prelude.{IfSome, take}
 use Rattle.std.specs.Io.KnownBytes.{Appends}
-use Rattle.dnr_base.specs.Faults.{Rose, Count}
+use Rattle.dnr_base.specs.Faults.{Rose}
 use Rattle.dnr_io.specs.Sink.{AppendsPart}
 use Rattle.dnr_spec.specs.declared.status.Status.{Status}
 use Rattle.dnr_spec.specs.declared.status.Status.TheVariants as status
@@ -16,12 +16,12 @@ use Rattle.session_load.specs.Stops.{StopsAs}
 use Rattle.session_spec.specs.Answers.{Setting, HostRisesBy}
 use Rattle.session_spec.specs.Answers as spec
 use Rattle.session_spec.specs.Loading.{Loaded}
-use Rattle.session_spec.specs.Out.{Outside, Session, LoadsFor, takes_updates, workers_of, setting_of, Opens, HoldsScript, HoldsTooMuch, HoldsGiven, IsServed, ServesAll, ServesShort, ServesGiven, ServesToEnd, ServesSome, Conduct, in_rounds, RefusesSession, IsBeginning, EndsBy}
+use Rattle.session_spec.specs.Out.{Outside, Session, LoadsFor, takes_updates, workers_of, setting_of, HoldsScript, HoldsTooMuch, HoldsGiven, IsServed, ServesAll, ServesSome, Conduct, in_rounds, IsBeginning, EndsBy}
 use Rattle.session_spec.specs.Rounds.{rounds_of, whole_rounds_of, short_lines, ended_lines}
-use Rattle.session_serve.specs.Serving.{WritesRounds, WritesPart, WritesGiven, some_rounds, EndsUnread, EndsServing}
+use Rattle.session_serve.specs.Serving.{some_rounds, EndsUnread, EndsServing}
 use Rattle.session_serve.specs.declared.stop.ServeStop.{ServeStop}
 use Rattle.session_serve.specs.declared.stop.ServeStop.TheVariants as serve
-use Rattle.dnr_top.specs.Run.{IsRun, EndsText, EndsStop, EndsWith, IsOpened, PrintsInstall, SaysNoLess, Serves, status_of, told}
+use Rattle.dnr_top.specs.Run.{IsRun, EndsText, EndsStop, EndsWith, IsOpened, SaysNoLess, status_of}
 
 -- ---- what was written
 

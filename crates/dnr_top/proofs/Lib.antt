@@ -3,3 +3,4 @@ pub mod Tasks
 pub mod Hosts
 pub mod Listed
 pub mod Sampled
+pub mod Fresh

@@ -1,5 +1,5 @@
 -- How `sample` ends, for a shelf that may tell what its files hold.
-use Rattle.std.proofs.Common.{◌≡◌, ◌⊎◌, ℕ, List, [], ◌++◌, Option, Some, None, inl, inr, ap, ◌∙◌}
+use Rattle.std.proofs.Common.{◌≡◌, ℕ, List, [], ◌++◌, Option, Some, None, inl, inr, ap, ◌∙◌}
 use Rattle.dnr_spec.specs.declared.status.Status.{Status}
 use Rattle.load_spec.specs.Files.{Files}
 use Rattle.session_sample.specs.declared.summary.Summary.{Summary}

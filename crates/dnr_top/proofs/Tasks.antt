@@ -1,6 +1,6 @@
 -- How each command ends, for a shelf that may tell what its files hold.
-use Rattle.std.proofs.Common.{◌≡◌, ℕ, ◌<◌, ◌≤◌, List, [], ◌∷◌, ◌++◌, length, codes, true, false, Bool, Option, Some, None, Result, Ok, Err, refl, sym, ap, ◌∙◌, inl, inr, subst, arith}
-use Rattle.std.specs.Prelude.{IfSome, IsSome, is_some, unwrap_or}
+use Rattle.std.proofs.Common.{◌≡◌, ℕ, List, [], ◌∷◌, ◌++◌, length, codes, true, false, Bool, Option, Some, None, Result, Err, refl, sym, ap, ◌∙◌, inl, inr, subst, arith}
+use Rattle.std.specs.Prelude.{IfSome, is_some, unwrap_or}
 use Rattle.std.specs.Io.KnownBytes.{Appends}
 use Rattle.dnr_base.specs.Faults.{Rose, Count}
 use Rattle.dnr_io.specs.Shelf.{IsStarted}
@@ -26,8 +26,8 @@ use Rattle.session_load.proofs.Stopped.{printed, stops_map}
 use Rattle.session_serve.specs.Serving.{EndsServing}
 use Rattle.session_serve.specs.declared.stop.ServeStop.{ServeStop}
 use Rattle.session_serve.specs.declared.stop.ServeStop.TheVariants as serve
-use Rattle.session_spec.specs.Loading.{PrintsRefusedRules, PrintsRefusedList, RefusesFile, HasLongFileIn, Loaded, Loads}
-use Rattle.session_spec.specs.Out.{Outside, HostRose, Session, of_rules, of_words, LoadsFor, takes_updates, workers_of, IsCounted, IsCompiled, RefusesSession, HasLongFileOf, in_rounds, conduct_of, EndsBy, EndsFor, Out}
+use Rattle.session_spec.specs.Loading.{PrintsRefusedRules, RefusesFile, HasLongFileIn, Loaded, Loads}
+use Rattle.session_spec.specs.Out.{Outside, HostRose, Session, of_rules, of_words, LoadsFor, IsCompiled, RefusesSession, HasLongFileOf, in_rounds, conduct_of, EndsBy, EndsFor, Out}
 use Rattle.session_spec.specs.Refusals.{install_line, count_line, unsupported_lines}
 use Rattle.session_spec.specs.Words.{Serving, Task, task_of, match_files, check_file, compile_file, serve_script}
 use Rattle.compile_spec.specs.Compiled.{CompiledRule, rules_in}
@@ -35,7 +35,7 @@ use Rattle.compile_spec.specs.Report.{report}
 use Rattle.compile_spec.specs.declared.reported.Reported.{Reported}
 use Rattle.json_spec.specs.Written.{written as json_text}
 use Rattle.list_spec.specs.LineKind as list
-use Rattle.dnr_top.specs.Run.{IsRun, EndsStop, EndsWith, IsOpened, PrintsInstall, SaysNoLess, Serves, MayServe, MayEnd, status_of, text_of}
+use Rattle.dnr_top.specs.Run.{IsRun, EndsStop, EndsWith, IsOpened, PrintsInstall, SaysNoLess, MayServe, MayEnd, status_of, text_of}
 use Rattle.dnr_top.proofs.Ended.{stop_ends, text_ends, served_ends, still_nothing}
 
 -- ---- `check`
@@ -172,6 +172,12 @@ install_refused loaded r name refusal s is why prints =
     (record { refused = record { extension = name; cause = refusal }; judged = judged.0; same = refl })
 
 -- ---- a run
+
+-- words that say no command
+pub no_command : (known : Option Files) (o : Outside) (words : List (List ℕ)) (taken : Option (List ℕ)) → task_of words ≡ None
+    → IfSome known (λ files. (written : List ℕ) × Appends taken taken written × Out words files o status.Usage written)
+no_command None o words taken none = tt
+no_command (Some files) o words taken none = ([], still_nothing taken taken refl, subst (λ (t : Option Task). EndsFor files o t status.Usage []) (sym none) (refl, refl))
 
 -- what a command may do, for the words that say it
 pub out_of : (known : Option Files) (o : Outside) (words : List (List ℕ)) (task : Task) (before now : Option (List ℕ)) (ended : Status)

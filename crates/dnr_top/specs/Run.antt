@@ -1,5 +1,5 @@
 -- What a run does.
-use Rattle.std.specs.Prelude.{◌≡◌, ◌⊎◌, ℕ, List, [], ◌∷◌, ◌++◌, codes, length, map, slice_get, Bool, Option, unwrap_or, Result, Ok, Err, IfSome, string_bytes}
+use Rattle.std.specs.Prelude.{◌≡◌, ◌⊎◌, ℕ, List, [], ◌++◌, codes, length, slice_get, Bool, Option, unwrap_or, Result, Ok, Err, IfSome, string_bytes}
 use Rattle.std.specs.Io.KnownBytes.{Appends}
 use Rattle.dnr_base.specs.Faults.{Rose, Count}
 use Rattle.dnr_io.specs.Sink.{AppendsPart}
@@ -12,10 +12,9 @@ use Rattle.update_spec.specs.Entries.{RefusedInstall, opening}
 use Rattle.session_load.specs.declared.lists.CompiledList.{CompiledList}
 use Rattle.session_load.specs.declared.stop.Stop.{Stop}
 use Rattle.session_load.specs.declared.stop.Stop.TheVariants as stop
-use Rattle.session_serve.specs.Serving.{EndsServing}
 use Rattle.session_serve.specs.declared.stop.ServeStop.{ServeStop}
 use Rattle.session_serve.specs.declared.stop.ServeStop.TheVariants as serve
-use Rattle.session_spec.specs.Answers.{Setting, HostRisesBy}
+use Rattle.session_spec.specs.Answers.{HostRisesBy}
 use Rattle.session_spec.specs.Loading.{Loaded}
 use Rattle.session_spec.specs.Out.{Outside, Session, LoadsFor, takes_updates, workers_of, in_rounds, conduct_of, EndsBy}
 use Rattle.session_spec.specs.Refusals.{install_line, count_line, unsupported_lines}

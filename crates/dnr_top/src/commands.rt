@@ -18,10 +18,16 @@ use dnr_base::NoMemory;
 use dnr_io::{Shelf, Sink, Status};
 use dnr_words::{Serving, Task, read_words};
 use explain_report::write_count;
+use lookup_pool::Gate;
 use regex_host::RegexHost;
 use rule_spec::RuleKind;
 use session_load::{CompiledList, load_list, load_local, load_rules, load_serving};
 use std::alloc::Global;
+use std::sync::Wait;
+use std::thread::Threads;
+
+// How many workers words may name.
+const MOST_WORKERS: usize = 8;
 
 /// Runs the command that the words after the program's name say, over the files of the shelf, and writes
 /// its output to `out`. The first host checks the patterns of files and of updates, and each other finds the matches of
@@ -35,14 +41,19 @@ use std::alloc::Global;
 ///   serves the file SCRIPT: its requests are answered, its updates applied, round by round.
 /// - `sample SEED RULES REQUESTS UPDATES` holds a session that is made from the number SEED, and sums it up.
 ///
+/// Seats answer the requests of `serve`, each in a thread of its own, beside the updates of their round. The gate is told
+/// of each request before a seat decides it, and of each update after it was served.
+///
 /// With `Done` and `Refused` all of the output was written. A session that can't go on has written the rounds before
 /// that, or a beginning of what it may write.
-pub fn run<F: Shelf, O: Sink, H: RegexHost>(
+pub fn run<R: Threads + Wait + Sync, F: Shelf, O: Sink, H: RegexHost + Send, G: Gate + Sync>(
+    rt: &R,
     alloc: Global,
     words: &[String],
     shelf: &mut F,
     out: &mut O,
     hosts: &mut Vec<H>,
+    gate: &G,
 ) -> Status
     requires { hosts_needed (task_of (map string_bytes words.now)) ≤ length hosts.old.items }
     ensures usage { (result ≡ Status.Usage) ↔ (task_of (map string_bytes words.now) ≡ None) }
@@ -66,21 +77,22 @@ pub fn run<F: Shelf, O: Sink, H: RegexHost>(
     let checker = &mut checkers[0];
     match read_words(words) {
         Some(Task::Match(rules, script)) => {
-            match_requests(alloc, rules, script, shelf, out, checker, finders)
+            match_requests(rt, alloc, rules, script, shelf, out, checker, finders, gate)
         }
         Some(Task::Check(kind, rules)) => {
             check_rules(alloc, kind, rules, shelf, out, checker, finders)
         }
         Some(Task::Compile(list)) => compile_list(alloc, list, shelf, out, checker, finders),
         Some(Task::Serve(serving)) => {
-            serve_script(alloc, &serving, shelf, out, checker, finders)
+            serve_script(rt, alloc, &serving, shelf, out, checker, finders, gate)
         }
         Some(Task::Sample(sample)) => make_sample(alloc, &sample, out),
         None => Status::Usage,
     }
 }
 
-fn match_requests<F: Shelf, O: Sink, H: RegexHost>(
+fn match_requests<R: Threads + Wait + Sync, F: Shelf, O: Sink, H: RegexHost + Send, G: Gate + Sync>(
+    rt: &R,
     alloc: Global,
     rules: &str,
     script: &str,
@@ -88,6 +100,7 @@ fn match_requests<F: Shelf, O: Sink, H: RegexHost>(
     out: &mut O,
     checker: &mut H,
     finders: &mut [H],
+    gate: &G,
 ) -> Status
     requires { 0 < length finders.old }
     ensures no_usage { result ≢ Status.Usage }
@@ -102,19 +115,21 @@ fn match_requests<F: Shelf, O: Sink, H: RegexHost>(
 {
     match load_local(alloc, rules, shelf, checker) {
         Ok(loaded) => serve(
-            alloc, loaded, script, false, 1, shelf, out, checker, finders,
+            rt, alloc, loaded, script, false, 1, shelf, out, checker, finders, gate,
         ),
         Err(stop) => stop_with(&stop, out),
     }
 }
 
-fn serve_script<F: Shelf, O: Sink, H: RegexHost>(
+fn serve_script<R: Threads + Wait + Sync, F: Shelf, O: Sink, H: RegexHost + Send, G: Gate + Sync>(
+    rt: &R,
     alloc: Global,
     serving: &Serving<'_>,
     shelf: &mut F,
     out: &mut O,
     checker: &mut H,
     finders: &mut [H],
+    gate: &G,
 ) -> Status
     requires { serving.now.workers ≤ length finders.old }
     ensures no_usage { result ≢ Status.Usage }
@@ -128,12 +143,13 @@ fn serve_script<F: Shelf, O: Sink, H: RegexHost>(
     ensures write_fault { result ≡ Status.WriteFault → Rose (O.faults out.old) (O.faults out.new) }
 {
     let workers = serving.workers() as usize;
-    if workers == 0 {
+    if workers == 0 || workers > MOST_WORKERS {
         // No words say so.
         return Status::NoMemory;
     }
     match load_serving(alloc, serving, shelf, checker) {
         Ok(loaded) => serve(
+            rt,
             alloc,
             loaded,
             serving.script(),
@@ -143,6 +159,7 @@ fn serve_script<F: Shelf, O: Sink, H: RegexHost>(
             out,
             checker,
             finders,
+            gate,
         ),
         Err(stop) => stop_with(&stop, out),
     }

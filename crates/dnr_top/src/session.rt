@@ -1,5 +1,5 @@
 //! A session: what was loaded is installed, and the script is served.
-ghost use Rattle.std.specs.Prelude.{◌≡◌, ◌≢◌, ◌≤◌, ◌<◌, ◌∷◌, length, map, is_some, Err, IfOk, IfErr, IfSome};
+ghost use Rattle.std.specs.Prelude.{◌≡◌, ◌≢◌, ◌≤◌, ◌<◌, ◌∷◌, length, map, is_some, true, false, Err, IfOk, IfErr, IfSome};
 ghost use Rattle.dnr_base.specs.Faults.{Rose, HasCause, HasCauseOf};
 ghost use Rattle.session_load.specs.Stops.{Prints, StopsAs};
 ghost use Rattle.session_laws.specs.Turns.{NoneFell, counts_between};
@@ -13,14 +13,20 @@ use dnr_base::NoMemory;
 use dnr_io::{Shelf, Sink, Source, Status};
 use explain_report::write_install_refusal;
 use generation::{FirstRefusal, Generation};
+use lookup_pool::Gate;
 use regex_host::RegexHost;
 use session_load::{Loaded, Stop};
+use session_seats::serve_with_seats;
 use session_serve::{ServeStop, Session, serve_lines};
 use std::alloc::Global;
+use std::sync::Wait;
+use std::thread::Threads;
 use update_spec::Refusal;
 
-/// Installs what was loaded, and serves the script with so many of the finders. Without updates it knows requests alone.
-pub fn serve<F: Shelf, O: Sink, H: RegexHost>(
+/// Installs what was loaded, and serves the script with so many of the finders, each for a seat beside the writer. Without
+/// updates it knows requests alone, and answers them in turn.
+pub fn serve<R: Threads + Wait + Sync, F: Shelf, O: Sink, H: RegexHost + Send, G: Gate + Sync>(
+    rt: &R,
     alloc: Global,
     loaded: Loaded,
     script: &str,
@@ -30,8 +36,10 @@ pub fn serve<F: Shelf, O: Sink, H: RegexHost>(
     out: &mut O,
     checker: &mut H,
     finders: &mut [H],
+    gate: &G,
 ) -> Status
     requires some { 0 < workers }
+    requires few { workers ≤ 8 }
     requires enough { workers ≤ length finders.old }
     ensures no_usage { result ≢ Status.Usage }
     ensures allowed { MayServe (F.Source.files shelf.old) loaded updates workers script.now
@@ -50,17 +58,78 @@ pub fn serve<F: Shelf, O: Sink, H: RegexHost>(
     };
     match shelf.start(script) {
         Ok(()) => ended(serve_started(
-            alloc, generation, updates, workers, shelf, out, checker, finders,
+            rt, alloc, generation, updates, workers, shelf, out, checker, finders, gate,
         )),
         Err(_) => Status::ReadFault,
     }
 }
 
 // Serves what the source has left with so many of the finders.
-fn serve_started<S: Source, O: Sink, H: RegexHost>(
+fn serve_started<R: Threads + Wait + Sync, S: Source, O: Sink, H: RegexHost + Send, G: Gate + Sync>(
+    rt: &R,
     alloc: Global,
     generation: Generation,
     updates: bool,
+    workers: usize,
+    source: &mut S,
+    out: &mut O,
+    checker: &mut H,
+    finders: &mut [H],
+    gate: &G,
+) -> Result<(), ServeStop>
+    requires some { 0 < workers }
+    requires few { workers ≤ 8 }
+    requires enough { workers ≤ length finders.old }
+    requires fresh { generation.state.count ≡ 0 }
+    ensures served { IfSome (S.left source.old) (λ script. EndsServing (O.taken out.old) (O.taken out.new)
+        (counts_between (H.faults checker.old ∷ map H.faults finders.old) (H.faults checker.new ∷ map H.faults finders.new))
+        (record { suffixes = generation.suffixes; workers = workers; updates = updates }) generation.state script (S.left source.new) result) }
+    ensures later { NoneFell (H.faults checker.old ∷ map H.faults finders.old) (H.faults checker.new ∷ map H.faults finders.new) }
+    ensures told { is_some (S.left source.new) ≡ is_some (S.left source.old) }
+    ensures read_fault { HasCauseOf ServeStop.ReadFault (S.faults source.old) (S.faults source.new) result }
+    ensures write_fault { HasCauseOf ServeStop.WriteFault (O.faults out.old) (O.faults out.new) result }
+{
+    if updates {
+        serve_beside(
+            rt, alloc, generation, workers, source, out, checker, finders, gate,
+        )
+    } else {
+        serve_in_turn(alloc, generation, workers, source, out, checker, finders)
+    }
+}
+
+// By seats beside the writer of updates.
+fn serve_beside<R: Threads + Wait + Sync, S: Source, O: Sink, H: RegexHost + Send, G: Gate + Sync>(
+    rt: &R,
+    alloc: Global,
+    generation: Generation,
+    workers: usize,
+    source: &mut S,
+    out: &mut O,
+    checker: &mut H,
+    finders: &mut [H],
+    gate: &G,
+) -> Result<(), ServeStop>
+    requires some { 0 < workers }
+    requires few { workers ≤ 8 }
+    requires enough { workers ≤ length finders.old }
+    requires fresh { generation.state.count ≡ 0 }
+    ensures served { IfSome (S.left source.old) (λ script. EndsServing (O.taken out.old) (O.taken out.new)
+        (counts_between (H.faults checker.old ∷ map H.faults finders.old) (H.faults checker.new ∷ map H.faults finders.new))
+        (record { suffixes = generation.suffixes; workers = workers; updates = true }) generation.state script (S.left source.new) result) }
+    ensures later { NoneFell (H.faults checker.old ∷ map H.faults finders.old) (H.faults checker.new ∷ map H.faults finders.new) }
+    ensures told { is_some (S.left source.new) ≡ is_some (S.left source.old) }
+    ensures read_fault { HasCauseOf ServeStop.ReadFault (S.faults source.old) (S.faults source.new) result }
+    ensures write_fault { HasCauseOf ServeStop.WriteFault (O.faults out.old) (O.faults out.new) result }
+{
+    let (seats, _) = finders.split_at_mut(workers);
+    serve_with_seats(rt, alloc, generation, source, out, checker, seats, gate)
+}
+
+// Without updates, one request after another.
+fn serve_in_turn<S: Source, O: Sink, H: RegexHost>(
+    alloc: Global,
+    generation: Generation,
     workers: usize,
     source: &mut S,
     out: &mut O,
@@ -71,13 +140,13 @@ fn serve_started<S: Source, O: Sink, H: RegexHost>(
     requires enough { workers ≤ length finders.old }
     ensures served { IfSome (S.left source.old) (λ script. EndsServing (O.taken out.old) (O.taken out.new)
         (counts_between (H.faults checker.old ∷ map H.faults finders.old) (H.faults checker.new ∷ map H.faults finders.new))
-        (record { suffixes = generation.suffixes; workers = workers; updates = updates }) generation.state script (S.left source.new) result) }
+        (record { suffixes = generation.suffixes; workers = workers; updates = false }) generation.state script (S.left source.new) result) }
     ensures later { NoneFell (H.faults checker.old ∷ map H.faults finders.old) (H.faults checker.new ∷ map H.faults finders.new) }
     ensures told { is_some (S.left source.new) ≡ is_some (S.left source.old) }
     ensures read_fault { HasCauseOf ServeStop.ReadFault (S.faults source.old) (S.faults source.new) result }
     ensures write_fault { HasCauseOf ServeStop.WriteFault (O.faults out.old) (O.faults out.new) result }
 {
-    let session = Session::new(alloc, generation, updates);
+    let session = Session::new(alloc, generation, false);
     let (seats, _) = finders.split_at_mut(workers);
     serve_lines(alloc, session, source, out, checker, seats)
 }

@@ -14,7 +14,7 @@ fn said(asked: &Asked) -> &'static str {
     }
 }
 
-fn told(command: &Command) -> &'static str {
+pub(crate) fn told(command: &Command) -> &'static str {
     match command {
         Command::Blank => "nothing",
         Command::Sync => "sync",
@@ -25,7 +25,7 @@ fn told(command: &Command) -> &'static str {
     }
 }
 
-fn named(fault: &LineFault) -> &'static str {
+pub(crate) fn named(fault: &LineFault) -> &'static str {
     match fault {
         LineFault::BadJson => "no JSON",
         LineFault::BadCommand(_) => "a bad field",

@@ -11,7 +11,7 @@ pub record RisesWith (hosts later : List Count) (told : Said) : Type 0 where
   pub finders : (seat times : ℕ) → HostRisesBy times (slice_get hosts (suc seat)) → HostRisesBy (times + count_failed seat (told ∷ [])) (slice_get later (suc seat))
   pub checker : (times : ℕ) → HostRisesBy times (slice_get hosts zero) → HostRisesBy (times + count_stopped (told ∷ [])) (slice_get later zero)
 
-place_rises : (first now next : List ℕ) (times : ℕ → ℕ) → length first ≡ length now → RiseBy times now next → (place before : ℕ)
+pub place_rises : (first now next : List ℕ) (times : ℕ → ℕ) → length first ≡ length now → RiseBy times now next → (place before : ℕ)
     → HostRisesBy before (slice_get (counts_between first now) place) → HostRisesBy (before + times place) (slice_get (counts_between first next) place)
 place_rises [] [] [] times same rise place before risen = omega (arith, rise place, risen)
 place_rises [] [] (c ∷ next) times same rise place before risen = absurd rise

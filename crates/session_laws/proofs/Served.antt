@@ -4,9 +4,10 @@ use Rattle.std.specs.Prelude.{slice_get}
 use Rattle.std.proofs.lemmas.List.Elements.{filter_map-append}
 use Rattle.dnr_base.specs.Faults.{Count}
 use Rattle.rule_spec.specs.State.{State}
-use Rattle.session_spec.specs.Answers.{Setting, RoundSays, RoundsSay, HostRisesBy, Serves}
-use Rattle.session_spec.specs.Rounds.{Held, holds_nothing, with_line}
-use Rattle.session_spec.specs.Said.{Said, said_line, lines_text, number_by, numbers_by, NeverFall, count_failed, count_stopped}
+use Rattle.line_spec.specs.Line.{command_of}
+use Rattle.session_spec.specs.Answers.{Setting, LinesSay, RoundSays, RoundsSay, HostRisesBy, Serves}
+use Rattle.session_spec.specs.Rounds.{Held, holds_nothing, with_line, asks}
+use Rattle.session_spec.specs.Said.{Said, said_line, lines_text, number_by, numbers_by, NeverFallFrom, NeverFall, count_failed, count_stopped}
 use Rattle.session_laws.specs.Turns.{TurnsSay, LineTold}
 use Rattle.session_laws.proofs.Turns.{turns_are_round, turns_more}
 use Rattle.session_laws.proofs.Told.{line_rises, line_numbered, no_fall_before, order_more, failed_more, stopped_more, text_append}
@@ -151,6 +152,58 @@ served_round setting first hosts rounds begun written text now held number serve
   finders = rw (append-nil (served.said ++ served.told)) served.finders;
   checker = rw (append-nil (served.said ++ served.told)) served.checker;
 }
+
+-- ---- a round that is served at once
+
+as_many_said : (setting : Setting) (states : List State) (now : State) (number asked : ℕ) (lines : List (List ℕ)) (said : List Said) (through : List State) (last : State)
+    → LinesSay setting states now number asked lines said through last → length said ≡ length lines
+as_many_said setting states now number asked [] said through last says = ap length says.0
+as_many_said setting states now number asked (line ∷ lines) said through last says =
+    let more = as_many_said setting states says.next (number + 1) (asked + asks (command_of number line)) lines says.others says.later last says.rest in
+    omega (arith, more, ap length says.all)
+
+-- numbers that go on from the last of those that never fall
+order_on : (least : ℕ) (numbers : List ℕ) (last : ℕ) (later : List ℕ) → NeverFallFrom least (numbers ++ last ∷ []) → NeverFallFrom last later → NeverFallFrom least (numbers ++ later)
+order_on least [] last [] order on = tt
+order_on least [] last (next ∷ later) order on = (omega (arith, order.0, on.0), on.1)
+order_on least (first ∷ numbers) last later order on = (order.0, order_on first numbers last later order.1 on)
+
+-- one round more, whatever the order in which its seats worked
+pub served_whole : (setting : Setting) (first : State) (hosts later : List Count) (rounds : List (List (List ℕ))) (written : List ℕ) (now : State) (number : ℕ)
+    (round : List (List ℕ)) (said : List Said) (text : List ℕ) (next : State)
+    → Served setting first hosts rounds [] written [] now holds_nothing number → RoundSays setting now number round said next → text ≡ lines_text number said
+    → ((seat : ℕ) → NeverFallFrom now.count (numbers_by seat said ++ next.count ∷ []))
+    → ((seat times : ℕ) → HostRisesBy times (slice_get hosts (suc seat)) → HostRisesBy (times + count_failed seat said) (slice_get later (suc seat)))
+    → ((times : ℕ) → HostRisesBy times (slice_get hosts 0) → HostRisesBy (times + count_stopped said) (slice_get later 0))
+    → Served setting first later (rounds ++ round ∷ []) [] (written ++ text) [] next holds_nothing (number + length round)
+served_whole setting first hosts later rounds written now number round said text next served says grown order finders checker =
+    let as_long = as_many_said setting says.states now number 0 round said says.states next says.says in
+    let none : served.told ≡ [] = served.turns.0 in
+    let all : served.said ++ served.told ≡ served.said = ap (λ ts. served.said ++ ts) none ∙ append-nil served.said in
+    let place : number ≡ 1 + length served.said = omega (arith, served.here, served.after_said) in
+    record {
+      said = served.said ++ said;
+      middle = next;
+      says = rounds_more setting first 1 rounds served.said served.middle round said next number (omega (arith, served.after_rounds, served.here)) served.says
+          (subst (λ (s : State). RoundSays setting s number round said next) served.turns.2 says);
+      start = number + length round;
+      after_said = omega (arith, place, as_long, length-append served.said said);
+      after_rounds = omega (arith, served.after_rounds, served.here, count_more rounds round);
+      told = [];
+      through = next ∷ [];
+      turns = (refl, refl, refl, refl);
+      here = omega arith;
+      as_many = refl;
+      order = λ seat. rw (append-nil (served.said ++ said), filter_map-append (number_by seat) served.said said, append_assoc (numbers_by seat served.said) (numbers_by seat said) (next.count ∷ []))
+          (order_on 0 (numbers_by seat served.said) now.count (numbers_by seat said ++ next.count ∷ [])
+          (subst (λ (ts : List Said). NeverFall (numbers_by seat ts ++ now.count ∷ [])) all (served.order seat)) (order seat));
+      sent = ap (λ t. t ++ text) served.sent ∙ ap (λ t. lines_text 1 served.said ++ t) (grown ∙ ap (λ (n : ℕ). lines_text n said) place) ∙ sym (text_append 1 served.said said);
+      kept = refl;
+      finders = λ seat. rw (append-nil (served.said ++ said)) (times_are (count_failed seat served.said + count_failed seat said) _ (slice_get later (suc seat)) (sym (failed_more seat served.said said))
+          (finders seat (count_failed seat served.said) (times_are _ _ (slice_get hosts (suc seat)) (ap (count_failed seat) all) (served.finders seat))));
+      checker = rw (append-nil (served.said ++ said)) (times_are (count_stopped served.said + count_stopped said) _ (slice_get later 0) (sym (stopped_more served.said said))
+          (checker (count_stopped served.said) (times_are _ _ (slice_get hosts 0) (ap count_stopped all) served.checker)));
+    }
 
 -- ---- what is allowed
 

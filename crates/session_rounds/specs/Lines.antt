@@ -50,9 +50,9 @@ Fits suffixes (Ok (update one)) state answer = ⊥
 Fits suffixes (Ok (batch all)) state answer = ⊥
 Fits suffixes (Err fault) state answer = ⊥
 
--- the text of an answer after these entries, for which no host failed
-pub record IsAnswer (opening : Basis) (number : ℕ) (read : Result spec.Command LineFault) (list : List Entry) (text : List ℕ) : Type 0 where
+-- the text of an answer after these entries, and whether a host failed in it
+pub record IsAnswer (opening : Basis) (number : ℕ) (read : Result spec.Command LineFault) (list : List Entry) (failed : Bool) (text : List ℕ) : Type 0 where
   pub answer : Answer
   pub fits : Fits opening.suffixes read (replay opening.state list) answer
-  pub calm : is_failed answer ≡ false
+  pub kind : is_failed answer ≡ failed
   pub same : text ≡ answer_line number (length list) answer

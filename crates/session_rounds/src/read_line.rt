@@ -1,5 +1,6 @@
 ghost use Rattle.std.specs.Prelude.{◌≡◌};
-ghost use Rattle.session_rounds.specs.Lines.{is_asking};
+ghost use Rattle.session_rounds.specs.Lines.{is_asking, read_seen};
+ghost use Rattle.session_spec.specs.Rounds.{is_sync};
 
 use script_read::{Command, LineFault};
 
@@ -20,6 +21,23 @@ impl ReadLine {
         match &self.read {
             Ok(Command::Request(_) | Command::Explain(_)) => true,
             Ok(Command::Blank | Command::Sync | Command::Update(_) | Command::Batch(_)) => false,
+            Err(_) => false,
+        }
+    }
+
+    /// Whether it ends its round.
+    pub fn syncs(&self) -> bool
+        ensures { result ≡ is_sync (read_seen self.now.read) }
+    {
+        match &self.read {
+            Ok(Command::Sync) => true,
+            Ok(
+                Command::Blank
+                | Command::Request(_)
+                | Command::Explain(_)
+                | Command::Update(_)
+                | Command::Batch(_),
+            ) => false,
             Err(_) => false,
         }
     }

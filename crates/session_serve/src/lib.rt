@@ -11,5 +11,6 @@ mod serving;
 mod stop;
 
 pub use answers::Session;
+pub use deciding::{decide, explain};
 pub use serving::serve_lines;
 pub use stop::ServeStop;

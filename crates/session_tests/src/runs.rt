@@ -5,10 +5,13 @@ use crate::shelves::{shelf, words};
 use dnr_base::NoMemory;
 use dnr_io::{MemoryShelf, MemorySink, Status};
 use dnr_top::run;
+use lookup_pool::NoGate;
 use regex_host::{ListHost, PackHost};
 use session_laws::nine_hosts_are_enough;
-use std::alloc::Global;
+use std::alloc::{AllocGlobal, Global};
+use std::sync::Wait;
 use std::test::Fail;
+use std::thread::Threads;
 
 // The call of the shelf, of the sink, of the host of files and of that of requests that fails, from 1.
 #[derive(Clone, Copy)]
@@ -46,24 +49,29 @@ fn hosts(alloc: Global, failing: Failing) -> Result<Vec<ListHost<PackHost>>, NoM
 
 // How a command ends on this shelf, and what it writes, where a write takes at most so many bytes.
 pub fn ended_on(
-    alloc: Global,
+    rt: &(impl Threads + Wait + Sync + AllocGlobal),
     command: &str,
     shelf: &mut MemoryShelf,
     most: usize,
     failing: Failing,
 ) -> Result<(Status, Vec<u8>), NoMemory> {
+    let alloc = rt.alloc();
     let words = words(alloc, command)?;
     let mut sink = MemorySink::new(alloc, most.max(1), vec![in alloc; failing.write]?);
     let mut hosts = hosts(alloc, failing)?;
     nine_hosts_are_enough();
-    let status = run(alloc, &words, shelf, &mut sink, &mut hosts);
+    let status = run(rt, alloc, &words, shelf, &mut sink, &mut hosts, &NoGate);
     Ok((status, Vec::from_slice(alloc, sink.bytes())?))
 }
 
 // The same on the shelf of all tests.
-fn ended(alloc: Global, command: &str, failing: Failing) -> Result<(Status, Vec<u8>), NoMemory> {
-    let mut shelf = shelf(alloc, failing.read)?;
-    ended_on(alloc, command, &mut shelf, 4096, failing)
+fn ended(
+    rt: &(impl Threads + Wait + Sync + AllocGlobal),
+    command: &str,
+    failing: Failing,
+) -> Result<(Status, Vec<u8>), NoMemory> {
+    let mut shelf = shelf(rt.alloc(), failing.read)?;
+    ended_on(rt, command, &mut shelf, 4096, failing)
 }
 
 const BLOCKED: &str =
@@ -74,7 +82,7 @@ const FAULT: &str =
 
 #[test]
 fn requests_are_answered(rt: HostRuntime) -> Result<(), Fail> {
-    let (status, written) = ended(rt.alloc(), "match r.json q.jsonl", NOTHING)?;
+    let (status, written) = ended(&rt, "match r.json q.jsonl", NOTHING)?;
     assert!(rt; status == Status::Done);
     assert_eq!(rt; written.as_slice(), BLOCKED.as_bytes());
     Ok(())
@@ -83,7 +91,7 @@ fn requests_are_answered(rt: HostRuntime) -> Result<(), Fail> {
 #[test]
 fn a_host_that_fails_is_told_and_the_next_line_decided(rt: HostRuntime) -> Result<(), Fail> {
     let failing = Failing { find: 1, ..NOTHING };
-    let (status, written) = ended(rt.alloc(), "match r.json q.jsonl", failing)?;
+    let (status, written) = ended(&rt, "match r.json q.jsonl", failing)?;
     assert!(rt; status == Status::Done);
     assert_eq!(rt; written.as_slice(), FAULT.as_bytes());
     Ok(())
@@ -92,19 +100,19 @@ fn a_host_that_fails_is_told_and_the_next_line_decided(rt: HostRuntime) -> Resul
 #[test]
 fn faults_end_a_run(rt: HostRuntime) -> Result<(), Fail> {
     let failing = Failing { read: 2, ..NOTHING };
-    let (status, _) = ended(rt.alloc(), "match r.json q.jsonl", failing)?;
+    let (status, _) = ended(&rt, "match r.json q.jsonl", failing)?;
     assert!(rt; status == Status::ReadFault);
     let failing = Failing {
         write: 1,
         ..NOTHING
     };
-    let (status, _) = ended(rt.alloc(), "compile l.txt", failing)?;
+    let (status, _) = ended(&rt, "compile l.txt", failing)?;
     assert!(rt; status == Status::WriteFault);
     let failing = Failing {
         check: 1,
         ..NOTHING
     };
-    let (status, _) = ended(rt.alloc(), "check static r.json", failing)?;
+    let (status, _) = ended(&rt, "check static r.json", failing)?;
     assert!(rt; status == Status::Refused);
     Ok(())
 }

@@ -4,8 +4,10 @@ use crate::runs::{Failing, NOTHING, ended_on};
 use crate::shelves::shelf_of;
 use dnr_base::NoMemory;
 use dnr_io::Status;
-use std::alloc::Global;
+use std::alloc::AllocGlobal;
+use std::sync::Wait;
 use std::test::Fail;
+use std::thread::Threads;
 
 // Updates of which the last is refused, a filter list of each kind of line, and a day of a shop.
 const SESSIONS: &[&str] = &[
@@ -52,18 +54,18 @@ const CALLS: u64 = 10_000;
 
 // How a session ends, and what it writes, where a write takes at most so many bytes.
 fn ended(
-    alloc: Global,
+    rt: &(impl Threads + Wait + Sync + AllocGlobal),
     session: &str,
     most: usize,
     failing: Failing,
 ) -> Result<(Status, Vec<u8>), NoMemory> {
-    let mut shelf = shelf_of(alloc, FILES, failing.read)?;
-    ended_on(alloc, session, &mut shelf, most, failing)
+    let mut shelf = shelf_of(rt.alloc(), FILES, failing.read)?;
+    ended_on(rt, session, &mut shelf, most, failing)
 }
 
 // What it writes where nothing fails.
-fn whole(alloc: Global, session: &str) -> Result<Vec<u8>, Fail> {
-    let (status, written) = ended(alloc, session, 4096, NOTHING)?;
+fn whole(rt: &(impl Threads + Wait + Sync + AllocGlobal), session: &str) -> Result<Vec<u8>, Fail> {
+    let (status, written) = ended(rt, session, 4096, NOTHING)?;
     if status == Status::Done {
         Ok(written)
     } else {
@@ -74,11 +76,11 @@ fn whole(alloc: Global, session: &str) -> Result<Vec<u8>, Fail> {
 #[test]
 fn a_read_that_fails_leaves_whole_rounds(rt: HostRuntime) -> Result<(), Fail> {
     for session in SESSIONS {
-        let whole = whole(rt.alloc(), session)?;
+        let whole = whole(&rt, session)?;
         let mut done = false;
         for read in 1..CALLS {
             let failing = Failing { read, ..NOTHING };
-            let (status, written) = ended(rt.alloc(), session, 4096, failing)?;
+            let (status, written) = ended(&rt, session, 4096, failing)?;
             assert!(rt; whole.as_slice().starts_with(written.as_slice()));
             if status == Status::Done {
                 assert!(rt; whole.as_slice() == written.as_slice());
@@ -97,11 +99,15 @@ fn fail_unless(holds: bool, why: &'static str) -> Result<(), Fail> {
 }
 
 // Each write in turn fails, where one takes at most so many bytes.
-fn writes_fail(alloc: Global, session: &str, most: usize) -> Result<(), Fail> {
-    let whole = whole(alloc, session)?;
+fn writes_fail(
+    rt: &(impl Threads + Wait + Sync + AllocGlobal),
+    session: &str,
+    most: usize,
+) -> Result<(), Fail> {
+    let whole = whole(rt, session)?;
     for write in 1..CALLS {
         let failing = Failing { write, ..NOTHING };
-        let (status, written) = ended(alloc, session, most, failing)?;
+        let (status, written) = ended(rt, session, most, failing)?;
         let begins = whole.as_slice().starts_with(written.as_slice());
         fail_unless(begins, "other bytes")?;
         if status == Status::Done {
@@ -115,7 +121,7 @@ fn writes_fail(alloc: Global, session: &str, most: usize) -> Result<(), Fail> {
 #[test]
 fn a_write_that_fails_leaves_a_beginning(rt: HostRuntime) -> Result<(), Fail> {
     for session in SESSIONS {
-        writes_fail(rt.alloc(), session, 4096)?;
+        writes_fail(&rt, session, 4096)?;
     }
     Ok(())
 }
@@ -123,7 +129,7 @@ fn a_write_that_fails_leaves_a_beginning(rt: HostRuntime) -> Result<(), Fail> {
 #[test]
 fn a_write_of_a_few_bytes_that_fails_leaves_a_beginning(rt: HostRuntime) -> Result<(), Fail> {
     for session in SESSIONS {
-        writes_fail(rt.alloc(), session, 10)?;
+        writes_fail(&rt, session, 10)?;
     }
     Ok(())
 }
@@ -131,7 +137,7 @@ fn a_write_of_a_few_bytes_that_fails_leaves_a_beginning(rt: HostRuntime) -> Resu
 #[test]
 fn a_write_of_one_byte_that_fails_leaves_a_beginning(rt: HostRuntime) -> Result<(), Fail> {
     for session in SESSIONS {
-        writes_fail(rt.alloc(), session, 1)?;
+        writes_fail(&rt, session, 1)?;
     }
     Ok(())
 }
@@ -147,11 +153,11 @@ fn count_other_lines(a: &[u8], b: &[u8]) -> usize {
 #[test]
 fn a_pattern_that_fails_costs_one_line(rt: HostRuntime) -> Result<(), Fail> {
     for session in SESSIONS {
-        let whole = whole(rt.alloc(), session)?;
+        let whole = whole(&rt, session)?;
         let mut done = false;
         for find in 1..CALLS {
             let failing = Failing { find, ..NOTHING };
-            let (status, written) = ended(rt.alloc(), session, 4096, failing)?;
+            let (status, written) = ended(&rt, session, 4096, failing)?;
             assert!(rt; status == Status::Done);
             if whole.as_slice() == written.as_slice() {
                 done = true;
@@ -171,7 +177,7 @@ fn a_pattern_of_a_list_that_fails_refuses_it(rt: HostRuntime) -> Result<(), Fail
         check: 1,
         ..NOTHING
     };
-    let (status, written) = ended(rt.alloc(), session, 4096, failing)?;
+    let (status, written) = ended(&rt, session, 4096, failing)?;
     assert!(rt; status == Status::Refused);
     assert_eq!(rt;
         written.as_slice(),
@@ -188,7 +194,7 @@ fn count_lines(bytes: &[u8]) -> usize {
 #[test]
 fn a_script_that_is_cut_off_says_the_lines_before(rt: HostRuntime) -> Result<(), Fail> {
     let session = "serve --workers 4 --psl psl.dat --ext shop day.txt";
-    let whole = whole(rt.alloc(), session)?;
+    let whole = whole(&rt, session)?;
     for cut in 0..DAY.len() {
         let Some(script) = DAY.get(..cut) else {
             continue;
@@ -197,7 +203,7 @@ fn a_script_that_is_cut_off_says_the_lines_before(rt: HostRuntime) -> Result<(),
         files.pop();
         files.push(("day.txt", script))?;
         let mut shelf = shelf_of(rt.alloc(), files.as_slice(), 0)?;
-        let (status, written) = ended_on(rt.alloc(), session, &mut shelf, 4096, NOTHING)?;
+        let (status, written) = ended_on(&rt, session, &mut shelf, 4096, NOTHING)?;
         assert!(rt; status == Status::Done);
         let before = count_lines(script.as_bytes());
         let mut lines = whole.as_slice().split(|byte| *byte == b'\n');

@@ -5,6 +5,7 @@ use Rattle.session_spec.specs.Words.{match_files, check_file, compile_file, serv
 use Rattle.dnr_top.specs.Run.{count, outside}
 use Rattle.dnr_top.proofs.Hosts.{run_out, run_hosts}
 use Rattle.dnr_top.proofs.Sampled.{sample_ends}
+use Rattle.dnr_top.proofs.Tasks.{no_command}
 use Rattle.dnr_top.proofs.commands.run.Goals as goal
 
 pub returns-in-Some-Match-clause-allowed : goal.returns-in-Some-Match-clause-allowed
@@ -80,6 +81,10 @@ returns-in-Some-Sample-clause-hosts g c =
     c.index-checkers-0.result (slice_index_or c.split_at_mut-checkers.result.0.now 0 c.index-checkers-0.result)
     (sym (ap length c.deref_mut.ensures.value) ∙ c.deref_mut.ensures.len) (sym c.deref_mut.ensures.value ∙ c.split_at_mut-checkers.ensures.value) c.split_at_mut-checkers.ensures.front_len
     (none_fell_yet (g.H.RegexHost.faults (slice_index_or c.split_at_mut-checkers.result.0.now 0 c.index-checkers-0.result) ∷ map g.H.RegexHost.faults c.split_at_mut-checkers.result.1.now))
+
+pub returns-in-None-clause-allowed : goal.returns-in-None-clause-allowed
+returns-in-None-clause-allowed g c =
+    no_command (g.F.Source.files c.args.shelf.now) _ (map string_bytes c.args.words.now) (g.O.Sink.taken c.args.out.now) (sym c.in-None.ensures)
 
 pub returns-in-None-clause-hosts : goal.returns-in-None-clause-hosts
 returns-in-None-clause-hosts g c =

@@ -1,6 +1,7 @@
 use Rattle.std.proofs.Common.{◌∷◌, map, ap, Err, refl}
 use Rattle.session_laws.proofs.Rises.{none_fell_yet}
 use Rattle.dnr_top.specs.Run.{count, outside}
+use Rattle.dnr_top.proofs.Fresh.{nothing_counted}
 use Rattle.dnr_top.proofs.Hosts.{rose_since}
 use Rattle.dnr_top.proofs.Tasks.{not_installed, not_started, script_served}
 use Rattle.dnr_top.proofs.session.serve.Goals as goal
@@ -14,6 +15,9 @@ returns-in-Err-clause-allowed g c =
 
 pub returns-in-Err-clause-later : goal.returns-in-Err-clause-later
 returns-in-Err-clause-later g c = none_fell_yet (g.H.RegexHost.faults c.args.checker.now ∷ map g.H.RegexHost.faults c.args.finders.now)
+
+pub serve_started-requires-clause-fresh : goal.serve_started-requires-clause-fresh
+serve_started-requires-clause-fresh g c κs within = nothing_counted c.args.loaded c.in-Ok.generation c.in-Ok.ensures.opens
 
 pub returns-in-Ok-start-clause-allowed : goal.returns-in-Ok-start-clause-allowed
 returns-in-Ok-start-clause-allowed g c =

@@ -1,0 +1,14 @@
+pub mod Lines
+pub mod Readings
+pub mod SoFar
+pub mod Endings
+pub mod Seats
+pub mod Settled
+pub mod Said
+pub mod Parts
+pub mod Replies
+pub mod Desks
+pub mod Offices
+pub mod Cuts
+pub mod Taken
+pub mod Answering

@@ -1,0 +1,67 @@
+-- A line that was read.
+use Rattle.std.proofs.Common.{◌≡◌, ◌≢◌, ◌⊎◌, ◌≤◌, ◌+◌, ℕ, List, Bool, true, false, Result, Ok, Err, refl, sym, ap, ◌∙◌, inl, inr, arith, length}
+use Rattle.std.specs.Prelude.{◌||◌}
+use Rattle.dnr_base.specs.Faults.{Rose}
+use Rattle.line_spec.specs.IsFault.{IsFaultOfLine}
+use Rattle.line_spec.specs.Line.{command_of, IsWithinLimits}
+use Rattle.line_spec.specs.Stops.{StopsInLine}
+use Rattle.line_spec.specs.declared.line_fault.LineFault.{LineFault}
+use Rattle.line_spec.specs.declared.line_fault.LineFault.TheVariants.{NoMemory}
+use Rattle.script_read.specs.Seen.{command_seen}
+use Rattle.script_read.specs.declared.command.Command.{Command}
+use Rattle.session_rounds.specs.declared.read_line.ReadLine.{ReadLine}
+use Rattle.session_rounds.specs.Lines.{read_seen}
+use Rattle.session_serve.proofs.AtFault.{stopped_other}
+use Rattle.session_serve.proofs.Told.{line_faulty}
+use Rattle.session_spec.specs.Rounds.{Held, is_sync, asks, is_full, with_line, ends_round}
+use Rattle.session_seats.specs.Reading.{HasRead, held_with}
+
+pub read_well : (number : ℕ) (line : List ℕ) (was is : ℕ) (command : Command) → command_of number line ≡ Ok (command_seen command) → IsWithinLimits (command_seen command) → is ≡ was
+    → HasRead number line was is (record { number = number; read = Ok command })
+read_well number line was is command reads within calm = record {
+  stops = 0;
+  numbered = refl;
+  reads = (reads, refl);
+  rises = omega (arith, calm);
+  within = within;
+  syncs = ap is_sync reads;
+  asks = ap asks reads;
+}
+
+faulty : (number : ℕ) (line : List ℕ) (was is : ℕ) (fault : LineFault) → fault ≢ NoMemory → was ≤ is → (Rose was is × StopsInLine line fault) ⊎ (command_of number line ≡ Err fault)
+    → HasRead number line was is (record { number = number; read = Err fault })
+faulty number line was is fault named later (inl stops) =
+    let kind = stopped_other number line fault stops.1 in
+    record {
+      stops = 1;
+      numbered = refl;
+      reads = inr (stops.1, kind.1, refl);
+      rises = stops.0;
+      within = named;
+      syncs = kind.0;
+      asks = kind.1;
+    }
+faulty number line was is fault named later (inr reads) = record {
+  stops = 0;
+  numbered = refl;
+  reads = inl (reads, refl);
+  rises = omega (arith, later);
+  within = named;
+  syncs = ap is_sync reads;
+  asks = ap asks reads;
+}
+
+pub read_faulty : (number : ℕ) (line : List ℕ) (was is : ℕ) (fault : LineFault) → fault ≢ NoMemory → was ≤ is → IsFaultOfLine number line (Rose was is) fault
+    → HasRead number line was is (record { number = number; read = Err fault })
+read_faulty number line was is fault named later why = faulty number line was is fault named later (line_faulty number line (Rose was is) fault named why)
+
+-- what a round holds with the line
+pub held_so : (held : Held) (number : ℕ) (line : List ℕ) (was is : ℕ) (read : ReadLine) → HasRead number line was is read → held_with held (length line) read ≡ with_line held number line
+held_so held number line was is read has = ap (λ (n : ℕ). record { lines = held.lines + 1; bytes = held.bytes + length line; asked = held.asked + n }) (sym has.asks)
+
+-- whether it ends with it
+pub ends_so : (held : Held) (number : ℕ) (line : List ℕ) (was is : ℕ) (read : ReadLine) (ends : Bool) → HasRead number line was is read → ends ≡ (is_sync (read_seen read.read) || is_full (held_with held (length line) read))
+    → ends_round held number line ≡ ends
+ends_so held number line was is read ends has same =
+    ap (λ (b : Bool). b || is_full (with_line held number line)) has.syncs
+    ∙ ap (λ (h : Held). is_sync (read_seen read.read) || is_full h) (sym (held_so held number line was is read has)) ∙ sym same

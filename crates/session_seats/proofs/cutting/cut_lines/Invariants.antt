@@ -1,0 +1,23 @@
+use Rattle.std.proofs.Common.{◌≡◌, ◌+◌, ◌-◌, ◌<◌, ◌≤◌, false, length, is_some}
+use Rattle.std.specs.Prelude.{IsTrue}
+use Rattle.dnr_io.specs.Lines.{ahead}
+use Rattle.dnr_spec.specs.Lines.{max_lines}
+use Rattle.session_seats.specs.Cutting.{bytes_of, GivesLines, FollowOn}
+use Rattle.session_seats.proofs.cutting.cut_lines.Given as goal
+
+abbrev pub invariant-loop-going : goal.invariant-loop-going
+invariant-loop-going g l = record {
+  gives : GivesLines (ahead l.fn.lines (g.S.Source.left l.fn.source)) (ahead l.lines (g.S.Source.left l.source)) (bytes_of l.cut.items);
+  follow : FollowOn l.fn.number l.cut.items;
+  more : l.number ≡ l.fn.number + length l.cut.items;
+  here : l.number ≡ l.lines.count;
+  live : IsTrue l.lines.live;
+  few : l.fn.number ≤ max_lines → l.number ≤ max_lines;
+  some : l.going ≡ false → l.fn.number < l.number;
+  told : is_some (g.S.Source.left l.source) ≡ is_some (g.S.Source.left l.fn.source);
+  files : g.S.Source.files l.source ≡ g.S.Source.files l.fn.source;
+  read : g.S.Source.faults l.fn.source ≤ g.S.Source.faults l.source;
+}
+
+abbrev pub decreases-loop-going : goal.decreases-loop-going
+decreases-loop-going g l = max_lines - l.lines.count

@@ -1,0 +1,4 @@
+use Rattle.session_seats.proofs.gathering.explanation_by.Given as goal
+
+abbrev pub ghosts-explanation_over : goal.ghosts-explanation_over
+ghosts-explanation_over g a = record { name = a.blank.name; parts = a.blank.parts }

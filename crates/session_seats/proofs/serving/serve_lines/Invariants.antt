@@ -1,0 +1,32 @@
+use Rattle.std.proofs.Common.{◌≡◌, ◌∷◌, ◌-◌, ◌≤◌, [], length, map, is_some, false}
+use Rattle.std.specs.Prelude.{IsTrue}
+use Rattle.dnr_io.specs.Lines.{ahead}
+use Rattle.dnr_spec.specs.Lines.{max_lines}
+use Rattle.session_laws.specs.Turns.{NoneFell}
+use Rattle.session_spec.specs.Rounds.{is_full}
+use Rattle.session_seats.specs.Seats.{AreSeats}
+use Rattle.session_seats.proofs.SoFar.{SoFar}
+use Rattle.session_seats.proofs.serving.serve_lines.Given as goal
+
+abbrev pub invariant-rounds : goal.invariant-rounds
+invariant-rounds g l = record {
+  so_far : SoFar g.P.Pair.opening (length l.fn.finders) (g.O.Sink.taken l.fn.out) (g.O.Sink.taken l.out)
+      (g.H.RegexHost.faults l.fn.checker ∷ map g.H.RegexHost.faults l.fn.finders) (g.H.RegexHost.faults l.checker) (map g.H.RegexHost.faults l.finders)
+      (g.S.Source.left l.fn.source) (ahead l.lines (g.S.Source.left l.source)) l.number [] l.round l.office.list;
+  room : is_full l.round.held ≡ false;
+  count : length l.desks ≡ length l.fn.desks;
+  seats : AreSeats (length l.fn.desks) l.desks;
+  finders : length l.finders ≡ length l.fn.finders;
+  idle : l.office.staged ≡ [];
+  here : l.number ≡ l.lines.count;
+  few : l.number ≤ max_lines;
+  live : IsTrue l.lines.live;
+  checker : g.H.RegexHost.faults l.fn.checker ≤ g.H.RegexHost.faults l.checker;
+  fell : NoneFell (map g.H.RegexHost.faults l.fn.finders) (map g.H.RegexHost.faults l.finders);
+  told : is_some (g.S.Source.left l.source) ≡ is_some (g.S.Source.left l.fn.source);
+  read : g.S.Source.faults l.fn.source ≤ g.S.Source.faults l.source;
+  wrote : g.O.Sink.faults l.fn.out ≤ g.O.Sink.faults l.out;
+}
+
+abbrev pub decreases-rounds : goal.decreases-rounds
+decreases-rounds g l = max_lines - l.number

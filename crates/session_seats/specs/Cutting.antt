@@ -1,0 +1,38 @@
+-- Lines that are cut from a source ahead of their turn.
+use Rattle.std.specs.Prelude.{◌≡◌, ℕ, ◌+◌, ◌≤◌, List, [], ◌∷◌, map, length, Bool, true, false, Option, Result, Ok, Err, IfSome}
+use Rattle.std.specs.Io.KnownBytes.{IsAtEnd}
+use Rattle.dnr_io.specs.Lines.{GivesLine, IsBeyond, StopsIn}
+use Rattle.dnr_io.specs.declared.line_refusal.LineRefusal.{LineRefusal}
+use Rattle.dnr_io.specs.declared.line_refusal.LineRefusal.TheVariants as refusal
+use Rattle.dnr_spec.specs.Lines.{max_line}
+use Rattle.lines_ahead.specs.Cut.{CutSeen}
+
+-- the bytes of each
+abbrev pub bytes_of : List CutSeen → List (List ℕ)
+bytes_of lines = map (λ (line : CutSeen). line.bytes) lines
+
+-- these are the first lines of what stands ahead, and `next` stands behind them
+abbrev pub GivesLines : Option (List ℕ) → Option (List ℕ) → List (List ℕ) → Type 0
+GivesLines rest next [] = next ≡ rest
+GivesLines rest next (line ∷ lines) = (behind : Option (List ℕ)) × GivesLine rest behind line × GivesLines behind next lines
+
+-- the lines have the numbers that follow this one, and each is within the limit
+abbrev pub FollowOn : ℕ → List CutSeen → Type 0
+FollowOn given [] = Unit {0}
+FollowOn given (line ∷ lines) = (line.number ≡ given + 1) × (length line.bytes ≤ max_line) × FollowOn (given + 1) lines
+
+-- What stands behind the lines that were cut, after so many of the script: more, or its end, or why the next line is not
+-- given.
+abbrev pub StandsBehind : ℕ → Option (List ℕ) → Option (List ℕ) → Result Bool LineRefusal → Option (List ℕ) → Type 0
+StandsBehind count now left (Ok true) behind = now ≡ behind
+StandsBehind count now left (Ok false) behind = IsAtEnd behind
+StandsBehind count now left (Err refusal.ReadFault) behind = StopsIn behind left
+StandsBehind count now left (Err refusal.LineTooLong) behind = IfSome behind (IsBeyond count)
+StandsBehind count now left (Err refusal.NoMemory) behind = Unit {0}
+
+-- these are the first lines of what stands ahead, and follow this number; of what stands behind them this holds
+pub record CutsLines (rest : Option (List ℕ)) (given : ℕ) (lines : List CutSeen) (Holds : Option (List ℕ) → Type 0) : Type 0 where
+  pub behind : Option (List ℕ)
+  pub gives : GivesLines rest behind (bytes_of lines)
+  pub follow : FollowOn given lines
+  pub holds : Holds behind

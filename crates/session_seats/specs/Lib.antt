@@ -1,0 +1,6 @@
+pub mod Reading
+pub mod Seats
+pub mod Writing
+pub mod Rounds
+pub mod Cutting
+pub mod Taking

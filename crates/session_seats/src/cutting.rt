@@ -1,0 +1,71 @@
+//! The lines of a script, cut from it ahead of their turn.
+ghost use Rattle.std.specs.Prelude.{◌≡◌, ◌+◌, ◌<◌, ◌≤◌, [], length, is_some, true, Ok, IsTrue};
+ghost use Rattle.dnr_base.specs.Faults.{HasCauseOf};
+ghost use Rattle.dnr_io.specs.Lines.{ahead};
+ghost use Rattle.dnr_spec.specs.Lines.{max_lines};
+ghost use Rattle.session_seats.specs.Cutting.{CutsLines, StandsBehind};
+
+use crate::round_lines::Room;
+use dnr_io::{LineRefusal, Lines, Source};
+use lines_ahead::{CutLine, ask_all};
+use memchr::{memchr, memmem};
+use std::alloc::Global;
+use std::thread::Threads;
+
+/// Cuts the lines that may be the rest of a round with this room: to the end of the script, to one that may be a sync, or
+/// until there is no more room. `Ok(false)` is the end of the script, before which lines may have been cut, and `Ok(true)`
+/// has cut one at least.
+///
+/// So a program that ends its lines by a sync is answered before more is read.
+///
+/// # Errors
+///
+/// Those of `Lines::next`. The lines before are cut.
+pub fn cut_lines<S: Source>(
+    alloc: Global,
+    number: &mut u32,
+    lines: &mut Lines,
+    source: &mut S,
+    mut room: Room,
+    cut: &mut Vec<CutLine>,
+) -> Result<bool, LineRefusal>
+    requires live { IsTrue lines.old.live }
+    requires here { number.old ≡ lines.old.count }
+    requires none { cut.old.items ≡ [] }
+    ensures cut { CutsLines (ahead lines.old (S.left source.old)) number.old cut.new.items
+        (StandsBehind number.new (ahead lines.new (S.left source.new)) (S.left source.new) result) }
+    ensures number { number.new ≡ number.old + length cut.new.items }
+    ensures few { number.old ≤ max_lines → number.new ≤ max_lines }
+    ensures some { result ≡ Ok true → number.old < number.new }
+    ensures here { result ≡ Ok true → number.new ≡ lines.new.count }
+    ensures live { result ≡ Ok true → IsTrue lines.new.live }
+    ensures told { is_some (S.left source.new) ≡ is_some (S.left source.old) }
+    ensures files { S.files source.new ≡ S.files source.old }
+    ensures cause { HasCauseOf LineRefusal.ReadFault (S.faults source.old) (S.faults source.new) result }
+{
+    let mut going = true;
+    while going {
+        let mut line = Vec::new(alloc);
+        if !lines.next(source, &mut line)? {
+            return Ok(false);
+        }
+        going = room.take(line.len()) && !may_sync(&line);
+        let place = *number + 1;
+        cut.push(CutLine::new(place, line))?;
+        *number = place;
+    }
+    Ok(true)
+}
+
+/// Asks the lines that were cut what they ask for, in at most so many threads.
+pub fn ask_cut<R: Threads + Sync>(rt: &R, alloc: Global, threads: usize, cut: &mut Vec<CutLine>)
+    requires { 0 < threads }
+    ensures { cut.new.items ≡ cut.old.items }
+{
+    ask_all(rt, alloc, threads, cut);
+}
+
+// Whether the line may be a sync: it has the word, or may write it by escapes.
+fn may_sync(line: &[u8]) -> bool {
+    memmem::find(line, b"\"sync\"").is_some() || memchr(b'\\', line).is_some()
+}

@@ -1,0 +1,25 @@
+//! A session whose requests are answered by seats, each in a thread of its own, beside the one writer of its updates.
+//!
+//! A round goes so. Its lines are cut from the script, asked in several threads what they ask for, and then read one
+//! after another. Each seat learns what was published before, and answers its share of the requests by what is published
+//! when it comes to each; the writer answers the other lines meanwhile, and publishes each update that it accepts. When
+//! all have ended, the answers are put in the order of the lines. A request that no seat answered, or whose answer is
+//! ahead of the writer, is decided on the writer's generation.
+//!
+//! What a round may say stands in `session_spec`, `specs/Answers.antt`; that what seats and writer say is such a round is
+//! the law of `session_rounds`.
+#![tactic(auto)]
+
+mod answered;
+mod cutting;
+mod desk;
+mod gathering;
+mod office;
+mod reading;
+mod round_lines;
+mod rounds;
+mod serving;
+mod settling;
+mod taking;
+
+pub use serving::serve_with_seats;

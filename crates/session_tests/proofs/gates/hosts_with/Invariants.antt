@@ -1,0 +1,5 @@
+use Rattle.std.proofs.Common.{◌≡◌, length}
+use Rattle.session_tests.proofs.gates.hosts_with.Given as goal
+
+abbrev pub invariant-loop : goal.invariant-loop
+invariant-loop l = length l.hosts.items ≡ l.counter
