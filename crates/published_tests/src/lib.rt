@@ -7,6 +7,8 @@ mod answers;
 #[cfg(test)]
 mod fixtures;
 #[cfg(test)]
+mod generations;
+#[cfg(test)]
 mod passes;
 #[cfg(test)]
 mod swaps;
