@@ -1,6 +1,7 @@
 pub mod Asked
 pub mod Answers
 pub mod Built
+pub mod Prefilter
 pub mod PackHost
 pub mod ListHost
 pub mod Substitution

@@ -10,6 +10,7 @@ mod groups;
 mod host;
 mod list_host;
 mod pack_host;
+mod prefilter;
 mod substitution;
 
 pub use dnr_base::{NoMemory, Span};

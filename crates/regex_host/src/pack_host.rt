@@ -1,9 +1,10 @@
-ghost use Rattle.std.specs.Prelude.{◌≡◌, None, IfOk, IsSome, IsErrOf};
-ghost use Rattle.dnr_spec.specs.Patterns.{pattern_in};
+ghost use Rattle.std.specs.Prelude.{◌≡◌, None, IfOk, IsSome, IsErrOf, IsTrue};
+ghost use Rattle.dnr_spec.specs.Patterns.{found, pattern_in};
 ghost use Rattle.regex_host.specs.PackHost.{IsRefusedAs};
 
 use crate::built::Built;
 use crate::groups::{BuildRefusal, count_groups};
+use crate::prefilter::Prefilter;
 use crate::{HostRefusal, RegexHost};
 use dnr_base::{NoMemory, Span, count_fault};
 use lru::LruCache;
@@ -13,13 +14,17 @@ use std::num::NonZeroUsize;
 // How many built patterns a host keeps, unless it is told.
 const ROOM: usize = 16;
 
+// Of how many patterns a host keeps what they need. It is little beside a built pattern.
+const PREFILTERS: usize = 4_096;
+
 /// A host over the crate `regex`. It keeps the patterns that were asked for last as `regex` built them, and
-/// has a matcher only within a call. Its count of faults rises where `regex` refuses a pattern for its size,
-/// and nowhere else.
+/// has a matcher only within a call. Of many more it keeps the literals that they need, and most texts are
+/// refused by these. Its count of faults rises where `regex` refuses a pattern for its size, and nowhere else.
 #[derive(Drop)]
 pub struct PackHost {
     alloc: Global,
     cache: LruCache<String, Built>,
+    prefilters: LruCache<String, Prefilter>,
     faults: u64,
 }
 
@@ -44,9 +49,11 @@ impl PackHost {
         ensures { IfOk result (λ host. ⟦<PackHost as RegexHost>⟧.faults host ≡ 0) }
     {
         let room = NonZeroUsize::new(room).unwrap_or(NonZeroUsize::MIN);
+        let prefilters = NonZeroUsize::new(PREFILTERS).unwrap_or(NonZeroUsize::MIN);
         Ok(PackHost {
             alloc,
             cache: LruCache::sparse(alloc, room)?,
+            prefilters: LruCache::sparse(alloc, prefilters)?,
             faults: 0,
         })
     }
@@ -60,7 +67,37 @@ impl PackHost {
     {
         match self.cache.pop(key) {
             Some(built) if built.is_of(pattern, fold) => Ok(built),
-            _ => Built::build(self.alloc, pattern, fold),
+            _ => {
+                let built = Built::build(self.alloc, pattern, fold)?;
+                self.learn(pattern, fold);
+                Ok(built)
+            }
+        }
+    }
+
+    // Whether what is known of the pattern tells that it matches nowhere in the text.
+    fn refuses(&self, pattern: &str, fold: bool, text: &str) -> bool
+        ensures { IsTrue result → found pattern.now fold text.now ≡ None }
+    {
+        match self.prefilters.peek(pattern) {
+            Some(filter) => filter.is_of(pattern, fold) && filter.refuses(text),
+            None => false,
+        }
+    }
+
+    // Keeps what the pattern needs, unless it is known. It is let go where there is no memory for it.
+    fn learn(&mut self, pattern: &str, fold: bool)
+        ensures { self.new.faults ≡ self.old.faults }
+    {
+        let known = self.prefilters.peek(pattern);
+        if known.is_some_and(|filter| filter.is_of(pattern, fold)) {
+            return;
+        }
+        let Ok(filter) = Prefilter::of(self.alloc, pattern, fold) else {
+            return;
+        };
+        if let Ok(key) = String::from_str(self.alloc, pattern) {
+            let _ = self.prefilters.put(key, filter);
         }
     }
 
@@ -127,6 +164,9 @@ impl RegexHost for PackHost {
         text: &str,
         spans: &mut [Option<Span>; 10],
     ) -> Result<bool, HostRefusal> {
+        if self.refuses(pattern, fold, text) {
+            return Ok(false);
+        }
         let Ok(key) = key_of(self.alloc, pattern, fold) else {
             return Err(HostRefusal::NoMemory);
         };

@@ -1,0 +1,100 @@
+//! What a pattern needs, looked for in a text before the pattern itself.
+ghost use Rattle.std.specs.Prelude.{◌≡◌, ℕ, ⊤, None, false, IfOk, IfSome, IsTrue};
+ghost use Rattle.std.specs.Bool.{MatchBool};
+ghost use Rattle.dnr_spec.specs.Patterns.{found};
+ghost use Rattle.regex_extract.specs.Needles.{needles_of};
+ghost use Rattle.regex_host.specs.Prefilter.{AreNeeded, LacksAll};
+ghost use Rattle.regex_literal.specs.Find.{OccursAt};
+
+use memchr::memmem;
+use regex_extract::{Needles, required};
+use regex_syntax::{Config, parse};
+use std::alloc::{AllocError, Global};
+use std::marker::Model;
+
+/// Literals of which every text that a pattern matches has one, if the pattern has such. They are found in a fraction of
+/// the time of a search. A clause sees the prefilter as the pattern that it is of.
+#[derive(Drop)]
+pub struct Prefilter {
+    pattern: String,
+    fold: bool,
+    needles: Option<Needles>,
+}
+
+impl Model for Prefilter {
+    ghost use Rattle.std.specs.Prelude.{IfSome, string_bytes};
+    ghost use Rattle.regex_extract.specs.Needles.{needles_of};
+    ghost use Rattle.regex_host.specs.Built.{Origin};
+    ghost use Rattle.regex_host.specs.Prefilter.{AreNeeded};
+
+    ghost Value = { Origin };
+
+    ghost view = { λ p. record { pattern = string_bytes p.pattern; fold = p.fold } };
+
+    ghost invariant = { λ p. IfSome p.needles (λ needles. AreNeeded (needles_of needles) (string_bytes p.pattern) p.fold) };
+}
+
+impl Prefilter {
+    /// That of a pattern; `fold` where the case of letters does not matter.
+    pub fn of(alloc: Global, pattern: &str, fold: bool) -> Result<Prefilter, AllocError>
+        ensures { IfOk result (λ filter. filter ≡ record { pattern = pattern.now; fold = fold }) }
+    {
+        let needles = needles_in(alloc, pattern, fold)?;
+        Ok(Prefilter {
+            pattern: String::from_str(alloc, pattern)?,
+            fold,
+            needles,
+        })
+    }
+
+    /// Whether it is of this pattern with this `fold`.
+    pub fn is_of(&self, pattern: &str, fold: bool) -> bool
+        ensures { IsTrue result → self.now ≡ record { pattern = pattern.now; fold = fold } }
+    {
+        self.pattern.as_str() == pattern && self.fold == fold
+    }
+
+    /// Whether the text lacks what the pattern needs, so that the pattern matches nowhere in it.
+    pub fn refuses(&self, text: &str) -> bool
+        ensures { IsTrue result → found self.now.pattern self.now.fold text.now ≡ None }
+    {
+        match &self.needles {
+            Some(needles) => lacks_all(text, needles),
+            None => false,
+        }
+    }
+}
+
+// What every match of the pattern has a part of. A text that is no pattern has none.
+fn needles_in(alloc: Global, pattern: &str, fold: bool) -> Result<Option<Needles>, AllocError>
+    ensures { IfOk result (λ found. IfSome found (λ needles. AreNeeded (needles_of needles) pattern.now fold)) }
+{
+    let mut config = Config::default();
+    config.flags.case_insensitive = fold;
+    let Ok(parsed) = parse(alloc, pattern, &config) else {
+        return Ok(None);
+    };
+    required(alloc, &parsed.hir)
+}
+
+// Whether none of the needles stands in the text.
+fn lacks_all(text: &str, needles: &Needles) -> bool
+    ensures { IsTrue result → LacksAll (needles_of needles.now) text.now }
+{
+    for needle in needles {
+        if !lacks(text.as_bytes(), needle) {
+            return false;
+        }
+    }
+    true
+}
+
+// Whether the needle stands nowhere in the text.
+fn lacks(text: &[u8], needle: &[u8]) -> bool
+    ensures { MatchBool result ((k : ℕ) → ¬ OccursAt text.now needle.now k) ⊤ }
+{
+    match memmem::find(text, needle) {
+        Some(_) => false,
+        None => true,
+    }
+}
