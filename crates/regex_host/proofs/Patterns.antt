@@ -1,5 +1,5 @@
 -- What a pattern that was parsed or built, and one that was refused, say of the definitions.
-use Rattle.std.proofs.Common.{◌≡◌, ◌≢◌, ◌⊎◌, ℕ, ◌+◌, ◌-◌, ◌<◌, ◌≤◌, All, Fits, w8, get_or, Bool, true, false, cond, List, length, Option, Some, None, IsSome, IsSomeAnd, option_map, refl, sym, ap, ◌∙◌, subst, inl, inr, ⊎_elim, arith, nat_le}
+use Rattle.std.proofs.Common.{◌≡◌, ◌≢◌, ◌⊎◌, ℕ, ◌+◌, ◌-◌, ◌<◌, ◌≤◌, All, Fits, w8, get_or, Bool, true, false, cond, List, length, Option, Some, None, IsSome, IsSomeAnd, option_map, refl, sym, ap, ◌∙◌, subst, inl, inr, arith, nat_le}
 use Rattle.std.specs.Prelude.{option_and_then, IfSome, string_bytes}
 use Rattle.std.specs.Coded.{Coded, code_by, coded×, coded_ℕ, coded_list, coded_option, Coded-set}
 use Rattle.std.specs.Str.{chars}
@@ -7,7 +7,7 @@ use Rattle.std.proofs.lemmas.Bool.Decides.{nat_tests}
 use Rattle.std.proofs.lemmas.List.{get_or_default, length-map}
 use Rattle.dnr_base.specs.declared.span.Span.{Span}
 use Rattle.dnr_spec.specs.Patterns.{options, pattern_in, groups_of, found, first_places, places, ends_of}
-use Rattle.regex.specs.Patterns.{Re, Match, SameCaptures, Reads, Refuses, find_str}
+use Rattle.regex.specs.Patterns.{Re, Match, SameCaptures, Reads, Refuses}
 use Rattle.regex.specs.Strings.{regex_pattern, regex_source, regex_config, regex_names, group_count as count_in, IsReadFromSource}
 use Rattle.regex.specs.declared.string.regex.Regex.{Regex}
 use Rattle.std.proofs.Math.Logic.{∥∥₁_elim}
@@ -16,7 +16,7 @@ use Rattle.regex_hir.specs.declared.hir.Hir.{Hir}
 use Rattle.regex_syntax.specs.Brackets.{Nested}
 use Rattle.regex_syntax.specs.Grammar.{Names, read, group_count}
 use Rattle.regex_syntax.specs.declared.error.ErrorKind.{ErrorKind}
-use Rattle.regex_syntax.specs.declared.error.ErrorKind.TheVariants.{OutOfMemory, NestLimitExceeded}
+use Rattle.regex_syntax.specs.declared.error.ErrorKind.TheVariants.{OutOfMemory}
 use Rattle.regex_syntax.proofs.CapturesLemmas.{find_str_alike}
 
 -- what the definition takes of what the grammar reads

@@ -1,8 +1,8 @@
 -- Where the groups of a match stand: as `regex` tells it, and in the text.
-use Rattle.std.proofs.Common.{◌≡◌, ℕ, zero, suc, ◌+◌, ◌-◌, ◌*◌, ◌<◌, ◌≤◌, All, Bool, true, false, cond, List, [], ◌∷◌, length, map, get_or, Option, Some, None, IsSome, is_some, option_map, refl, sym, ap, ap₂, ◌∙◌, subst, inl, inr, ⊎_elim, arith, nat_le, ne_eqb}
-use Rattle.std.specs.Prelude.{IfSome, slice_index_or}
+use Rattle.std.proofs.Common.{◌≡◌, ℕ, zero, suc, ◌+◌, ◌*◌, ◌<◌, ◌≤◌, All, Bool, true, false, cond, List, [], ◌∷◌, length, map, Option, Some, None, is_some, option_map, refl, sym, ap, ap₂, ◌∙◌, subst, ⊎_elim, arith, nat_le, ne_eqb}
+use Rattle.std.specs.Prelude.{IfSome}
 use Rattle.std.specs.Option.{option_or}
-use Rattle.std.proofs.lemmas.Bool.{cases_lt, cond-true, cond-false}
+use Rattle.std.proofs.lemmas.Bool.{cases_lt, cond-false}
 use Rattle.std.proofs.lemmas.Bool.Decides.{nat_tests}
 use Rattle.std.proofs.lemmas.List.{get_or_past}
 use Rattle.std.proofs.lemmas.Option.{same_Some}
@@ -10,10 +10,10 @@ use Rattle.std.proofs.lemmas.List.Elements.{All-nil, All-cons}
 use mathlib.Core.Path.{fun_ext}
 use Rattle.dnr_base.specs.declared.span.Span.{Span}
 use Rattle.dnr_spec.specs.Patterns.{first_places, places, ends_of, group_place, group_numbers, span_of, IsSpanIn, ArePlacesIn}
-use Rattle.regex.specs.Patterns.{Re, Match, find_str, slot_of, span}
+use Rattle.regex.specs.Patterns.{Re, Match, find_str, slot_of}
 use Rattle.regex.specs.Locations.{AreLocationsOf, location, location_count}
 use Rattle.regex.specs.Search.{Answers}
-use Rattle.regex.specs.Writes.{IsTidy, both, group_of}
+use Rattle.regex.specs.Writes.{IsTidy}
 use Rattle.regex.specs.declared.locations.CaptureLocations.{CaptureLocations}
 use Rattle.regex.proofs.SearchLemmas.{leftmost_attempt, leftmost_within}
 use Rattle.regex.proofs.WritesLemmas.{writes_are_tidy, last_write_has}

@@ -1,8 +1,8 @@
 -- A pattern whose every match has a needle matches nowhere in a text that has none.
-use Rattle.std.proofs.Common.{◌≡◌, ℕ, ◌+◌, ◌-◌, ◌<◌, ◌≤◌, List, [], Bool, length, map, option_map, string_bytes, get_or, subst, arith, Vec, Global, All, Option, None, Some, IfOk, IfSome, sym, ap, ◌∙◌, ⊎_elim, Result, Ok, Err, refl}
+use Rattle.std.proofs.Common.{◌≡◌, ℕ, ◌+◌, ◌-◌, ◌<◌, ◌≤◌, List, [], Bool, length, map, option_map, get_or, subst, arith, Vec, Global, All, Option, None, Some, IfOk, IfSome, sym, ap, ◌∙◌, ⊎_elim, Result, Ok, Err}
 use Rattle.std.proofs.lemmas.Bool.{cases_lt}
 use Rattle.std.proofs.lemmas.List.{get_or-map, length-map}
-use Rattle.dnr_spec.specs.Patterns.{options, found, first_places, places, ends_of}
+use Rattle.dnr_spec.specs.Patterns.{options, places, ends_of}
 use Rattle.memchr.specs.Find.{Nowhere}
 use Rattle.memchr.specs.Find as Bytes
 use Rattle.regex.specs.Patterns.{Re, Reads, find_str}

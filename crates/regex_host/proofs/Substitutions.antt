@@ -1,8 +1,6 @@
 -- The pieces of a text, one backslash after another.
-use Rattle.std.proofs.Common.{◌≡◌, ◌≢◌, ℕ, zero, suc, ◌+◌, ◌-◌, ◌<◌, ◌≤◌, List, [], ◌∷◌, ◌++◌, length, map, drop, get_or, Bool, true, false, cond, ◌==◌, ◌&&◌, Option, Some, None, IsSome, is_some, option_map, refl, sym, ap, ◌∙◌, subst, arith, nat_le, ne_eqb, append-nil, append_assoc, length-append, true≢false, nat_lt, IsUtf8, IsCharBoundary}
-use Rattle.std.specs.Prelude.{slice_index, unwrap_or, Result, Ok, Err}
-use Rattle.std.specs.List.{flat_map}
-use Rattle.std.proofs.lemmas.Bool.{cond-true, cond-false}
+use Rattle.std.proofs.Common.{◌≡◌, ◌≢◌, ℕ, suc, ◌-◌, ◌<◌, ◌≤◌, List, [], ◌∷◌, ◌++◌, length, map, drop, get_or, Bool, true, false, cond, ◌==◌, Option, Some, None, IsSome, is_some, option_map, refl, sym, ap, ◌∙◌, subst, arith, ne_eqb, append-nil, append_assoc, length-append, true≢false, nat_lt, IsUtf8, IsCharBoundary}
+use Rattle.std.specs.Prelude.{slice_index, unwrap_or, Ok, Err}
 use Rattle.std.proofs.lemmas.Bool.Decides.{nat_tests}
 use Rattle.std.proofs.Math.Seq.{drop-append_seam, get_or-append_seam}
 use Rattle.std.proofs.lemmas.Option.{same_Some}

@@ -1,5 +1,5 @@
 -- The pieces that are kept as a text, and why a text is not read.
-use Rattle.std.specs.Prelude.{◌≡◌, ℕ, List, [], Option, Some, None, Ok, Err, IsSome, unwrap_or}
+use Rattle.std.specs.Prelude.{◌≡◌, ℕ, List, [], Ok, Err, unwrap_or}
 use Rattle.dnr_spec.specs.Substitution.{Piece, pieces_of, substitution_of}
 use Rattle.dnr_spec.specs.declared.substitution_refusal.SubstitutionRefusal.{SubstitutionRefusal}
 use Rattle.dnr_spec.specs.declared.substitution_refusal.SubstitutionRefusal.TheVariants.{BadSubstitution, NoMemory}

@@ -1,11 +1,12 @@
 //! What the grammar of patterns says of a text, and where the groups of a match stand.
-ghost use Rattle.std.specs.Prelude.{◌≡◌, Some, None, map, option_map, IfOk, IsSome, IsErrOf};
-ghost use Rattle.dnr_spec.specs.Patterns.{groups_of, group_numbers, span_of};
+ghost use Rattle.std.specs.Prelude.{◌≡◌, Some, None, map, option_map, IfOk, IfSome, IsSome, IsErrOf, string_bytes};
+ghost use Rattle.dnr_spec.specs.Patterns.{groups_of, group_numbers, options, span_of};
 ghost use Rattle.regex.specs.Locations.{location};
+ghost use Rattle.regex.specs.Patterns.{Reads};
 
 use dnr_base::Span;
 use regex::CaptureLocations;
-use regex_syntax::{Config, ErrorKind};
+use regex_syntax::{Config, ErrorKind, Parsed, parse};
 use std::alloc::Global;
 
 /// Why a pattern is not built.
@@ -19,6 +20,16 @@ pub enum BuildRefusal {
     NoMemory,
 }
 
+/// What the grammar reads in a text; `fold` where the case of letters does not matter. There is none where memory runs out,
+/// or where the text is no pattern.
+pub fn tree_of(alloc: Global, pattern: &str, fold: bool) -> Option<Parsed>
+    ensures { IfSome result (λ p. Reads (options fold) pattern.now p.hir (map (option_map string_bytes) p.names.items)) }
+{
+    let mut config = Config::default();
+    config.flags.case_insensitive = fold;
+    parse(alloc, pattern, &config).ok()
+}
+
 /// The count of groups of a pattern besides the whole match.
 pub fn count_groups(alloc: Global, pattern: &str) -> Result<u32, BuildRefusal>
     ensures groups { IfOk result (λ count. groups_of pattern.now ≡ Some count) }
@@ -26,7 +37,7 @@ pub fn count_groups(alloc: Global, pattern: &str) -> Result<u32, BuildRefusal>
     ensures too_big { IsErrOf result BuildRefusal.TooBig → IsSome (groups_of pattern.now) }
 {
     let config = Config::default();
-    let parsed = match regex_syntax::parse(alloc, pattern, &config) {
+    let parsed = match parse(alloc, pattern, &config) {
         Ok(parsed) => parsed,
         Err(error) => match error.kind {
             ErrorKind::OutOfMemory => return Err(BuildRefusal::NoMemory),

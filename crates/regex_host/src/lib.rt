@@ -5,6 +5,7 @@
 //! counts its faults.
 #![tactic(auto)]
 
+mod automaton;
 mod built;
 mod groups;
 mod host;

@@ -170,7 +170,7 @@ impl RegexHost for PackHost {
         let Ok(key) = key_of(self.alloc, pattern, fold) else {
             return Err(HostRefusal::NoMemory);
         };
-        let built = match self.take(key.as_str(), pattern, fold) {
+        let mut built = match self.take(key.as_str(), pattern, fold) {
             Ok(built) => built,
             Err(BuildRefusal::NoPattern) => return Ok(false),
             Err(why) => return Err(self.refusal(why)),

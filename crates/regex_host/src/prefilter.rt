@@ -6,9 +6,9 @@ ghost use Rattle.regex_extract.specs.Needles.{needles_of};
 ghost use Rattle.regex_host.specs.Prefilter.{AreNeeded, LacksAll};
 ghost use Rattle.regex_literal.specs.Find.{OccursAt};
 
+use crate::groups::tree_of;
 use memchr::memmem;
 use regex_extract::{Needles, required};
-use regex_syntax::{Config, parse};
 use std::alloc::{AllocError, Global};
 use std::marker::Model;
 
@@ -69,9 +69,7 @@ impl Prefilter {
 fn needles_in(alloc: Global, pattern: &str, fold: bool) -> Result<Option<Needles>, AllocError>
     ensures { IfOk result (λ found. IfSome found (λ needles. AreNeeded (needles_of needles) pattern.now fold)) }
 {
-    let mut config = Config::default();
-    config.flags.case_insensitive = fold;
-    let Ok(parsed) = parse(alloc, pattern, &config) else {
+    let Some(parsed) = tree_of(alloc, pattern, fold) else {
         return Ok(None);
     };
     required(alloc, &parsed.hir)

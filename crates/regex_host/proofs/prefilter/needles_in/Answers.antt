@@ -6,6 +6,5 @@ use Rattle.regex_host.proofs.prefilter.needles_in.Goals as goal
 
 pub returns : goal.returns
 returns c =
-    let reads = rw c.default-config.ensures at c.in-Ok.ensures.ok in
-    each (λ v. ContainsNeedle (meaning c.in-Ok.parsed.hir) (needles_of v)) (λ v. AreNeeded (needles_of v) c.args.pattern.now c.args.fold)
-    (λ v contains. needed c.args.fold c.args.pattern.now c.in-Ok.parsed.hir _ (needles_of v) reads contains) c.required.result c.required.ensures.contains
+    each (λ v. ContainsNeedle (meaning c.in-Some.parsed.hir) (needles_of v)) (λ v. AreNeeded (needles_of v) c.args.pattern.now c.args.fold)
+    (λ v contains. needed c.args.fold c.args.pattern.now c.in-Some.parsed.hir _ (needles_of v) c.in-Some.ensures contains) c.required.result c.required.ensures.contains

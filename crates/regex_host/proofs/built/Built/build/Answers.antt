@@ -1,4 +1,3 @@
-use Rattle.std.proofs.Common.{sym}
 use Rattle.regex_host.proofs.Patterns.{pattern_is_some, pattern_refused}
 use Rattle.regex_host.proofs.built.Built.build.Goals as goal
 

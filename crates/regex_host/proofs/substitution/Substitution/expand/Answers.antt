@@ -1,5 +1,4 @@
-use Rattle.std.proofs.Common.{◌<◌, get_or, arith, ◌∙◌}
-use Rattle.std.proofs.lemmas.Str.{IsCharBoundary-after_ascii}
+use Rattle.std.proofs.Common.{arith, ◌∙◌}
 use Rattle.std.proofs.lemmas.Str.Pattern.{split_parts}
 use Rattle.regex_host.proofs.Substitutions.{expansion_step, literal_expansion, escape_ends, text_behind, joined}
 use Rattle.regex_host.proofs.substitution.Substitution.expand.Goals as goal

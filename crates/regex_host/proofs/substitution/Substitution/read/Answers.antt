@@ -1,4 +1,4 @@
-use Rattle.std.proofs.Common.{rules, ◌≡◌, ◌≤◌, length, is_some, true, arith, ap, sym}
+use Rattle.std.proofs.Common.{rules, ◌≡◌, ◌≤◌, length, is_some, true, arith}
 use Rattle.dnr_spec.specs.Substitution.{pieces_of, max_substitution}
 use Rattle.regex_host.proofs.Substitutions.{is_read}
 use Rattle.regex_host.proofs.substitution.Substitution.read.Goals as goal

@@ -1,9 +1,8 @@
-use Rattle.std.proofs.Common.{◌≡◌, ◌+◌, ◌-◌, true, false, is_some, arith, sym, ap, Some, ◌∙◌}
+use Rattle.std.proofs.Common.{◌≡◌, true, false, is_some, arith, sym, ap, Some, ◌∙◌}
 use Rattle.std.proofs.lemmas.Grind.{common_steps}
-use Rattle.regex.specs.Locations.{location_count}
 use Rattle.regex_host.proofs.Patterns.{found_built, bytes_below, groups_counted}
 use Rattle.regex_host.proofs.Places.{none_found, some_found, first_within}
-use Rattle.regex_host.proofs.built.Built.find.Goals as goal
+use Rattle.regex_host.proofs.built.Built.search.Goals as goal
 
 pub returns-then-is_none-clause-found : goal.returns-then-is_none-clause-found
 returns-then-is_none-clause-found c =
