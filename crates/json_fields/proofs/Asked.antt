@@ -1,6 +1,6 @@
 -- The values of fields, by their keys: for callers.
-use Rattle.std.proofs.Common.{◌≡◌, ℕ, ◌<◌, List, length, map, get_or, Bool, Option, Some, None, option_map, sym, ap, ◌∙◌, arith}
-use Rattle.std.proofs.lemmas.List.{get_or-map, length-map}
+use Rattle.std.proofs.Common.{◌≡◌, ℕ, ◌<◌, List, length, map, get_or, Bool, None, option_map, sym, ap, ◌∙◌}
+use Rattle.std.proofs.lemmas.List.{get_or-map}
 use Rattle.serde_json.specs.Data.{Data}
 use Rattle.serde_json.specs.Find.{get, get_member}
 use Rattle.json_fields.specs.declared.fields.Form.TheVariants.{Object}

@@ -1,5 +1,5 @@
 -- Fields, and one member more.
-use Rattle.std.proofs.Common.{◌≡◌, ◌≢◌, ℕ, ◌<◌, List, length, map, get_or, set, Bool, Option, Some, None, option_map, refl, sym, ap, ◌∙◌, subst, arith, length-set, get_or-set_other, ⊎_elim}
+use Rattle.std.proofs.Common.{◌≡◌, ◌≢◌, ℕ, ◌<◌, List, length, map, get_or, set, Some, option_map, refl, sym, ap, ◌∙◌, subst, arith, length-set, get_or-set_other, ⊎_elim}
 use Rattle.std.proofs.lemmas.List.{get_or-map, length-map}
 use Rattle.std.proofs.Math.Seq.{map-set_same}
 use Rattle.std.proofs.lemmas.Grind.{get_or-set_at}

@@ -1,5 +1,5 @@
 -- Chosen members, and one member more.
-use Rattle.std.proofs.Common.{◌≡◌, ℕ, List, Bool, true, false, bytes_eq, Bor, sym, ap, ◌∙◌, ◌⊎◌, inl, inr, ⊎_elim, rules}
+use Rattle.std.proofs.Common.{◌≡◌, ℕ, List, false, bytes_eq, Bor, sym, ap, ◌∙◌, ◌⊎◌, inl, inr, ⊎_elim, rules}
 use Rattle.std.specs.List.{list_any}
 use Rattle.std.proofs.lemmas.Bool.{cases_Bool, true≢false}
 use Rattle.std.proofs.lemmas.Slice.Eq.{bytes_eq-Decides}
@@ -8,10 +8,10 @@ use Rattle.serde_json.specs.View.{view}
 use Rattle.serde_json.specs.declared.value.Value.{Null, the_lemmas}
 use Rattle.serde_json.specs.Find.{get_member}
 use Rattle.serde_json.proofs.Views.{get_member-put, get_member-put_other}
-use Rattle.json_fields.specs.Chosen.{HasThose, KeepsOne}
+use Rattle.json_fields.specs.Chosen.{KeepsOne}
 
 -- the name is the one that was put, or another
-same_or_other : (q k : List ℕ) → (q ≡ k) ⊎ (q ≡ k → ⊥)
+pub same_or_other : (q k : List ℕ) → (q ≡ k) ⊎ (q ≡ k → ⊥)
 same_or_other q k =
     ⊎_elim
     (λ same. inl ((bytes_eq-Decides q k).0 same))

@@ -7,3 +7,4 @@ pub mod Whole
 pub mod Asked
 pub mod Keeping
 pub mod Times
+pub mod Shaped

@@ -1,17 +1,16 @@
 -- Members of a name, a turn at a time.
-use Rattle.std.proofs.Common.{◌≡◌, ℕ, ◌+◌, ◌-◌, ◌<◌, ◌≤◌, List, [], ◌∷◌, length, Bool, true, false, Option, Some, None, Result, Ok, Err, option_map, option_and_then, refl, sym, ap, ◌∙◌, subst, bytes_eq, arith}
+use Rattle.std.proofs.Common.{◌≡◌, ℕ, ◌+◌, ◌-◌, ◌<◌, ◌≤◌, List, length, Bool, true, false, Option, Some, None, Result, Ok, Err, option_and_then, refl, sym, ap, ◌∙◌, bytes_eq, arith}
 use Rattle.std.specs.Prelude.{OnErr}
 use Rattle.std.proofs.lemmas.Slice.Eq.{bytes_eq-Decides}
 use Rattle.json.specs.Token.{Token}
 use Rattle.json.specs.Json as json
 use Rattle.json.specs.Json.{parse_map, read_key, members, value}
-use Rattle.json.proofs.Grammar.{left_some, members_more, members_end, read_key-shorter}
+use Rattle.json.proofs.Grammar.{members_more, members_end, read_key-shorter}
 use Rattle.serde_json.specs.Data.{Data, Members, no_members, put}
 use Rattle.serde_json.specs.Find.{get_member}
-use Rattle.serde_json.specs.Read.{of_json, of_members, converted}
+use Rattle.serde_json.specs.Read.{of_json, of_members}
 use Rattle.serde_json.proofs.Views.{get_member-put, get_member-put_other}
-use Rattle.json_fields.specs.Behind.{behind_value}
-use Rattle.json_fields.specs.Last.{times, one_if, value_at, members_at, members_in, HasTimes, HasNone, IsLast, Leaves, HasNoMembers}
+use Rattle.json_fields.specs.Last.{times, one_if, value_at, members_at, members_in, HasTimes, IsLast, Leaves, HasNoMembers}
 use Rattle.json_fields.proofs.Turns.{converted_some, member_read, member_refused, key_refused, members_over}
 
 -- ---- readings that are mapped

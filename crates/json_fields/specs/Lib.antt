@@ -3,3 +3,4 @@ pub mod Held
 pub mod Fields
 pub mod Chosen
 pub mod Last
+pub mod Shapes

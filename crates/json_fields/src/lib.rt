@@ -14,6 +14,7 @@ mod last;
 mod list;
 mod number;
 mod passed;
+mod shape;
 #[cfg(test)]
 mod tests;
 mod tree;
@@ -26,4 +27,5 @@ pub use last::{count_members, pass_others, seek_last};
 pub use list::open_list;
 pub use number::read_number;
 pub use passed::pass_value;
+pub use shape::{Shape, Wanted, next_shaped};
 pub use tree::{Fault, next_value};

@@ -1,5 +1,4 @@
 mod Elements
 mod Steps
 mod Whole
-mod FourMembers
 pub mod Objects

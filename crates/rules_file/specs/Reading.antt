@@ -1,9 +1,6 @@
 -- What is read of the tokens of a file, item by item.
-use Rattle.std.specs.Prelude.{◌≡◌, ℕ, ◌≤◌, List, length, codes, Bool, true, Vec, Option, Some, None, Result, Ok, Err}
+use Rattle.std.specs.Prelude.{◌≡◌, ℕ, ◌≤◌, List, length, Vec, Option, Some, None, Result, Ok, Err}
 use Rattle.std.specs.declared.alloc.Global.{Global}
-use Rattle.std.specs.Borrow.{Bor}
-use Rattle.std.specs.List.{list_any}
-use Rattle.std.specs.Str.{bytes_eq}
 use Rattle.json.specs.Token.{Token}
 use Rattle.json.specs.Json as json
 use Rattle.json.specs.Json.{parse_map}
@@ -17,7 +14,7 @@ use Rattle.json_fields.specs.declared.fields.Form.TheVariants.{Object, Other}
 use Rattle.rule_spec.specs.declared.rule_kind.RuleKind.{RuleKind}
 use Rattle.rule_spec.specs.declared.placed_refusal.PlacedRefusal.{PlacedRefusal}
 use Rattle.rule_spec.specs.Rule.{Rule}
-use Rattle.json_spec.specs.ReadRule.{read_items, rule_in, id_of, IsRuleAtPattern}
+use Rattle.json_spec.specs.ReadRule.{read_items}
 use Rattle.rule_read.specs.Calm.{IsCalmBy}
 use Rattle.rule_read.specs.Reading.{MayStop, StopsAt, ReadsNext}
 
@@ -74,16 +71,3 @@ pub record StopsBefore (depth : ℕ) (kind : RuleKind) (whole rest : List Token)
 abbrev pub IsForm : Form → Data → Type 0
 IsForm Object d = as_array d ≡ None
 IsForm Other d = Unit {0}
-
--- among the names are the keys of which a rule is read
-pub record HasRuleKeys (names : List (Bor (List ℕ))) : Type 0 where
-  pub id : list_any (λ name. bytes_eq name.now (codes "id")) names ≡ true
-  pub priority : list_any (λ name. bytes_eq name.now (codes "priority")) names ≡ true
-  pub condition : list_any (λ name. bytes_eq name.now (codes "condition")) names ≡ true
-  pub action : list_any (λ name. bytes_eq name.now (codes "action")) names ≡ true
-
--- one value reads as a rule as the other does
-pub record ReadsAs (kept d : Data) : Type 0 where
-  pub rule : (kind : RuleKind) (is_taken : ℕ → Bool) → rule_in kind is_taken kept ≡ rule_in kind is_taken d
-  pub id : id_of kept ≡ id_of d
-  pub pattern : (is_taken : ℕ → Bool) → IsRuleAtPattern is_taken kept → IsRuleAtPattern is_taken d

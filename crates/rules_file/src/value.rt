@@ -4,14 +4,16 @@ ghost use Rattle.std.specs.Str.{IsUtf8};
 ghost use Rattle.serde_json.specs.Data.{Data};
 ghost use Rattle.serde_json.specs.View.{view};
 ghost use Rattle.serde_json.specs.Read.{read};
-ghost use Rattle.rules_file.specs.Reading.{value_in, HasValue, HasRuleKeys, ReadsAs};
+ghost use Rattle.rule_parts.specs.ReadsAs.{ReadsAs};
+ghost use Rattle.rules_file.specs.Reading.{value_in, HasValue};
 
 use json::{Invalid, Reader};
-use json_fields::{Fault, next_chosen};
+use json_fields::Fault;
+use rule_parts::next_rule;
 use serde_json::Value;
 use std::alloc::Global;
 
-// The next element of a list, with those members alone of which a rule is read.
+// The next element of a list, with that alone of which a rule is read.
 pub(crate) fn next_element(
     alloc: Global,
     reader: &mut Reader<'_>,
@@ -21,15 +23,7 @@ pub(crate) fn next_element(
     ensures shorter { OnOk result (length reader.new < length reader.old) }
     ensures bad { result ≡ Err Fault.BadJson → value_in depth reader.old ≡ None }
 {
-    let names = rule_keys();
-    next_chosen(alloc, reader, depth, &names)
-}
-
-// The keys of a rule.
-fn rule_keys() -> [&'static str; 4]
-    ensures { HasRuleKeys result }
-{
-    ["id", "priority", "condition", "action"]
+    next_rule(alloc, reader, depth)
 }
 
 // Passes over the next element of a list.

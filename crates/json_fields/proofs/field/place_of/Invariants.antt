@@ -1,4 +1,4 @@
-use Rattle.std.proofs.Common.{length, ◌-◌, ◌≡◌, ◌≢◌, ◌<◌, slice_index_or, ℕ, ◌≤◌}
+use Rattle.std.proofs.Common.{length, ◌-◌, ◌≢◌, ◌<◌, slice_index_or, ℕ, ◌≤◌}
 use Rattle.json_fields.specs.declared.field.Field.{Field as SpecField}
 use Rattle.json_fields.proofs.field.place_of.Given as goal
 

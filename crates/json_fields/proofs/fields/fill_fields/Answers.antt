@@ -1,8 +1,7 @@
-use Rattle.std.proofs.Common.{◌≡◌, ◌-◌, ◌<◌, length, Some, None, refl, sym, ap, ◌∙◌, arith}
-use Rattle.json.specs.Json.{read_key, members, value}
+use Rattle.std.proofs.Common.{◌≡◌, ◌-◌, length, Some, None, refl, ◌∙◌, arith}
+use Rattle.json.specs.Json.{read_key, value}
 use Rattle.json.proofs.Grammar.{read_key-shorter}
 use Rattle.serde_json.specs.Data.{no_members, put}
-use Rattle.serde_json.specs.Read.{of_members, converted}
 use Rattle.json_fields.proofs.Turns.{member_read, member_refused, key_refused, members_over}
 use Rattle.json_fields.proofs.Filled.{holds_nothing}
 use Rattle.json_fields.proofs.fields.fill_fields.Goals as goal

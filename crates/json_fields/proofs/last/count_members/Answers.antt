@@ -1,4 +1,4 @@
-use Rattle.std.proofs.Common.{◌≡◌, ◌+◌, ◌-◌, ◌<◌, length, Some, None, refl, sym, ap, ◌∙◌, arith}
+use Rattle.std.proofs.Common.{◌≡◌, ◌-◌, length, Some, None, refl, ap, ◌∙◌, arith}
 use Rattle.json.specs.Json as json
 use Rattle.json.specs.Json.{parse_map, read_key, members, value}
 use Rattle.json.proofs.Grammar.{left_some, left_none, members_more, members_end, read_key-shorter}

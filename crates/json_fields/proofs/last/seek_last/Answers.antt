@@ -1,4 +1,4 @@
-use Rattle.std.proofs.Common.{◌≡◌, ◌+◌, ◌-◌, ◌<◌, length, Some, None, refl, sym, ap, ◌∙◌, arith, bytes_eq}
+use Rattle.std.proofs.Common.{◌≡◌, ◌-◌, length, Some, None, refl, sym, ap, ◌∙◌, arith, bytes_eq}
 use Rattle.json.specs.Json.{read_key, value}
 use Rattle.json.proofs.Grammar.{left_some, left_none, read_key-shorter}
 use Rattle.serde_json.specs.Data.{no_members, put}

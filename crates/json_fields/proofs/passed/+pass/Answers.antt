@@ -1,13 +1,13 @@
 use Rattle.std.proofs.Common.{◌≡◌, ◌-◌, ◌<◌, [], ◌∷◌, length, Some, None, refl, sym, ap, ap₂, ◌∙◌, arith}
 use Rattle.json.specs.Token.{Token}
-use Rattle.json.specs.Json.{parse_map, after_end_array, read_key, items, members, value}
+use Rattle.json.specs.Json.{after_end_array, read_key, items, members, value}
 use Rattle.json.specs.Reads.{token_of}
 use Rattle.json.proofs.Grammar.{left, left-parse_map, value_is, value-begin_array, value-begin_object, read_key-shorter}
 use Rattle.serde_json.specs.Data.{no_members, array, object, put}
 use Rattle.serde_json.specs.Read.{number_of, of_json, of_items, of_members, converted}
 use Rattle.json_fields.specs.Behind.{behind_value, behind_items, behind_members}
 use Rattle.json_fields.proofs.Turns.{converted-array, converted-object, items_over, members_over, key_refused}
-use Rattle.json_fields.proofs.Skipped.{item_passed, item_not_passed, member_passed, member_not_passed, number_behind, in_range, out_of_range}
+use Rattle.json_fields.proofs.Skipped.{item_passed, item_not_passed, member_passed, member_not_passed, in_range, out_of_range}
 use Rattle.json_fields.proofs.passed.+pass.Goals as goal
 
 pub pass_items-items-init : goal.pass_items-items-init

@@ -1,0 +1,4 @@
+mod PartForms
+mod PartFields
+mod PartActions
+mod RuleKept
