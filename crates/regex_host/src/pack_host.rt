@@ -67,11 +67,7 @@ impl PackHost {
     {
         match self.cache.pop(key) {
             Some(built) if built.is_of(pattern, fold) => Ok(built),
-            _ => {
-                let built = Built::build(self.alloc, pattern, fold)?;
-                self.learn(pattern, fold);
-                Ok(built)
-            }
+            _ => Built::build(self.alloc, pattern, fold),
         }
     }
 
@@ -175,6 +171,7 @@ impl RegexHost for PackHost {
             Err(BuildRefusal::NoPattern) => return Ok(false),
             Err(why) => return Err(self.refusal(why)),
         };
+        self.learn(pattern, fold);
         let answer = built.find(self.alloc, text, spans);
         self.keep(key, built);
         answer.map_err(|_| HostRefusal::NoMemory)
