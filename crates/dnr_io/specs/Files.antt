@@ -27,7 +27,8 @@ bytes_at files place = unwrap_or (option_map bytes_of (option_and_then (slice_ge
 abbrev pub left_in : List MemoryFile → Option ℕ → ℕ → List ℕ
 left_in files place given = drop given (bytes_at files place)
 
--- files, and what is left of the one that is read
+-- files, what is left of the one that is read, and how often one was started
 pub record OpenFiles : Type 0 where
   pub files : List MemoryFile
   pub left : List ℕ
+  pub starts : ℕ

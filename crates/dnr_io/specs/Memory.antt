@@ -13,8 +13,9 @@ pub record SinkInMemory : Type 0 where
   pub taken : List ℕ
   pub plan : Plan
 
--- the files of a shelf, what is left of the one that is read, and which of its calls fail
+-- the files of a shelf, what is left of the one that is read, how often one was started, and which of its calls fail
 pub record ShelfInMemory : Type 0 where
   pub files : List MemoryFile
   pub left : List ℕ
+  pub starts : ℕ
   pub plan : Plan

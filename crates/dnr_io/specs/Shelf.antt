@@ -16,3 +16,8 @@ HoldsMore files name limit = IfSome files (λ held. IsSomeAnd (held name) (λ by
 -- what is left to read is what the name holds
 abbrev pub IsStarted : Option Names → List ℕ → Option (List ℕ) → Type 0
 IsStarted files name left = IfSome files (λ held. IsSome left × (left ≡ held name))
+
+-- what a shelf of real files counts: its faults, and how often a file was started
+pub record ShelfCounts : Type 0 where
+  pub faults : ℕ
+  pub starts : ℕ

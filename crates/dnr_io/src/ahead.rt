@@ -52,6 +52,7 @@ impl Ahead {
         ensures stopped { OnErr result (self.new ≡ []) }
         ensures told { is_some (S.left source.new) ≡ is_some (S.left source.old) }
         ensures files { S.files source.new ≡ S.files source.old }
+        ensures starts { S.starts source.new ≡ S.starts source.old }
         ensures cause { HasCause (S.faults source.old) (S.faults source.new) result }
     {
         if self.start < self.end {

@@ -20,6 +20,7 @@ pub fn read_lines<S: Source>(alloc: Global, source: &mut S) -> Result<Vec<Vec<u8
 
     ensures told { is_some (S.left source.new) ≡ is_some (S.left source.old) }
     ensures files { S.files source.new ≡ S.files source.old }
+    ensures starts { S.starts source.new ≡ S.starts source.old }
     ensures cause { HasCauseOf LineRefusal.ReadFault (S.faults source.old) (S.faults source.new) result }
 {
     let mut lines = Lines::new(alloc)?;
@@ -47,6 +48,7 @@ fn next_line<S: Source>(
         IfSome (ahead lines.old (S.left source.old)) (IsBeyond lines.old.count) }
     ensures told { is_some (S.left source.new) ≡ is_some (S.left source.old) }
     ensures files { S.files source.new ≡ S.files source.old }
+    ensures starts { S.starts source.new ≡ S.starts source.old }
     ensures cause { HasCauseOf LineRefusal.ReadFault (S.faults source.old) (S.faults source.new) result }
 {
     let mut line = Vec::new(alloc);

@@ -14,25 +14,28 @@ pub struct DirShelf<'a, R: Files> {
     rt: &'a R,
     reading: Option<R::File>,
     faults: u64,
+    starts: u64,
 }
 
 impl<'a, R: Files> Model for DirShelf<'a, R> {
-    ghost use Rattle.std.specs.Prelude.{ℕ};
+    ghost use Rattle.dnr_io.specs.Shelf.{ShelfCounts};
 
-    ghost Value = { ℕ };
+    ghost Value = { ShelfCounts };
 
-    ghost view = { λ shelf. shelf.faults };
+    ghost view = { λ shelf. record { faults = shelf.faults; starts = shelf.starts } };
 }
 
 impl<'a, R: Files> DirShelf<'a, R> {
     /// The shelf of the folder that the program runs in.
     pub fn new(rt: &'a R) -> DirShelf<'a, R>
-        ensures { ⟦<DirShelf<'a, R> as Source>⟧.faults result ≡ 0 }
+        ensures faults { ⟦<DirShelf<'a, R> as Source>⟧.faults result ≡ 0 }
+        ensures starts { ⟦<DirShelf<'a, R> as Source>⟧.starts result ≡ 0 }
     {
         DirShelf {
             rt,
             reading: None,
             faults: 0,
+            starts: 0,
         }
     }
 }
@@ -40,7 +43,9 @@ impl<'a, R: Files> DirShelf<'a, R> {
 impl<'a, R: Files> Source for DirShelf<'a, R> {
     ghost left = { λ _. None };
 
-    ghost faults = { λ faults. faults };
+    ghost starts = { λ shelf. shelf.starts };
+
+    ghost faults = { λ shelf. shelf.faults };
 
     fn faults(&self) -> u64 {
         self.faults
@@ -76,6 +81,7 @@ impl<'a, R: Files> Shelf for DirShelf<'a, R> {
             return Err(Failed);
         };
         self.reading = Some(file);
+        self.starts = self.starts.saturating_add(1);
         Ok(())
     }
 }

@@ -25,6 +25,7 @@ impl FaultlessShelf {
         requires { 0 < most }
         ensures files { ⟦<FaultlessShelf as Source>⟧.files result ≡ Some (held_or_empty files.items) }
         ensures left { ⟦<FaultlessShelf as Source>⟧.left result ≡ Some [] }
+        ensures starts { ⟦<FaultlessShelf as Source>⟧.starts result ≡ 0 }
     {
         FaultlessShelf {
             inner: OpenFiles::new(files, most),
@@ -36,6 +37,8 @@ impl Source for FaultlessShelf {
     ghost left = { λ shelf. Some shelf.left };
 
     ghost files = { λ shelf. Some (held_or_empty shelf.files) };
+
+    ghost starts = { λ shelf. shelf.starts };
 
     ghost faults = { λ _. 0 };
 

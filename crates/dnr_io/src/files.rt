@@ -2,6 +2,7 @@ ghost use Rattle.std.specs.Prelude.{◌≡◌, ◌<◌, ◌≤◌, ◌^◌, ◌+
 ghost use Rattle.std.specs.Prelude.{option_map, unwrap_or, OnOk, OnErr, IsErrOf, IsTrue, IsFalse};
 ghost use Rattle.std.specs.Prelude.{string_bytes};
 ghost use Rattle.std.specs.List.{position};
+ghost use Rattle.dnr_base.specs.Faults.{next_count};
 ghost use Rattle.dnr_io.specs.Files.{is_named, held_in, left_in, bytes_at};
 
 use crate::ShelfRefusal;
@@ -37,6 +38,7 @@ pub struct OpenFiles {
     reading: Option<usize>,
     at: usize,
     most: usize,
+    starts: u64,
 }
 
 impl Model for OpenFiles {
@@ -45,7 +47,7 @@ impl Model for OpenFiles {
 
     ghost Value = { OpenFiles };
 
-    ghost view = { λ f. record { files = f.files.items; left = left_in f.files.items f.reading f.at } };
+    ghost view = { λ f. record { files = f.files.items; left = left_in f.files.items f.reading f.at; starts = f.starts } };
 
     ghost invariant = { λ f. 0 < f.most };
 }
@@ -54,13 +56,14 @@ impl OpenFiles {
     /// Files of which none is read. A read gives at most `most` bytes.
     pub fn new(files: Vec<MemoryFile>, most: usize) -> OpenFiles
         requires { 0 < most }
-        ensures { result ≡ record { files = files.items; left = [] } }
+        ensures { result ≡ record { files = files.items; left = []; starts = 0 } }
     {
         OpenFiles {
             files,
             reading: None,
             at: 0,
             most,
+            starts: 0,
         }
     }
 
@@ -78,6 +81,7 @@ impl OpenFiles {
     /// there is none, nothing changes.
     pub fn start(&mut self, name: &str) -> bool
         ensures found { IsTrue result → Some self.new.left ≡ held_in self.old.files name.now }
+        ensures counted { IsTrue result → self.new.starts ≡ next_count self.old.starts }
         ensures missing { IsFalse result → self.new ≡ self.old }
         ensures files { self.new.files ≡ self.old.files }
     {
@@ -87,16 +91,19 @@ impl OpenFiles {
         }
         self.reading = place;
         self.at = 0;
+        self.starts = self.starts.saturating_add(1);
         true
     }
 
     /// The same, where a name that no file has stands for no bytes.
     pub fn start_or_end(&mut self, name: &str)
         ensures left { self.new.left ≡ unwrap_or (held_in self.old.files name.now) [] }
+        ensures counted { self.new.starts ≡ next_count self.old.starts }
         ensures files { self.new.files ≡ self.old.files }
     {
         self.reading = place_of(&self.files, name);
         self.at = 0;
+        self.starts = self.starts.saturating_add(1);
     }
 
     /// Takes the first bytes that are left of the file that is read into `buf`, and says how many.
@@ -105,6 +112,7 @@ impl OpenFiles {
         ensures bytes { self.old.left ≡ take result buf.new ++ self.new.left }
         ensures end { result ≡ 0 → 0 < length buf.new → self.new.left ≡ [] }
         ensures files { self.new.files ≡ self.old.files }
+        ensures starts { self.new.starts ≡ self.old.starts }
     {
         let count = copy_front(left_of(&self.files, self.reading, self.at), buf, self.most);
         self.at += count;

@@ -82,6 +82,7 @@ impl Lines {
 
         ensures told { is_some (S.left source.new) ≡ is_some (S.left source.old) }
         ensures files { S.files source.new ≡ S.files source.old }
+        ensures starts { S.starts source.new ≡ S.starts source.old }
         ensures cause { HasCauseOf LineRefusal.ReadFault (S.faults source.old) (S.faults source.new) result }
     {
         self.live = false;
@@ -124,6 +125,7 @@ fn take_raw_line<S: Source>(
         StopsIn (prepend_known ahead.old (S.left source.old)) (S.left source.new) }
     ensures told { is_some (S.left source.new) ≡ is_some (S.left source.old) }
     ensures files { S.files source.new ≡ S.files source.old }
+    ensures starts { S.starts source.new ≡ S.starts source.old }
     ensures cause { HasCauseOf LineRefusal.ReadFault (S.faults source.old) (S.faults source.new) result }
 {
     while ahead.look(source)? {

@@ -18,7 +18,7 @@ impl Model for MemoryShelf {
 
     ghost Value = { ShelfInMemory };
 
-    ghost view = { λ shelf. record { files = shelf.inner.files; left = shelf.inner.left; plan = shelf.plan } };
+    ghost view = { λ shelf. record { files = shelf.inner.files; left = shelf.inner.left; starts = shelf.inner.starts; plan = shelf.plan } };
 }
 
 impl MemoryShelf {
@@ -27,9 +27,10 @@ impl MemoryShelf {
     /// fail.
     pub fn new(files: Vec<MemoryFile>, most: usize, failing: Vec<u64>) -> MemoryShelf
         requires { 0 < most }
-        ensures value { result ≡ record { files = files.items; left = []; plan = record { failing = failing.items; calls = 0; faults = 0 } } }
+        ensures value { result ≡ record { files = files.items; left = []; starts = 0; plan = record { failing = failing.items; calls = 0; faults = 0 } } }
         ensures files { ⟦<MemoryShelf as Source>⟧.files result ≡ Some (held_in files.items) }
         ensures left { ⟦<MemoryShelf as Source>⟧.left result ≡ Some [] }
+        ensures starts { ⟦<MemoryShelf as Source>⟧.starts result ≡ 0 }
         ensures faults { ⟦<MemoryShelf as Source>⟧.faults result ≡ 0 }
     {
         MemoryShelf {
@@ -43,6 +44,8 @@ impl Source for MemoryShelf {
     ghost left = { λ shelf. Some shelf.left };
 
     ghost files = { λ shelf. Some (held_in shelf.files) };
+
+    ghost starts = { λ shelf. shelf.starts };
 
     ghost faults = { λ shelf. shelf.plan.faults };
 

@@ -14,6 +14,9 @@ pub trait Source {
     /// What each name holds, where the source is a shelf that tells it.
     ghost files: { Self → Option Names } = { λ _. None };
 
+    /// How often a file was started, where the source is a shelf. The count stands still at the greatest `u64`.
+    ghost starts: { Self → ℕ } = { λ _. 0 };
+
     /// How many faults there were.
     ghost faults: { Self → ℕ };
 
@@ -30,5 +33,6 @@ pub trait Source {
         ensures bytes { ReadConsumes (left self.old) (left self.new) result buf.new }
         ensures told { is_some (left self.new) ≡ is_some (left self.old) }
         ensures files { files self.new ≡ files self.old }
+        ensures starts { starts self.new ≡ starts self.old }
         ensures cause { HasCause (faults self.old) (faults self.new) result };
 }

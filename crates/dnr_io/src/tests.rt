@@ -1,5 +1,5 @@
 //! Each form of a source, a shelf and a sink once, and calls that the system interrupts.
-ghost use Rattle.std.specs.Prelude.{◌≡◌, IfOk};
+ghost use Rattle.std.specs.Prelude.{◌≡◌, ℕ, List, IfOk};
 
 use crate::dir_shelf::read_some;
 use crate::output::write_some;
@@ -56,7 +56,9 @@ fn files(alloc: Global) -> Result<Vec<MemoryFile>, AllocError> {
 }
 
 // How many lines a name of the shelf has.
-fn count<F: Shelf>(alloc: Global, shelf: &mut F, name: &str) -> Option<usize> {
+fn count<F: Shelf>(alloc: Global, shelf: &mut F, name: &str) -> Option<usize>
+    requires { F.allows name.now }
+{
     shelf.start(name).ok()?;
     Some(read_lines(alloc, shelf).ok()?.len())
 }
@@ -67,14 +69,18 @@ fn fetched<F: Shelf>(
     shelf: &mut F,
     name: &str,
     limit: u64,
-) -> Result<usize, ShelfRefusal> {
+) -> Result<usize, ShelfRefusal>
+    requires { F.allows name.now }
+{
     let mut bytes = Vec::new(alloc);
     shelf.fetch(name, limit, &mut bytes)?;
     Ok(bytes.len())
 }
 
 // What every shelf says of its one file and of a name without a file.
-fn is_shelf<F: Shelf>(alloc: Global, shelf: &mut F) -> bool {
+fn is_shelf<F: Shelf>(alloc: Global, shelf: &mut F) -> bool
+    requires { (name : List ℕ) → F.allows name }
+{
     fetched(alloc, shelf, "rules/easy.json", 6) == Ok(6)
         && fetched(alloc, shelf, "rules/easy.json", 5) == Err(ShelfRefusal::TooLong)
         && fetched(alloc, shelf, "rules/hard.json", 7) == Err(ShelfRefusal::Failed)

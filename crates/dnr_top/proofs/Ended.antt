@@ -16,7 +16,7 @@ use Rattle.session_load.specs.Stops.{StopsAs}
 use Rattle.session_spec.specs.Answers.{Setting, HostRisesBy}
 use Rattle.session_spec.specs.Answers as spec
 use Rattle.session_spec.specs.Loading.{Loaded}
-use Rattle.session_spec.specs.Out.{Outside, Session, LoadsFor, takes_updates, workers_of, setting_of, HoldsScript, HoldsTooMuch, HoldsGiven, IsServed, ServesAll, ServesSome, Conduct, in_rounds, IsBeginning, EndsBy}
+use Rattle.session_spec.specs.Out.{Outside, Session, LoadsFor, takes_updates, workers_of, setting_of, HoldsScript, HoldsTooMuch, HoldsGiven, IsServed, HasStarted, ServesAll, ServesSome, Conduct, in_rounds, IsBeginning, EndsBy}
 use Rattle.session_spec.specs.Rounds.{rounds_of, whole_rounds_of, short_lines, ended_lines}
 use Rattle.session_serve.specs.Serving.{some_rounds, EndsUnread, EndsServing}
 use Rattle.session_serve.specs.declared.stop.ServeStop.{ServeStop}
@@ -113,22 +113,22 @@ served files session whole part loaded basis updates workers Script rounds_in sc
 }
 
 unread_ends : (files : Files) (session : Session) (whole part : Outside) (loaded : Loaded) (basis : Basis) (updates : Bool) (workers : ℕ) (name script : List ℕ) (before now : Option (List ℕ)) (left : Option (List ℕ))
-    → IsSession files session whole part loaded basis updates workers → files name ≡ Some script → left ≡ Some whole.left
+    → IsSession files session whole part loaded basis updates workers → files name ≡ Some script → left ≡ Some whole.left → HasStarted whole
     → IfSome left (λ rest. EndsUnread before now part.hosts (record { suffixes = basis.suffixes; workers = workers; updates = updates }) basis.state script rest)
     → IsRun before now ((in_rounds files whole session name).Unread)
-unread_ends files session whole part loaded basis updates workers name script before now None is held known ends = absurd (cc known)
-unread_ends files session whole part loaded basis updates workers name script before now (Some left) is held known (inl gave) =
+unread_ends files session whole part loaded basis updates workers name script before now None is held known started ends = absurd (cc known)
+unread_ends files session whole part loaded basis updates workers name script before now (Some left) is held known started (inl gave) =
     let same : left ≡ whole.left = cc known in (
       gave.writes.written,
       gave.writes.taken,
-      inr (inl (served files session whole part loaded basis updates workers (λ given. HoldsGiven files name given whole.left) (λ given. whole_rounds_of (ended_lines given)) gave.given gave.writes.written is
+      inr (started, inl (served files session whole part loaded basis updates workers (λ given. HoldsGiven files name given whole.left) (λ given. whole_rounds_of (ended_lines given)) gave.given gave.writes.written is
           (record { script = script; held = held; split = subst (λ (l : List ℕ). script ≡ gave.given ++ l) same gave.split }) gave.writes.serves)),
     )
-unread_ends files session whole part loaded basis updates workers name script before now (Some left) is held known (inr all) =
+unread_ends files session whole part loaded basis updates workers name script before now (Some left) is held known started (inr all) =
     let same : left ≡ whole.left = cc known in (
       all.1.written,
       all.1.taken,
-      inr (inr (served files session whole part loaded basis updates workers (λ s. (files name ≡ Some s) × (whole.left ≡ [])) (λ s. whole_rounds_of (short_lines s)) script all.1.written is
+      inr (started, inr (served files session whole part loaded basis updates workers (λ s. (files name ≡ Some s) × (whole.left ≡ [])) (λ s. whole_rounds_of (short_lines s)) script all.1.written is
           (held, sym same ∙ all.0) all.1.serves)),
     )
 
@@ -149,21 +149,21 @@ all_served files session whole part loaded basis updates workers name script wri
 -- the script was served, and the run ends so
 pub served_ends : (files : Files) (session : Session) (whole part : Outside) (loaded : Loaded) (basis : Basis) (updates : Bool) (workers : ℕ) (name script : List ℕ) (before now : Option (List ℕ)) (left : Option (List ℕ)) (result : Result (Unit {0}) ServeStop)
     → IsSession files session whole part loaded basis updates workers → files name ≡ Some script → left ≡ Some whole.left
-    → (result ≡ Err serve.ReadFault → Rose whole.shelf.before whole.shelf.now) → (result ≡ Err serve.WriteFault → Rose whole.sink.before whole.sink.now)
+    → HasStarted whole → (result ≡ Err serve.ReadFault → Rose whole.shelf.before whole.shelf.now) → (result ≡ Err serve.WriteFault → Rose whole.sink.before whole.sink.now)
     → EndsServing before now part.hosts (record { suffixes = basis.suffixes; workers = workers; updates = updates }) basis.state script left result
     → IsRun before now (EndsBy whole (in_rounds files whole session name) (status_of result))
-served_ends files session whole part loaded basis updates workers name script before now left (Ok done) is held known fault wrote (within, writes) =
+served_ends files session whole part loaded basis updates workers name script before now left (Ok done) is held known started fault wrote (within, writes) =
     (writes.written, writes.taken, all_served files session whole part loaded basis updates workers name script writes.written is held within writes.serves)
-served_ends files session whole part loaded basis updates workers name script before now left (Err serve.ReadFault) is held known fault wrote ends =
-    let run = unread_ends files session whole part loaded basis updates workers name script before now left is held known ends in
+served_ends files session whole part loaded basis updates workers name script before now left (Err serve.ReadFault) is held known started fault wrote ends =
+    let run = unread_ends files session whole part loaded basis updates workers name script before now left is held known started ends in
     (run.0, run.1, (fault refl, run.2))
-served_ends files session whole part loaded basis updates workers name script before now left (Err serve.WriteFault) is held known fault wrote (inl (count, part_written)) =
+served_ends files session whole part loaded basis updates workers name script before now left (Err serve.WriteFault) is held known started fault wrote (inl (count, part_written)) =
     (part_written.sent, part_written.taken, (wrote refl, record { rest = part_written.rest; whole = inr (inl (some_served files session whole part loaded basis updates workers name script (part_written.sent ++ part_written.rest) count is held part_written.serves)) }))
-served_ends files session whole part loaded basis updates workers name script before now left (Err serve.WriteFault) is held known fault wrote (inr (within, part_written)) =
+served_ends files session whole part loaded basis updates workers name script before now left (Err serve.WriteFault) is held known started fault wrote (inr (within, part_written)) =
     (part_written.sent, part_written.taken, (wrote refl, record { rest = part_written.rest; whole = inl (all_served files session whole part loaded basis updates workers name script (part_written.sent ++ part_written.rest) is held within part_written.serves) }))
-served_ends files session whole part loaded basis updates workers name script before now left (Err serve.TooLong) is held known fault wrote (beyond, writes) =
+served_ends files session whole part loaded basis updates workers name script before now left (Err serve.TooLong) is held known started fault wrote (beyond, writes) =
     (writes.written, writes.taken, inr (served files session whole part loaded basis updates workers (HoldsTooMuch files name) (λ s. whole_rounds_of (short_lines s)) script writes.written is (record { held = held; beyond = beyond }) writes.serves))
-served_ends files session whole part loaded basis updates workers name script before now left (Err serve.NoMemory) is held known fault wrote (count, writes) = (
+served_ends files session whole part loaded basis updates workers name script before now left (Err serve.NoMemory) is held known started fault wrote (count, writes) = (
   writes.written,
   writes.taken,
   inr (record {

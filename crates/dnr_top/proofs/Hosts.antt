@@ -3,7 +3,7 @@ use Rattle.std.proofs.Common.{◌≡◌, ℕ, zero, suc, ◌≤◌, List, [], �
 use Rattle.std.specs.Prelude.{IfSome, slice_get, slice_index_or, slice_set}
 use Rattle.std.specs.List.{AllZip}
 use Rattle.std.proofs.lemmas.List.{take_all, drop_all, map-append}
-use Rattle.dnr_base.specs.Faults.{Rose, Count}
+use Rattle.dnr_base.specs.Faults.{Rose, Count, next_count}
 use Rattle.dnr_spec.specs.declared.status.Status.{Status}
 use Rattle.load_spec.specs.Files.{Files}
 use Rattle.dnr_spec.specs.Lines.{lines_of}
@@ -48,10 +48,15 @@ since_before first checked now finders later earlier (suc place) times rises = r
 pub rose_since : (first middle last : ℕ) → first ≤ middle → Rose middle last → Rose first last
 rose_since first middle last earlier rose = omega (arith, earlier, rose)
 
+-- a start is counted, and what is read after it starts nothing
+pub rose_by_start : (before started now : ℕ) → started ≡ next_count before → now ≡ started → Rose before now
+rose_by_start before started now counted same = subst (λ (n : ℕ). next_count before ≤ n) (sym (same ∙ counted)) (omega arith)
+
 -- what is said of more is said of less
 pub less_on : (a b c : Outside) → SaysNoLess a b → SaysNoLess b c → SaysNoLess a c
 less_on a b c p q = record {
   shelf_rose = λ rose. p.shelf_rose (q.shelf_rose rose);
+  same_started = p.same_started ∙ q.same_started;
   same_sink = p.same_sink ∙ q.same_sink;
   hosts = λ place times rises. p.hosts place times (q.hosts place times rises);
   same_left = p.same_left ∙ q.same_left;
@@ -166,18 +171,18 @@ fell_with faults first last finders seats rest later split fell =
 
 -- ---- a run
 
-pub run_out : {H : Type 0} (faults : H → ℕ) (known : Option Files) (hosts front back later : List H) (len : ℕ) (default checked : H) (shelf sink : Count) (left : Option (List ℕ)) (words : List (List ℕ)) (task : Task) (before now : Option (List ℕ)) (ended : Status)
+pub run_out : {H : Type 0} (faults : H → ℕ) (known : Option Files) (hosts front back later : List H) (len : ℕ) (default checked : H) (shelf started sink : Count) (left : Option (List ℕ)) (words : List (List ℕ)) (task : Task) (before now : Option (List ℕ)) (ended : Status)
     → length hosts ≡ len → hosts ≡ front ++ back → length front ≡ 1 → NoneFell (faults (slice_index_or front 0 default) ∷ map faults back) (faults checked ∷ map faults later) → task_of words ≡ Some task
-    → MayEnd known task (outside shelf sink (faults (slice_index_or front 0 default) ∷ map faults back) (faults checked ∷ map faults later) left) before now ended
+    → MayEnd known task (outside shelf started sink (faults (slice_index_or front 0 default) ∷ map faults back) (faults checked ∷ map faults later) left) before now ended
     → IfSome known (λ files. (written : List ℕ) × Appends before now written
-    × Out words files (outside shelf sink (map faults hosts) (map faults (take len (slice_set front 0 checked ++ later ++ drop (length (slice_set front 0 checked ++ later)) hosts))) left) ended written)
-run_out faults known hosts front back later len default checked shelf sink left words task before now ended all split one fell is ends =
+    × Out words files (outside shelf started sink (map faults hosts) (map faults (take len (slice_set front 0 checked ++ later ++ drop (length (slice_set front 0 checked ++ later)) hosts))) left) ended written)
+run_out faults known hosts front back later len default checked shelf started sink left words task before now ended all split one fell is ends =
     let was : map faults hosts ≡ faults (slice_index_or front 0 default) ∷ map faults back = ap (map faults) (hosts_before hosts front back default split one) in
     let are : map faults (take len (slice_set front 0 checked ++ later ++ drop (length (slice_set front 0 checked ++ later)) hosts)) ≡ faults checked ∷ map faults later =
     ap (map faults) (hosts_after hosts front back later len checked all split one (as_many_hosts faults back later fell.1)) in
-    subst (λ (ns : List ℕ). IfSome known (λ files. (written : List ℕ) × Appends before now written × Out words files (outside shelf sink (map faults hosts) ns left) ended written)) (sym are)
-    (subst (λ (os : List ℕ). IfSome known (λ files. (written : List ℕ) × Appends before now written × Out words files (outside shelf sink os (faults checked ∷ map faults later) left) ended written)) (sym was)
-    (out_of known (outside shelf sink (faults (slice_index_or front 0 default) ∷ map faults back) (faults checked ∷ map faults later) left) words task before now ended is ends))
+    subst (λ (ns : List ℕ). IfSome known (λ files. (written : List ℕ) × Appends before now written × Out words files (outside shelf started sink (map faults hosts) ns left) ended written)) (sym are)
+    (subst (λ (os : List ℕ). IfSome known (λ files. (written : List ℕ) × Appends before now written × Out words files (outside shelf started sink os (faults checked ∷ map faults later) left) ended written)) (sym was)
+    (out_of known (outside shelf started sink (faults (slice_index_or front 0 default) ∷ map faults back) (faults checked ∷ map faults later) left) words task before now ended is ends))
 
 pub run_hosts : {H : Type 0} (faults : H → ℕ) (hosts front back later : List H) (len : ℕ) (default checked : H)
     → length hosts ≡ len → hosts ≡ front ++ back → length front ≡ 1 → NoneFell (faults (slice_index_or front 0 default) ∷ map faults back) (faults checked ∷ map faults later)

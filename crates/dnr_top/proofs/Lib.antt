@@ -1,4 +1,5 @@
 pub mod Ended
+pub mod Asked
 pub mod Tasks
 pub mod Hosts
 pub mod Listed

@@ -27,7 +27,7 @@ use Rattle.session_serve.specs.Serving.{EndsServing}
 use Rattle.session_serve.specs.declared.stop.ServeStop.{ServeStop}
 use Rattle.session_serve.specs.declared.stop.ServeStop.TheVariants as serve
 use Rattle.session_spec.specs.Loading.{PrintsRefusedRules, RefusesFile, HasLongFileIn, Loaded, Loads}
-use Rattle.session_spec.specs.Out.{Outside, HostRose, Session, of_rules, of_words, LoadsFor, IsCompiled, RefusesSession, HasLongFileOf, in_rounds, conduct_of, EndsBy, EndsFor, Out}
+use Rattle.session_spec.specs.Out.{Outside, HostRose, Session, of_rules, of_words, LoadsFor, IsCompiled, RefusesSession, HasLongFileOf, HasNotStarted, HasStarted, in_rounds, conduct_of, EndsBy, EndsFor, Out}
 use Rattle.session_spec.specs.Refusals.{install_line, count_line, unsupported_lines}
 use Rattle.session_spec.specs.Words.{Serving, Task, task_of, match_files, check_file, compile_file, serve_script}
 use Rattle.compile_spec.specs.Compiled.{CompiledRule, rules_in}
@@ -90,24 +90,24 @@ compile_stops (Some files) o name before now s ended why fault ends =
 -- ---- sessions
 
 session_stops : (files : Files) (o : Outside) (session : Session) (script : List ℕ) (before now : Option (List ℕ)) (s : Stop) (ended : Status)
-    → StopsAs (RefusesSession files o session) (HasLongFileOf files session) s → (s ≡ stop.ReadFault → Rose o.shelf.before o.shelf.now) → EndsStop before now o.sink s ended
+    → HasNotStarted o → StopsAs (RefusesSession files o session) (HasLongFileOf files session) s → (s ≡ stop.ReadFault → Rose o.shelf.before o.shelf.now) → EndsStop before now o.sink s ended
     → IsRun before now (EndsBy o (in_rounds files o session script) ended)
-session_stops files o session script before now s ended why fault ends =
-    stop_ends o (in_rounds files o session script) (HasLongFileOf files session) before now s ended (λ line refused. inr (inr refused)) (λ long. inl (long, refl)) (inl refl) why fault ends
+session_stops files o session script before now s ended unstarted why fault ends =
+    stop_ends o (in_rounds files o session script) (HasLongFileOf files session) before now s ended (λ line refused. inr (inr refused)) (λ long. inl (long, refl)) (inl (unstarted, refl)) why fault ends
 
 pub match_stops : (known : Option Files) (o : Outside) (rules script : List ℕ) (before now : Option (List ℕ)) (s : Stop) (ended : Status)
-    → StopsInRules known (HostRose o 0) Static rules s → (s ≡ stop.ReadFault → Rose o.shelf.before o.shelf.now) → EndsStop before now o.sink s ended → MayEnd known (match_files rules script) o before now ended
-match_stops None o rules script before now s ended why fault ends = tt
-match_stops (Some files) o rules script before now s ended why fault ends =
-    session_stops files o (of_rules rules) script before now s ended
+    → HasNotStarted o → StopsInRules known (HostRose o 0) Static rules s → (s ≡ stop.ReadFault → Rose o.shelf.before o.shelf.now) → EndsStop before now o.sink s ended → MayEnd known (match_files rules script) o before now ended
+match_stops None o rules script before now s ended unstarted why fault ends = tt
+match_stops (Some files) o rules script before now s ended unstarted why fault ends =
+    session_stops files o (of_rules rules) script before now s ended unstarted
     (stops_map (PrintsRefusedRules files (HostRose o 0) Static rules) (RefusesSession files o (of_rules rules)) (HoldsLongFile files rules) (HasLongFileOf files (of_rules rules)) s
     (λ line refused. inl refused) (λ long. long) why) fault ends
 
 pub serve_stops : (known : Option Files) (o : Outside) (serving : Serving) (before now : Option (List ℕ)) (s : Stop) (ended : Status)
-    → StopsInServing known (HostRose o 0) serving s → (s ≡ stop.ReadFault → Rose o.shelf.before o.shelf.now) → EndsStop before now o.sink s ended → MayEnd known (serve_script serving) o before now ended
-serve_stops None o serving before now s ended why fault ends = tt
-serve_stops (Some files) o serving before now s ended why fault ends =
-    session_stops files o (of_words serving) serving.script before now s ended
+    → HasNotStarted o → StopsInServing known (HostRose o 0) serving s → (s ≡ stop.ReadFault → Rose o.shelf.before o.shelf.now) → EndsStop before now o.sink s ended → MayEnd known (serve_script serving) o before now ended
+serve_stops None o serving before now s ended unstarted why fault ends = tt
+serve_stops (Some files) o serving before now s ended unstarted why fault ends =
+    session_stops files o (of_words serving) serving.script before now s ended unstarted
     (stops_map (RefusesFile files (HostRose o 0) serving) (RefusesSession files o (of_words serving)) (HasLongFileIn files serving) (HasLongFileOf files (of_words serving)) s
     (λ line refused. inl refused) (λ long. long) why) fault ends
 
@@ -127,22 +127,28 @@ serve_serves (Some files) after whole part serving script workers loaded before 
     (subst (λ (text : List ℕ). MayServe (Some files) loaded true workers text before now part ended) named (subst (λ (k : Option Files). MayServe k loaded true workers script before now part ended) same serves))
     (of_words serving) whole loads refl (sym works) less
 
+not_started_too : (whole part : Outside) → SaysNoLess whole part → HasNotStarted part → HasNotStarted whole
+not_started_too whole part less unstarted = subst (λ (c : Count). c.now ≡ c.before) (sym less.same_started) unstarted
+
+started_too : (whole part : Outside) → SaysNoLess whole part → HasStarted part → HasStarted whole
+started_too whole part less started = subst (λ (c : Count). Rose c.before c.now) (sym less.same_started) started
+
 -- an extension is not installed
 pub not_installed : (known : Option Files) (loaded : Loaded) (updates : Bool) (workers : ℕ) (script : List ℕ) (before now : Option (List ℕ)) (part : Outside) (s : Stop) (ended : Status)
-    → StopsAs (PrintsInstall loaded) ⊥ s → (s ≡ stop.ReadFault → ⊥) → EndsStop before now part.sink s ended → MayServe known loaded updates workers script before now part ended
-not_installed None loaded updates workers script before now part s ended why no_fault ends = tt
-not_installed (Some files) loaded updates workers script before now part s ended why no_fault ends = λ session whole loads takes works less.
-    session_stops files whole session script before now s ended
+    → HasNotStarted part → StopsAs (PrintsInstall loaded) ⊥ s → (s ≡ stop.ReadFault → ⊥) → EndsStop before now part.sink s ended → MayServe known loaded updates workers script before now part ended
+not_installed None loaded updates workers script before now part s ended unstarted why no_fault ends = tt
+not_installed (Some files) loaded updates workers script before now part s ended unstarted why no_fault ends = λ session whole loads takes works less.
+    session_stops files whole session script before now s ended (not_started_too whole part less unstarted)
     (stops_map (PrintsInstall loaded) (RefusesSession files whole session) ⊥ (HasLongFileOf files session) s
     (λ line install. inr (record { loaded = loaded; read = loads; refused = install.refused; judged = install.judged; output = install.same })) (λ none. absurd none) why)
     (λ is. absurd (no_fault is)) (subst (λ (sink : Count). EndsStop before now sink s ended) (sym less.same_sink) ends)
 
 -- the script is not opened
 pub not_started : (known : Option Files) (loaded : Loaded) (updates : Bool) (workers : ℕ) (script : List ℕ) (before : Option (List ℕ)) (part : Outside)
-    → Rose part.shelf.before part.shelf.now → MayServe known loaded updates workers script before before part status.ReadFault
-not_started None loaded updates workers script before part rose = tt
-not_started (Some files) loaded updates workers script before part rose = λ session whole loads takes works less.
-    ([], still_nothing before before refl, (less.shelf_rose rose, inl refl))
+    → HasNotStarted part → Rose part.shelf.before part.shelf.now → MayServe known loaded updates workers script before before part status.ReadFault
+not_started None loaded updates workers script before part unstarted rose = tt
+not_started (Some files) loaded updates workers script before part unstarted rose = λ session whole loads takes works less.
+    ([], still_nothing before before refl, (less.shelf_rose rose, inl (not_started_too whole part less unstarted, refl)))
 
 left_told : (left : Option (List ℕ)) (told : List ℕ) → is_some left ≡ true → told ≡ unwrap_or left [] → left ≡ Some told
 left_told None told some same = absurd (cc some)
@@ -150,16 +156,16 @@ left_told (Some l) told some same = ap Some (sym same)
 
 -- the script was served
 pub script_served : (known : Option Files) (loaded : Loaded) (basis : Basis) (updates : Bool) (workers : ℕ) (name : List ℕ) (before now started left : Option (List ℕ)) (part : Outside) (result : Result (Unit {0}) ServeStop) (ended : Status)
-    → IsOpened loaded basis → IsStarted known name started → is_some left ≡ is_some started → part.left ≡ unwrap_or left []
+    → IsOpened loaded basis → IsStarted known name started → is_some left ≡ is_some started → part.left ≡ unwrap_or left [] → HasStarted part
     → (result ≡ Err serve.ReadFault → Rose part.shelf.before part.shelf.now) → (result ≡ Err serve.WriteFault → Rose part.sink.before part.sink.now)
     → IfSome started (λ script. EndsServing before now part.hosts (record { suffixes = basis.suffixes; workers = workers; updates = updates }) basis.state script left result) → ended ≡ status_of result
     → MayServe known loaded updates workers name before now part ended
-script_served None loaded basis updates workers name before now started left part result ended opened start some same fault wrote ends is = tt
-script_served (Some files) loaded basis updates workers name before now None left part result ended opened start some same fault wrote ends is = absurd (cc (start.0))
-script_served (Some files) loaded basis updates workers name before now (Some script) left part result ended opened start some same fault wrote ends is = λ session whole loads takes works less.
+script_served None loaded basis updates workers name before now started left part result ended opened start some same has_started fault wrote ends is = tt
+script_served (Some files) loaded basis updates workers name before now None left part result ended opened start some same has_started fault wrote ends is = absurd (cc (start.0))
+script_served (Some files) loaded basis updates workers name before now (Some script) left part result ended opened start some same has_started fault wrote ends is = λ session whole loads takes works less.
     subst (λ (e : Status). IsRun before now (EndsBy whole (in_rounds files whole session name) e)) (sym is)
     (served_ends files session whole part loaded basis updates workers name script before now left result
-    (record { read = loads; opened = opened; takes = takes; works = works; less = less }) (sym start.1) (left_told left whole.left some (less.same_left ∙ same))
+    (record { read = loads; opened = opened; takes = takes; works = works; less = less }) (sym start.1) (left_told left whole.left some (less.same_left ∙ same)) (started_too whole part less has_started)
     (λ r. less.shelf_rose (fault r)) (λ r. subst (λ (c : Count). Rose c.before c.now) (sym less.same_sink) (wrote r)) ends)
 
 -- ---- installations

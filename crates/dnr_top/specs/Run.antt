@@ -35,10 +35,11 @@ count before now = record { before = before; now = now }
 abbrev pub told : Option (List ℕ) → List ℕ
 told left = unwrap_or left []
 
--- the counts of the shelf, of the sink and of the hosts, and what is left to read
-abbrev pub outside : Count → Count → List ℕ → List ℕ → Option (List ℕ) → Outside
-outside shelf sink before now left = record {
+-- the counts of the shelf, of what it started, of the sink and of the hosts, and what is left to read
+abbrev pub outside : Count → Count → Count → List ℕ → List ℕ → Option (List ℕ) → Outside
+outside shelf started sink before now left = record {
   shelf = shelf;
+  started = started;
   sink = sink;
   hosts = counts_between before now;
   left = told left;
@@ -96,10 +97,11 @@ status_of (Err serve.WriteFault) = status.WriteFault
 status_of (Err serve.TooLong) = status.FileTooLong
 status_of (Err serve.NoMemory) = status.NoMemory
 
--- What came from outside in a whole run says no less than what was seen of its last part: of the shelf, of the sink, of
--- each host, and of what is left.
+-- What came from outside in a whole run says no less than what was seen of its last part: of the shelf, of what it
+-- started, of the sink, of each host, and of what is left.
 pub record SaysNoLess (whole part : Outside) : Type 0 where
   pub shelf_rose : Rose part.shelf.before part.shelf.now → Rose whole.shelf.before whole.shelf.now
+  pub same_started : whole.started ≡ part.started
   pub same_sink : whole.sink ≡ part.sink
   pub hosts : (place times : ℕ) → HostRisesBy times (slice_get part.hosts place) → HostRisesBy times (slice_get whole.hosts place)
   pub same_left : whole.left ≡ part.left

@@ -4,9 +4,11 @@ ghost use Rattle.std.specs.List.{AllZip};
 ghost use Rattle.std.specs.Io.KnownBytes.{Appends};
 ghost use Rattle.dnr_base.specs.Faults.{Rose};
 ghost use Rattle.session_laws.specs.Turns.{NoneFell};
+ghost use Rattle.session_load.specs.Asked.{MayAskServing};
 ghost use Rattle.session_spec.specs.Out.{Out, hosts_needed};
 ghost use Rattle.session_spec.specs.Words.{match_files, check_file, compile_file, serve_script, task_of};
 ghost use Rattle.session_spec.specs.Refusals.{count_line};
+ghost use Rattle.dnr_top.specs.Asked.{MayAskFor};
 ghost use Rattle.dnr_top.specs.Run as run;
 ghost use Rattle.dnr_top.specs.Run.{EndsWith, MayEnd, count, outside};
 
@@ -55,7 +57,10 @@ pub fn run<R: Threads + Wait + Sync, F: Shelf, O: Sink, H: RegexHost + Send, G: 
     hosts: &mut Vec<H>,
     gate: &G,
 ) -> Status
-    requires { hosts_needed (task_of (map string_bytes words.now)) ≤ length hosts.old.items }
+    requires hosts { hosts_needed (task_of (map string_bytes words.now)) ≤ length hosts.old.items }
+
+    // The shelf may be asked for the files of the command. Nothing is known of other names, so none is asked for.
+    requires names { MayAskFor F.allows (F.Source.files shelf.old) (task_of (map string_bytes words.now)) }
     ensures usage { (result ≡ Status.Usage) ↔ (task_of (map string_bytes words.now) ≡ None) }
     ensures silent { result ≡ Status.Usage → O.taken out.new ≡ O.taken out.old }
 
@@ -66,7 +71,8 @@ pub fn run<R: Threads + Wait + Sync, F: Shelf, O: Sink, H: RegexHost + Send, G: 
     ensures allowed { IfSome (F.Source.files shelf.old) (λ files. (written : List ℕ)
         × Appends (O.taken out.old) (O.taken out.new) written
         × Out (map string_bytes words.now) files
-        (outside (count (F.Source.faults shelf.old) (F.Source.faults shelf.new)) (count (O.faults out.old) (O.faults out.new))
+        (outside (count (F.Source.faults shelf.old) (F.Source.faults shelf.new))
+        (count (F.Source.starts shelf.old) (F.Source.starts shelf.new)) (count (O.faults out.old) (O.faults out.new))
         (map H.faults hosts.old.items) (map H.faults hosts.new.items) (F.Source.left shelf.new)) result written) }
 
     // A fault is told only where it was counted, whatever the shelf tells.
@@ -102,10 +108,12 @@ fn match_requests<R: Threads + Wait + Sync, F: Shelf, O: Sink, H: RegexHost + Se
     finders: &mut [H],
     gate: &G,
 ) -> Status
-    requires { 0 < length finders.old }
+    requires seats { 0 < length finders.old }
+    requires names { F.allows rules.now × F.allows script.now }
     ensures no_usage { result ≢ Status.Usage }
     ensures allowed { MayEnd (F.Source.files shelf.old) (match_files rules.now script.now)
-        (outside (count (F.Source.faults shelf.old) (F.Source.faults shelf.new)) (count (O.faults out.old) (O.faults out.new))
+        (outside (count (F.Source.faults shelf.old) (F.Source.faults shelf.new))
+        (count (F.Source.starts shelf.old) (F.Source.starts shelf.new)) (count (O.faults out.old) (O.faults out.new))
         (H.faults checker.old ∷ map H.faults finders.old) (H.faults checker.new ∷ map H.faults finders.new)
         (F.Source.left shelf.new))
         (O.taken out.old) (O.taken out.new) result }
@@ -131,10 +139,12 @@ fn serve_script<R: Threads + Wait + Sync, F: Shelf, O: Sink, H: RegexHost + Send
     finders: &mut [H],
     gate: &G,
 ) -> Status
-    requires { serving.now.workers ≤ length finders.old }
+    requires seats { serving.now.workers ≤ length finders.old }
+    requires names { MayAskServing F.allows (F.Source.files shelf.old) serving.now × F.allows serving.now.script }
     ensures no_usage { result ≢ Status.Usage }
     ensures allowed { MayEnd (F.Source.files shelf.old) (serve_script serving.now)
-        (outside (count (F.Source.faults shelf.old) (F.Source.faults shelf.new)) (count (O.faults out.old) (O.faults out.new))
+        (outside (count (F.Source.faults shelf.old) (F.Source.faults shelf.new))
+        (count (F.Source.starts shelf.old) (F.Source.starts shelf.new)) (count (O.faults out.old) (O.faults out.new))
         (H.faults checker.old ∷ map H.faults finders.old) (H.faults checker.new ∷ map H.faults finders.new)
         (F.Source.left shelf.new))
         (O.taken out.old) (O.taken out.new) result }
@@ -174,9 +184,11 @@ fn check_rules<F: Shelf, O: Sink, H: RegexHost>(
     checker: &mut H,
     _finders: &mut [H],
 ) -> Status
+    requires { F.allows name.now }
     ensures no_usage { result ≢ Status.Usage }
     ensures allowed { MayEnd (F.Source.files shelf.old) (check_file kind name.now)
-        (outside (count (F.Source.faults shelf.old) (F.Source.faults shelf.new)) (count (O.faults out.old) (O.faults out.new))
+        (outside (count (F.Source.faults shelf.old) (F.Source.faults shelf.new))
+        (count (F.Source.starts shelf.old) (F.Source.starts shelf.new)) (count (O.faults out.old) (O.faults out.new))
         (H.faults checker.old ∷ map H.faults _finders.old) (H.faults checker.new ∷ map H.faults _finders.new)
         (F.Source.left shelf.new))
         (O.taken out.old) (O.taken out.new) result }
@@ -198,9 +210,11 @@ fn compile_list<F: Shelf, O: Sink, H: RegexHost>(
     checker: &mut H,
     _finders: &mut [H],
 ) -> Status
+    requires { F.allows name.now }
     ensures no_usage { result ≢ Status.Usage }
     ensures allowed { MayEnd (F.Source.files shelf.old) (compile_file name.now)
-        (outside (count (F.Source.faults shelf.old) (F.Source.faults shelf.new)) (count (O.faults out.old) (O.faults out.new))
+        (outside (count (F.Source.faults shelf.old) (F.Source.faults shelf.new))
+        (count (F.Source.starts shelf.old) (F.Source.starts shelf.new)) (count (O.faults out.old) (O.faults out.new))
         (H.faults checker.old ∷ map H.faults _finders.old) (H.faults checker.new ∷ map H.faults _finders.new)
         (F.Source.left shelf.new))
         (O.taken out.old) (O.taken out.new) result }

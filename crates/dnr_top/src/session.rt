@@ -41,10 +41,12 @@ pub fn serve<R: Threads + Wait + Sync, F: Shelf, O: Sink, H: RegexHost + Send, G
     requires some { 0 < workers }
     requires few { workers ≤ 8 }
     requires enough { workers ≤ length finders.old }
+    requires named { F.allows script.now }
     ensures no_usage { result ≢ Status.Usage }
     ensures allowed { MayServe (F.Source.files shelf.old) loaded updates workers script.now
         (O.taken out.old) (O.taken out.new)
-        (outside (count (F.Source.faults shelf.old) (F.Source.faults shelf.new)) (count (O.faults out.old) (O.faults out.new))
+        (outside (count (F.Source.faults shelf.old) (F.Source.faults shelf.new))
+        (count (F.Source.starts shelf.old) (F.Source.starts shelf.new)) (count (O.faults out.old) (O.faults out.new))
         (H.faults checker.old ∷ map H.faults finders.old) (H.faults checker.new ∷ map H.faults finders.new)
         (F.Source.left shelf.new)) result }
     ensures later { NoneFell (H.faults checker.old ∷ map H.faults finders.old) (H.faults checker.new ∷ map H.faults finders.new) }
@@ -86,6 +88,7 @@ fn serve_started<R: Threads + Wait + Sync, S: Source, O: Sink, H: RegexHost + Se
         (record { suffixes = generation.suffixes; workers = workers; updates = updates }) generation.state script (S.left source.new) result) }
     ensures later { NoneFell (H.faults checker.old ∷ map H.faults finders.old) (H.faults checker.new ∷ map H.faults finders.new) }
     ensures told { is_some (S.left source.new) ≡ is_some (S.left source.old) }
+    ensures starts { S.starts source.new ≡ S.starts source.old }
     ensures read_fault { HasCauseOf ServeStop.ReadFault (S.faults source.old) (S.faults source.new) result }
     ensures write_fault { HasCauseOf ServeStop.WriteFault (O.faults out.old) (O.faults out.new) result }
 {

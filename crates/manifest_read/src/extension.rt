@@ -1,7 +1,8 @@
 ghost use Rattle.std.specs.Prelude.{◌≡◌, ◌≤◌, IfOk, IfErr, IfSome};
 ghost use Rattle.std.specs.List.{AllZip};
 ghost use Rattle.dnr_base.specs.Faults.{Rose, HasCauseOf};
-ghost use Rattle.load_spec.specs.Extensions.{HoldsExtension, HoldsManifest, HoldsSet, file_in, set_of};
+ghost use Rattle.load_spec.specs.Extensions.{HoldsExtension, HoldsManifest, HoldsSet, file_in, manifest_name, set_of};
+ghost use Rattle.manifest_read.specs.Asked.{MayAskExtension, MayAskSets, MayHoldManifest};
 ghost use Rattle.manifest_read.specs.Refusals.{Refuses, IsNoMemoryApart, RefusesManifest, RefusesSet, RefusesSets, fetch_refusal, manifest_refusal, set_refusal};
 
 use crate::ManifestRefusal;
@@ -39,6 +40,7 @@ pub fn read_extension<F: Shelf, H: RegexHost>(
     name: &str,
     host: &mut H,
 ) -> Result<Extension, ManifestRefusal>
+    requires { MayAskExtension F.allows (F.Source.files shelf.old) name.now }
     ensures ok { IfOk result (λ extension. IfSome (F.Source.files shelf.old) (λ files.
         HoldsExtension files name.now extension)) }
     ensures refused { IfErr result (λ refusal. IfSome (F.Source.files shelf.old) (λ files.
@@ -46,6 +48,7 @@ pub fn read_extension<F: Shelf, H: RegexHost>(
     ensures apart { IfErr result IsNoMemoryApart }
     ensures later { H.faults host.old ≤ H.faults host.new }
     ensures files { F.Source.files shelf.new ≡ F.Source.files shelf.old }
+    ensures starts { F.Source.starts shelf.new ≡ F.Source.starts shelf.old }
     ensures cause { HasCauseOf ManifestRefusal.ReadFault (F.Source.faults shelf.old) (F.Source.faults shelf.new) result }
 {
     let manifest = read_manifest(alloc, shelf, name)?;
@@ -60,12 +63,15 @@ fn read_manifest<F: Shelf>(
     shelf: &mut F,
     name: &str,
 ) -> Result<Manifest, ManifestRefusal>
+    requires { F.allows (manifest_name name.now) }
     ensures ok { IfOk result (λ manifest. IfSome (F.Source.files shelf.old) (λ files.
         HoldsManifest files name.now manifest)) }
+    ensures held { IfOk result (MayHoldManifest (F.Source.files shelf.old) name.now) }
     ensures refused { IfErr result (λ refusal. IfSome (F.Source.files shelf.old) (λ files.
         RefusesManifest files name.now refusal)) }
     ensures apart { IfErr result IsNoMemoryApart }
     ensures files { F.Source.files shelf.new ≡ F.Source.files shelf.old }
+    ensures starts { F.Source.starts shelf.new ≡ F.Source.starts shelf.old }
     ensures cause { HasCauseOf ManifestRefusal.ReadFault (F.Source.faults shelf.old) (F.Source.faults shelf.new) result }
 {
     let file = file_in(alloc, name, "manifest.json")?;
@@ -118,6 +124,7 @@ fn read_sets<F: Shelf, H: RegexHost>(
     resources: &[Resource],
     host: &mut H,
 ) -> Result<Vec<RuleSet>, ManifestRefusal>
+    requires { MayAskSets F.allows name.now resources.now }
     ensures ok { IfOk result (λ sets. IfSome (F.Source.files shelf.old) (λ files.
         AllZip (HoldsSet files name.now) resources.now sets.items)) }
     ensures refused { IfErr result (λ refusal. IfSome (F.Source.files shelf.old) (λ files.
@@ -125,6 +132,7 @@ fn read_sets<F: Shelf, H: RegexHost>(
     ensures apart { IfErr result IsNoMemoryApart }
     ensures later { H.faults host.old ≤ H.faults host.new }
     ensures files { F.Source.files shelf.new ≡ F.Source.files shelf.old }
+    ensures starts { F.Source.starts shelf.new ≡ F.Source.starts shelf.old }
     ensures cause { HasCauseOf ManifestRefusal.ReadFault (F.Source.faults shelf.old) (F.Source.faults shelf.new) result }
 {
     let mut sets = Vec::with_capacity(alloc, resources.len())?;
@@ -143,6 +151,7 @@ fn read_set<F: Shelf, H: RegexHost>(
     resource: &Resource,
     host: &mut H,
 ) -> Result<RuleSet, ManifestRefusal>
+    requires { F.allows (file_in name.now resource.now.path) }
     ensures ok { IfOk result (λ set. IfSome (F.Source.files shelf.old) (λ files.
         HoldsSet files name.now resource.now set)) }
     ensures refused { IfErr result (λ refusal. IfSome (F.Source.files shelf.old) (λ files.
@@ -150,6 +159,7 @@ fn read_set<F: Shelf, H: RegexHost>(
     ensures apart { IfErr result IsNoMemoryApart }
     ensures later { H.faults host.old ≤ H.faults host.new }
     ensures files { F.Source.files shelf.new ≡ F.Source.files shelf.old }
+    ensures starts { F.Source.starts shelf.new ≡ F.Source.starts shelf.old }
     ensures cause { HasCauseOf ManifestRefusal.ReadFault (F.Source.faults shelf.old) (F.Source.faults shelf.new) result }
 {
     let file = file_in(alloc, name, resource.path())?;

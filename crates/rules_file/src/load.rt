@@ -50,12 +50,14 @@ pub fn load_rules<F: Shelf, H: RegexHost>(
     shelf: &mut F,
     host: &mut H,
 ) -> Result<Vec<Rule>, LoadRefusal>
+    requires { F.allows name.now }
     ensures ok { IfOk result (λ rules. IfSome (F.Source.files shelf.old) (λ files. HoldsRules files kind name.now rules.items)) }
     ensures refused { IfErr result (λ refusal. IfSome (F.Source.files shelf.old) (λ files.
         Refuses files kind name.now (Rose (H.faults host.old) (H.faults host.new)) refusal)) }
     ensures apart { IfErr result IsNoMemoryApart }
     ensures later { H.faults host.old ≤ H.faults host.new }
     ensures files { F.Source.files shelf.new ≡ F.Source.files shelf.old }
+    ensures starts { F.Source.starts shelf.new ≡ F.Source.starts shelf.old }
     ensures cause { HasCauseOf LoadRefusal.ReadFault (F.Source.faults shelf.old) (F.Source.faults shelf.new) result }
 {
     let mut bytes = Vec::new(alloc);

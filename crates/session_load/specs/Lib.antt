@@ -4,3 +4,4 @@ pub mod Loads
 pub mod Lists
 pub mod Extensions
 pub mod Tells
+pub mod Asked

@@ -27,10 +27,12 @@ impl From<ShelfRefusal> for Stop {
 
 // The bytes of the file of this name, which are not more than a file may have.
 pub(crate) fn fetch<F: Shelf>(alloc: Global, name: &str, shelf: &mut F) -> Result<Vec<u8>, Stop>
+    requires { F.allows name.now }
     ensures held { IfOk result (TellsFile (F.Source.files shelf.old) name.now) }
     ensures short { IfOk result (λ bytes. length bytes.items ≤ max_file) }
     ensures stops { IfErr result (StopsInFile (F.Source.files shelf.old) name.now) }
     ensures files { F.Source.files shelf.new ≡ F.Source.files shelf.old }
+    ensures starts { F.Source.starts shelf.new ≡ F.Source.starts shelf.old }
     ensures cause { HasCauseOf Stop.ReadFault (F.Source.faults shelf.old) (F.Source.faults shelf.new) result }
 {
     let mut bytes = Vec::new(alloc);

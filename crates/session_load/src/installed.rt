@@ -2,6 +2,8 @@
 ghost use Rattle.std.specs.Prelude.{◌≡◌, ◌≤◌, IfOk, IfErr, string_bytes};
 ghost use Rattle.dnr_base.specs.Faults.{Rose, HasCauseOf};
 ghost use Rattle.dnr_words.specs.Seen.{installed_seen};
+ghost use Rattle.manifest_read.specs.Asked.{MayAskExtension};
+ghost use Rattle.session_load.specs.Asked.{MayAsk};
 ghost use Rattle.session_load.specs.Extensions.{StopsFor, extension_in};
 ghost use Rattle.session_load.specs.Extensions.{bad_json_line, bad_manifest_line, bad_rule_line};
 ghost use Rattle.session_load.specs.Loads.{StopsInOne};
@@ -30,10 +32,12 @@ pub(crate) fn load_one<F: Shelf, H: RegexHost>(
     shelf: &mut F,
     host: &mut H,
 ) -> Result<Extension, Stop>
+    requires { MayAsk F.allows (F.Source.files shelf.old) (installed_seen installed.now) }
     ensures reads { IfOk result (TellsOne (F.Source.files shelf.old) (installed_seen installed.now)) }
     ensures stops { IfErr result (StopsInOne (F.Source.files shelf.old)
         (Rose (H.faults host.old) (H.faults host.new)) (installed_seen installed.now)) }
     ensures files { F.Source.files shelf.new ≡ F.Source.files shelf.old }
+    ensures starts { F.Source.starts shelf.new ≡ F.Source.starts shelf.old }
     ensures later { H.faults host.old ≤ H.faults host.new }
     ensures cause { HasCauseOf Stop.ReadFault (F.Source.faults shelf.old) (F.Source.faults shelf.new) result }
 {
@@ -49,10 +53,12 @@ fn load_folder<F: Shelf, H: RegexHost>(
     shelf: &mut F,
     host: &mut H,
 ) -> Result<Extension, Stop>
+    requires { MayAskExtension F.allows (F.Source.files shelf.old) name.now }
     ensures reads { IfOk result (TellsFolder (F.Source.files shelf.old) name.now) }
     ensures stops { IfErr result (StopsInOne (F.Source.files shelf.old)
         (Rose (H.faults host.old) (H.faults host.new)) (folder name.now)) }
     ensures files { F.Source.files shelf.new ≡ F.Source.files shelf.old }
+    ensures starts { F.Source.starts shelf.new ≡ F.Source.starts shelf.old }
     ensures later { H.faults host.old ≤ H.faults host.new }
     ensures cause { HasCauseOf Stop.ReadFault (F.Source.faults shelf.old) (F.Source.faults shelf.new) result }
 {
@@ -122,10 +128,12 @@ fn load_as_list<F: Shelf, H: RegexHost>(
     shelf: &mut F,
     host: &mut H,
 ) -> Result<Extension, Stop>
+    requires { F.allows file.now }
     ensures reads { IfOk result (TellsListAs (F.Source.files shelf.old) name.now file.now) }
     ensures stops { IfErr result (StopsInOne (F.Source.files shelf.old)
         (Rose (H.faults host.old) (H.faults host.new)) (list name.now file.now)) }
     ensures files { F.Source.files shelf.new ≡ F.Source.files shelf.old }
+    ensures starts { F.Source.starts shelf.new ≡ F.Source.starts shelf.old }
     ensures later { H.faults host.old ≤ H.faults host.new }
     ensures cause { HasCauseOf Stop.ReadFault (F.Source.faults shelf.old) (F.Source.faults shelf.new) result }
 {

@@ -42,10 +42,12 @@ pub fn load_list<F: Shelf, H: RegexHost>(
     shelf: &mut F,
     host: &mut H,
 ) -> Result<CompiledList, Stop>
+    requires { F.allows name.now }
     ensures list { IfOk result (TellsList (F.Source.files shelf.old) name.now) }
     ensures stops { IfErr result (StopsInList (F.Source.files shelf.old)
         (Rose (H.faults host.old) (H.faults host.new)) name.now) }
     ensures files { F.Source.files shelf.new ≡ F.Source.files shelf.old }
+    ensures starts { F.Source.starts shelf.new ≡ F.Source.starts shelf.old }
     ensures later { H.faults host.old ≤ H.faults host.new }
     ensures cause { HasCauseOf Stop.ReadFault (F.Source.faults shelf.old) (F.Source.faults shelf.new) result }
 {

@@ -37,10 +37,12 @@ pub fn load_rules<F: Shelf, H: RegexHost>(
     shelf: &mut F,
     host: &mut H,
 ) -> Result<Vec<Rule>, Stop>
+    requires { F.allows name.now }
     ensures rules { IfOk result (TellsRules (F.Source.files shelf.old) kind name.now) }
     ensures stops { IfErr result (StopsInRules (F.Source.files shelf.old)
         (Rose (H.faults host.old) (H.faults host.new)) kind name.now) }
     ensures files { F.Source.files shelf.new ≡ F.Source.files shelf.old }
+    ensures starts { F.Source.starts shelf.new ≡ F.Source.starts shelf.old }
     ensures later { H.faults host.old ≤ H.faults host.new }
     ensures cause { HasCauseOf Stop.ReadFault (F.Source.faults shelf.old) (F.Source.faults shelf.new) result }
 {
@@ -62,10 +64,12 @@ pub fn load_local<F: Shelf, H: RegexHost>(
     shelf: &mut F,
     host: &mut H,
 ) -> Result<Loaded, Stop>
+    requires { F.allows name.now }
     ensures loads { IfOk result (TellsLocal (F.Source.files shelf.old) name.now) }
     ensures stops { IfErr result (StopsInRules (F.Source.files shelf.old)
         (Rose (H.faults host.old) (H.faults host.new)) Static name.now) }
     ensures files { F.Source.files shelf.new ≡ F.Source.files shelf.old }
+    ensures starts { F.Source.starts shelf.new ≡ F.Source.starts shelf.old }
     ensures later { H.faults host.old ≤ H.faults host.new }
     ensures cause { HasCauseOf Stop.ReadFault (F.Source.faults shelf.old) (F.Source.faults shelf.new) result }
 {

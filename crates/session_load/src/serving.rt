@@ -2,6 +2,7 @@
 ghost use Rattle.std.specs.Prelude.{◌≡◌, ◌≤◌, map, IfOk, IfErr};
 ghost use Rattle.dnr_base.specs.Faults.{Rose, HasCauseOf};
 ghost use Rattle.dnr_words.specs.Seen.{installed_seen};
+ghost use Rattle.session_load.specs.Asked.{MayAskAll, MayAskServing};
 ghost use Rattle.session_load.specs.Loads.{StopsInServing, StopsInExtensions};
 ghost use Rattle.session_load.specs.Tells.{TellsAll, TellsServing};
 
@@ -32,10 +33,12 @@ pub fn load_serving<F: Shelf, H: RegexHost>(
     shelf: &mut F,
     host: &mut H,
 ) -> Result<Loaded, Stop>
+    requires { MayAskServing F.allows (F.Source.files shelf.old) serving.now }
     ensures loads { IfOk result (TellsServing (F.Source.files shelf.old) serving.now) }
     ensures stops { IfErr result (StopsInServing (F.Source.files shelf.old)
         (Rose (H.faults host.old) (H.faults host.new)) serving.now) }
     ensures files { F.Source.files shelf.new ≡ F.Source.files shelf.old }
+    ensures starts { F.Source.starts shelf.new ≡ F.Source.starts shelf.old }
     ensures later { H.faults host.old ≤ H.faults host.new }
     ensures cause { HasCauseOf Stop.ReadFault (F.Source.faults shelf.old) (F.Source.faults shelf.new) result }
 {
@@ -56,10 +59,12 @@ fn load_extensions<F: Shelf, H: RegexHost>(
     shelf: &mut F,
     host: &mut H,
 ) -> Result<Vec<Extension>, Stop>
+    requires { MayAskAll F.allows (F.Source.files shelf.old) (map installed_seen installed.now) }
     ensures reads { IfOk result (TellsAll (F.Source.files shelf.old) (map installed_seen installed.now)) }
     ensures stops { IfErr result (StopsInExtensions (F.Source.files shelf.old)
         (Rose (H.faults host.old) (H.faults host.new)) (map installed_seen installed.now)) }
     ensures files { F.Source.files shelf.new ≡ F.Source.files shelf.old }
+    ensures starts { F.Source.starts shelf.new ≡ F.Source.starts shelf.old }
     ensures later { H.faults host.old ≤ H.faults host.new }
     ensures cause { HasCauseOf Stop.ReadFault (F.Source.faults shelf.old) (F.Source.faults shelf.new) result }
 {

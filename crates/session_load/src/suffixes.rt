@@ -1,5 +1,5 @@
 //! The suffix list by which first and third party are told.
-ghost use Rattle.std.specs.Prelude.{◌≡◌, ◌≢◌, ◌≤◌, [], length, Ok, Err, IfOk, IfErr, option_copied};
+ghost use Rattle.std.specs.Prelude.{◌≡◌, ◌≢◌, ◌≤◌, [], length, Ok, Err, IfOk, IfErr, IfSome, option_copied};
 ghost use Rattle.dnr_base.specs.Faults.{HasCauseOf};
 ghost use Rattle.dnr_spec.specs.Suffixes.{read_suffixes};
 ghost use Rattle.json_spec.specs.RulesFile.{max_file};
@@ -23,9 +23,11 @@ pub(crate) fn load_suffixes<F: Shelf>(
     name: Option<&str>,
     shelf: &mut F,
 ) -> Result<SuffixList, Stop>
+    requires { IfSome (option_copied name) F.allows }
     ensures suffixes { IfOk result (TellsSuffixes (F.Source.files shelf.old) (option_copied name.entry)) }
     ensures stops { IfErr result (StopsInSuffixes (F.Source.files shelf.old) (option_copied name.entry)) }
     ensures files { F.Source.files shelf.new ≡ F.Source.files shelf.old }
+    ensures starts { F.Source.starts shelf.new ≡ F.Source.starts shelf.old }
     ensures cause { HasCauseOf Stop.ReadFault (F.Source.faults shelf.old) (F.Source.faults shelf.new) result }
 {
     match name {
@@ -38,9 +40,11 @@ pub(crate) fn load_suffixes<F: Shelf>(
 }
 
 fn load_file<F: Shelf>(alloc: Global, name: &str, shelf: &mut F) -> Result<SuffixList, Stop>
+    requires { F.allows name.now }
     ensures suffixes { IfOk result (TellsSuffixFile (F.Source.files shelf.old) name.now) }
     ensures stops { IfErr result (StopsInSuffixFile (F.Source.files shelf.old) name.now) }
     ensures files { F.Source.files shelf.new ≡ F.Source.files shelf.old }
+    ensures starts { F.Source.starts shelf.new ≡ F.Source.starts shelf.old }
     ensures cause { HasCauseOf Stop.ReadFault (F.Source.faults shelf.old) (F.Source.faults shelf.new) result }
 {
     match fetch(alloc, name, shelf) {

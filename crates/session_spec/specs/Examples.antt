@@ -299,8 +299,9 @@ two_files name = if bytes_eq name (codes "r.json") then Some (codes "[]") else (
 abbrev pub no_fault : Count
 no_fault = record { before = 0; now = 0 }
 
+-- no fault, and one file was started
 abbrev pub none : Outside
-none = record { shelf = no_fault; sink = no_fault; hosts = no_fault ∷ no_fault ∷ []; left = [] }
+none = record { shelf = no_fault; started = record { before = 0; now = 1 }; sink = no_fault; hosts = no_fault ∷ no_fault ∷ []; left = [] }
 
 -- The two files are served, and a blank line prints nothing.
 abbrev pub TwoFilesAreServed : Type 0

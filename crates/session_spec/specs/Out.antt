@@ -24,10 +24,12 @@ use Rattle.session_spec.specs.Rounds.{rounds_of, whole_rounds_of, short_lines, e
 use Rattle.session_spec.specs.Sample.{IsSampled}
 use Rattle.session_spec.specs.Words.{Serving, Task, match_files, check_file, compile_file, serve_script, make_sample, task_of}
 
--- What came from outside in a call: how often each thing had failed before it and after it, and what the file that is
--- read from first to last has left. The first pattern host reads files and lines, and each other decides requests.
+-- What came from outside in a call: how often each thing had failed before it and after it, how often a file had been
+-- started that is read from first to last, and what that file has left. The first pattern host reads files and lines, and
+-- each other decides requests.
 pub record Outside : Type 0 where
   pub shelf : Count
+  pub started : Count
   pub sink : Count
   pub hosts : List Count
   pub left : List ℕ
@@ -154,12 +156,18 @@ abbrev pub ServesToEnd : Files → Outside → Session → List ℕ → List ℕ
 ServesToEnd files outside session name =
     IsServed files outside session (λ script. (files name ≡ Some script) × (outside.left ≡ [])) (λ script. whole_rounds_of (short_lines script))
 
--- what is written where a file can't be read on: nothing, where it is not the script, and of the script its whole rounds
+-- Nothing was started, so what can't be read is a file that is read before the script, or the script can't be started.
+abbrev pub HasNotStarted : Outside → Type 0
+HasNotStarted outside = outside.started.now ≡ outside.started.before
+
+abbrev pub HasStarted : Outside → Type 0
+HasStarted outside = Rose outside.started.before outside.started.now
+
+-- what is written where a file can't be read on: nothing before the script was started, and then its whole rounds
 abbrev pub WritesUnread : Files → Outside → Session → List ℕ → List ℕ → Type 0
 WritesUnread files outside session name written =
-    (written ≡ [])
-    ⊎ ServesGiven files outside session name written
-    ⊎ ServesToEnd files outside session name written
+    (HasNotStarted outside × (written ≡ []))
+    ⊎ (HasStarted outside × (ServesGiven files outside session name written ⊎ ServesToEnd files outside session name written))
 
 -- some first rounds were served of those that are whole, of a script that may be too long
 pub record ServesSome (files : Files) (outside : Outside) (session : Session) (name written : List ℕ) : Type 0 where

@@ -23,5 +23,6 @@ loop-all-preserved g c =
       live = counted.2;
       told = next.told ∙ was.told;
       files = next.files ∙ was.files;
+      starts = next.starts ∙ was.starts;
       later = omega (arith, next.cause.later, was.later);
     }

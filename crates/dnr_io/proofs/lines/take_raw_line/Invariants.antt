@@ -12,6 +12,7 @@ invariant-loop-ahead g l = record {
   within : length l.line.items ≤ max_line;
   told : is_some (g.S.Source.left l.source) ≡ is_some (g.S.Source.left l.fn.source);
   files : g.S.Source.files l.source ≡ g.S.Source.files l.fn.source;
+  starts : g.S.Source.starts l.source ≡ g.S.Source.starts l.fn.source;
   later : g.S.Source.faults l.fn.source ≤ g.S.Source.faults l.source;
 }
 

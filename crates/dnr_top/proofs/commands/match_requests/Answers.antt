@@ -1,4 +1,4 @@
-use Rattle.std.proofs.Common.{◌∷◌, map, ap, Err, refl}
+use Rattle.std.proofs.Common.{ℕ, ◌∷◌, map, ap, sym, Err, refl}
 use Rattle.session_laws.proofs.Rises.{none_fell_yet}
 use Rattle.dnr_top.specs.Run.{count, outside}
 use Rattle.dnr_top.proofs.Hosts.{since_before, rose_since}
@@ -8,13 +8,14 @@ use Rattle.dnr_top.proofs.commands.match_requests.Goals as goal
 pub returns-in-Ok-clause-allowed : goal.returns-in-Ok-clause-allowed
 returns-in-Ok-clause-allowed g c =
     match_serves (g.F.Source.files c.args.shelf.now) (g.F.Source.files c.load_local.new.shelf)
-    (outside (count (g.F.Source.faults c.args.shelf.now) (g.F.Source.faults c.serve.new.shelf)) (count (g.O.Sink.faults c.args.out.now) (g.O.Sink.faults c.serve.new.out))
+    (outside (count (g.F.Source.faults c.args.shelf.now) (g.F.Source.faults c.serve.new.shelf)) (count (g.F.Source.starts c.args.shelf.now) (g.F.Source.starts c.serve.new.shelf)) (count (g.O.Sink.faults c.args.out.now) (g.O.Sink.faults c.serve.new.out))
     (g.H.RegexHost.faults c.args.checker.now ∷ map g.H.RegexHost.faults c.args.finders.now) (g.H.RegexHost.faults c.serve.new.checker ∷ map g.H.RegexHost.faults c.serve.new.finders) (g.F.Source.left c.serve.new.shelf))
-    (outside (count (g.F.Source.faults c.load_local.new.shelf) (g.F.Source.faults c.serve.new.shelf)) (count (g.O.Sink.faults c.args.out.now) (g.O.Sink.faults c.serve.new.out))
+    (outside (count (g.F.Source.faults c.load_local.new.shelf) (g.F.Source.faults c.serve.new.shelf)) (count (g.F.Source.starts c.load_local.new.shelf) (g.F.Source.starts c.serve.new.shelf)) (count (g.O.Sink.faults c.args.out.now) (g.O.Sink.faults c.serve.new.out))
     (g.H.RegexHost.faults c.load_local.new.host ∷ map g.H.RegexHost.faults c.args.finders.now) (g.H.RegexHost.faults c.serve.new.checker ∷ map g.H.RegexHost.faults c.serve.new.finders) (g.F.Source.left c.serve.new.shelf))
     c.args.rules.now c.args.script.now c.in-Ok.loaded (g.O.Sink.taken c.args.out.now) (g.O.Sink.taken c.serve.new.out) c.serve.result
     c.in-Ok.ensures.files c.in-Ok.ensures.loads c.serve.ensures.allowed (record {
       shelf_rose = λ rose. rose_since (g.F.Source.faults c.args.shelf.now) (g.F.Source.faults c.load_local.new.shelf) (g.F.Source.faults c.serve.new.shelf) c.in-Ok.ensures.cause.later rose;
+      same_started = ap (λ (n : ℕ). count n (g.F.Source.starts c.serve.new.shelf)) (sym c.in-Ok.ensures.starts);
       same_sink = refl;
       hosts = since_before (g.H.RegexHost.faults c.args.checker.now) (g.H.RegexHost.faults c.load_local.new.host) (g.H.RegexHost.faults c.serve.new.checker)
           (map g.H.RegexHost.faults c.args.finders.now) (map g.H.RegexHost.faults c.serve.new.finders) c.in-Ok.ensures.later;
@@ -24,10 +25,10 @@ returns-in-Ok-clause-allowed g c =
 pub returns-in-Err-clause-allowed : goal.returns-in-Err-clause-allowed
 returns-in-Err-clause-allowed g c =
     match_stops (g.F.Source.files c.args.shelf.now)
-    (outside (count (g.F.Source.faults c.args.shelf.now) (g.F.Source.faults c.load_local.new.shelf)) (count (g.O.Sink.faults c.args.out.now) (g.O.Sink.faults c.stop_with.new.out))
+    (outside (count (g.F.Source.faults c.args.shelf.now) (g.F.Source.faults c.load_local.new.shelf)) (count (g.F.Source.starts c.args.shelf.now) (g.F.Source.starts c.load_local.new.shelf)) (count (g.O.Sink.faults c.args.out.now) (g.O.Sink.faults c.stop_with.new.out))
     (g.H.RegexHost.faults c.args.checker.now ∷ map g.H.RegexHost.faults c.args.finders.now) (g.H.RegexHost.faults c.load_local.new.host ∷ map g.H.RegexHost.faults c.args.finders.now) (g.F.Source.left c.load_local.new.shelf))
     c.args.rules.now c.args.script.now (g.O.Sink.taken c.args.out.now) (g.O.Sink.taken c.stop_with.new.out)
-    c.in-Err.stop c.stop_with.result c.in-Err.ensures.stops (λ is. c.in-Err.ensures.cause.failed (ap Err is)) c.stop_with.ensures
+    c.in-Err.stop c.stop_with.result c.in-Err.ensures.starts c.in-Err.ensures.stops (λ is. c.in-Err.ensures.cause.failed (ap Err is)) c.stop_with.ensures
 
 pub returns-in-Err-clause-later : goal.returns-in-Err-clause-later
 returns-in-Err-clause-later g c = (c.in-Err.ensures.later, none_fell_yet (map g.H.RegexHost.faults c.args.finders.now))

@@ -1,7 +1,8 @@
-use Rattle.std.proofs.Common.{◌∷◌, ap, sym, ◌∙◌, length, map, Some, slice_index_or, string_bytes}
+use Rattle.std.proofs.Common.{◌∷◌, ap, sym, subst, ◌∙◌, length, map, Some, slice_index_or, string_bytes}
 use Rattle.session_laws.proofs.Rises.{none_fell_yet}
 use Rattle.dnr_words.specs.Seen.{task_seen}
 use Rattle.session_spec.specs.Words.{match_files, check_file, compile_file, serve_script, make_sample}
+use Rattle.dnr_top.specs.Asked.{MayAskFor}
 use Rattle.dnr_top.specs.Run.{count, outside}
 use Rattle.dnr_top.proofs.Hosts.{run_out, run_hosts}
 use Rattle.dnr_top.proofs.Sampled.{sample_ends}
@@ -11,7 +12,7 @@ use Rattle.dnr_top.proofs.commands.run.Goals as goal
 pub returns-in-Some-Match-clause-allowed : goal.returns-in-Some-Match-clause-allowed
 returns-in-Some-Match-clause-allowed g c =
     run_out g.H.RegexHost.faults (g.F.Source.files c.args.shelf.now) c.args.hosts.now.items c.split_at_mut-checkers.result.0.now c.split_at_mut-checkers.result.1.now c.match_requests.new.finders _
-    c.index-checkers-0.result c.match_requests.new.checker (count (g.F.Source.faults c.args.shelf.now) (g.F.Source.faults c.match_requests.new.shelf)) (count (g.O.Sink.faults c.args.out.now) (g.O.Sink.faults c.match_requests.new.out))
+    c.index-checkers-0.result c.match_requests.new.checker (count (g.F.Source.faults c.args.shelf.now) (g.F.Source.faults c.match_requests.new.shelf)) (count (g.F.Source.starts c.args.shelf.now) (g.F.Source.starts c.match_requests.new.shelf)) (count (g.O.Sink.faults c.args.out.now) (g.O.Sink.faults c.match_requests.new.out))
     (g.F.Source.left c.match_requests.new.shelf) (map string_bytes c.args.words.now) (match_files c.in-Some-Match.rules.now c.in-Some-Match.script.now) (g.O.Sink.taken c.args.out.now) (g.O.Sink.taken c.match_requests.new.out) c.match_requests.result
     (sym (ap length c.deref_mut.ensures.value) ∙ c.deref_mut.ensures.len) (sym c.deref_mut.ensures.value ∙ c.split_at_mut-checkers.ensures.value) c.split_at_mut-checkers.ensures.front_len c.match_requests.ensures.later
     (sym c.in-Some-Match.ensures ∙ ap (λ t. Some (task_seen t)) c.in-Some-Match.field-0-is) c.match_requests.ensures.allowed
@@ -24,7 +25,7 @@ returns-in-Some-Match-clause-hosts g c =
 pub returns-in-Some-Check-clause-allowed : goal.returns-in-Some-Check-clause-allowed
 returns-in-Some-Check-clause-allowed g c =
     run_out g.H.RegexHost.faults (g.F.Source.files c.args.shelf.now) c.args.hosts.now.items c.split_at_mut-checkers.result.0.now c.split_at_mut-checkers.result.1.now c.check_rules.new._finders _
-    c.index-checkers-0.result c.check_rules.new.checker (count (g.F.Source.faults c.args.shelf.now) (g.F.Source.faults c.check_rules.new.shelf)) (count (g.O.Sink.faults c.args.out.now) (g.O.Sink.faults c.check_rules.new.out))
+    c.index-checkers-0.result c.check_rules.new.checker (count (g.F.Source.faults c.args.shelf.now) (g.F.Source.faults c.check_rules.new.shelf)) (count (g.F.Source.starts c.args.shelf.now) (g.F.Source.starts c.check_rules.new.shelf)) (count (g.O.Sink.faults c.args.out.now) (g.O.Sink.faults c.check_rules.new.out))
     (g.F.Source.left c.check_rules.new.shelf) (map string_bytes c.args.words.now) (check_file c.in-Some-Check.kind c.in-Some-Check.rules.now) (g.O.Sink.taken c.args.out.now) (g.O.Sink.taken c.check_rules.new.out) c.check_rules.result
     (sym (ap length c.deref_mut.ensures.value) ∙ c.deref_mut.ensures.len) (sym c.deref_mut.ensures.value ∙ c.split_at_mut-checkers.ensures.value) c.split_at_mut-checkers.ensures.front_len c.check_rules.ensures.later
     (sym c.in-Some-Check.ensures ∙ ap (λ t. Some (task_seen t)) c.in-Some-Check.field-0-is) c.check_rules.ensures.allowed
@@ -37,7 +38,7 @@ returns-in-Some-Check-clause-hosts g c =
 pub returns-in-Some-Compile-clause-allowed : goal.returns-in-Some-Compile-clause-allowed
 returns-in-Some-Compile-clause-allowed g c =
     run_out g.H.RegexHost.faults (g.F.Source.files c.args.shelf.now) c.args.hosts.now.items c.split_at_mut-checkers.result.0.now c.split_at_mut-checkers.result.1.now c.compile_list.new._finders _
-    c.index-checkers-0.result c.compile_list.new.checker (count (g.F.Source.faults c.args.shelf.now) (g.F.Source.faults c.compile_list.new.shelf)) (count (g.O.Sink.faults c.args.out.now) (g.O.Sink.faults c.compile_list.new.out))
+    c.index-checkers-0.result c.compile_list.new.checker (count (g.F.Source.faults c.args.shelf.now) (g.F.Source.faults c.compile_list.new.shelf)) (count (g.F.Source.starts c.args.shelf.now) (g.F.Source.starts c.compile_list.new.shelf)) (count (g.O.Sink.faults c.args.out.now) (g.O.Sink.faults c.compile_list.new.out))
     (g.F.Source.left c.compile_list.new.shelf) (map string_bytes c.args.words.now) (compile_file c.in-Some-Compile.list.now) (g.O.Sink.taken c.args.out.now) (g.O.Sink.taken c.compile_list.new.out) c.compile_list.result
     (sym (ap length c.deref_mut.ensures.value) ∙ c.deref_mut.ensures.len) (sym c.deref_mut.ensures.value ∙ c.split_at_mut-checkers.ensures.value) c.split_at_mut-checkers.ensures.front_len c.compile_list.ensures.later
     (sym c.in-Some-Compile.ensures ∙ ap (λ t. Some (task_seen t)) c.in-Some-Compile.field-0-is) c.compile_list.ensures.allowed
@@ -50,7 +51,7 @@ returns-in-Some-Compile-clause-hosts g c =
 pub returns-in-Some-Serve-clause-allowed : goal.returns-in-Some-Serve-clause-allowed
 returns-in-Some-Serve-clause-allowed g c =
     run_out g.H.RegexHost.faults (g.F.Source.files c.args.shelf.now) c.args.hosts.now.items c.split_at_mut-checkers.result.0.now c.split_at_mut-checkers.result.1.now c.serve_script.new.finders _
-    c.index-checkers-0.result c.serve_script.new.checker (count (g.F.Source.faults c.args.shelf.now) (g.F.Source.faults c.serve_script.new.shelf)) (count (g.O.Sink.faults c.args.out.now) (g.O.Sink.faults c.serve_script.new.out))
+    c.index-checkers-0.result c.serve_script.new.checker (count (g.F.Source.faults c.args.shelf.now) (g.F.Source.faults c.serve_script.new.shelf)) (count (g.F.Source.starts c.args.shelf.now) (g.F.Source.starts c.serve_script.new.shelf)) (count (g.O.Sink.faults c.args.out.now) (g.O.Sink.faults c.serve_script.new.out))
     (g.F.Source.left c.serve_script.new.shelf) (map string_bytes c.args.words.now) (serve_script c.in-Some-Serve.serving) (g.O.Sink.taken c.args.out.now) (g.O.Sink.taken c.serve_script.new.out) c.serve_script.result
     (sym (ap length c.deref_mut.ensures.value) ∙ c.deref_mut.ensures.len) (sym c.deref_mut.ensures.value ∙ c.split_at_mut-checkers.ensures.value) c.split_at_mut-checkers.ensures.front_len c.serve_script.ensures.later
     (sym c.in-Some-Serve.ensures ∙ ap (λ t. Some (task_seen t)) c.in-Some-Serve.field-0-is) c.serve_script.ensures.allowed
@@ -67,13 +68,14 @@ returns-in-Some-Sample-clause-allowed g c =
     let first = slice_index_or front 0 c.index-checkers-0.result in
     let faults = g.H.RegexHost.faults first ∷ map g.H.RegexHost.faults back in
     let shelf = count (g.F.Source.faults c.args.shelf.now) (g.F.Source.faults c.args.shelf.now) in
+    let started = count (g.F.Source.starts c.args.shelf.now) (g.F.Source.starts c.args.shelf.now) in
     let sink = count (g.O.Sink.faults c.args.out.now) (g.O.Sink.faults c.make_sample.new.out) in
     let left = g.F.Source.left c.args.shelf.now in
-    run_out g.H.RegexHost.faults (g.F.Source.files c.args.shelf.now) c.args.hosts.now.items front back back _ c.index-checkers-0.result first shelf sink
+    run_out g.H.RegexHost.faults (g.F.Source.files c.args.shelf.now) c.args.hosts.now.items front back back _ c.index-checkers-0.result first shelf started sink
     left (map string_bytes c.args.words.now) (make_sample c.in-Some-Sample.sample) (g.O.Sink.taken c.args.out.now) (g.O.Sink.taken c.make_sample.new.out) c.make_sample.result
     (sym (ap length c.deref_mut.ensures.value) ∙ c.deref_mut.ensures.len) (sym c.deref_mut.ensures.value ∙ c.split_at_mut-checkers.ensures.value) c.split_at_mut-checkers.ensures.front_len (none_fell_yet faults)
     (sym c.in-Some-Sample.ensures ∙ ap (λ t. Some (task_seen t)) c.in-Some-Sample.field-0-is)
-    (sample_ends (g.F.Source.files c.args.shelf.now) (outside shelf sink faults faults left) c.in-Some-Sample.sample (g.O.Sink.taken c.args.out.now) (g.O.Sink.taken c.make_sample.new.out) c.make_sample.result c.make_sample.ensures.ends)
+    (sample_ends (g.F.Source.files c.args.shelf.now) (outside shelf started sink faults faults left) c.in-Some-Sample.sample (g.O.Sink.taken c.args.out.now) (g.O.Sink.taken c.make_sample.new.out) c.make_sample.result c.make_sample.ensures.ends)
 
 pub returns-in-Some-Sample-clause-hosts : goal.returns-in-Some-Sample-clause-hosts
 returns-in-Some-Sample-clause-hosts g c =
@@ -92,3 +94,15 @@ returns-in-None-clause-hosts g c =
     c.index-checkers-0.result (slice_index_or c.split_at_mut-checkers.result.0.now 0 c.index-checkers-0.result)
     (sym (ap length c.deref_mut.ensures.value) ∙ c.deref_mut.ensures.len) (sym c.deref_mut.ensures.value ∙ c.split_at_mut-checkers.ensures.value) c.split_at_mut-checkers.ensures.front_len
     (none_fell_yet (g.H.RegexHost.faults (slice_index_or c.split_at_mut-checkers.result.0.now 0 c.index-checkers-0.result) ∷ map g.H.RegexHost.faults c.split_at_mut-checkers.result.1.now))
+
+pub match_requests-requires-names : goal.match_requests-requires-names
+match_requests-requires-names g c = subst (MayAskFor g.F.Shelf.allows (g.F.Source.files c.args.shelf.now)) (sym c.in-Some-Match.ensures ∙ ap (λ t. Some (task_seen t)) c.in-Some-Match.field-0-is) c.requires.names
+
+pub serve_script-requires-names : goal.serve_script-requires-names
+serve_script-requires-names g c = subst (MayAskFor g.F.Shelf.allows (g.F.Source.files c.args.shelf.now)) (sym c.in-Some-Serve.ensures ∙ ap (λ t. Some (task_seen t)) c.in-Some-Serve.field-0-is) c.requires.names
+
+pub check_rules-requires : goal.check_rules-requires
+check_rules-requires g c = subst (MayAskFor g.F.Shelf.allows (g.F.Source.files c.args.shelf.now)) (sym c.in-Some-Check.ensures ∙ ap (λ t. Some (task_seen t)) c.in-Some-Check.field-0-is) c.requires.names
+
+pub compile_list-requires : goal.compile_list-requires
+compile_list-requires g c = subst (MayAskFor g.F.Shelf.allows (g.F.Source.files c.args.shelf.now)) (sym c.in-Some-Compile.ensures ∙ ap (λ t. Some (task_seen t)) c.in-Some-Compile.field-0-is) c.requires.names

@@ -1,11 +1,17 @@
-use Rattle.std.proofs.Common.{List, ap, sym, subst}
+use Rattle.std.proofs.Common.{List, ap, sym, subst, ◌∙◌}
 use Rattle.std.specs.Prelude.{IfSome, IfErr}
 use Rattle.std.proofs.lemmas.Result.{err_from_is_err_and}
 use Rattle.dnr_base.specs.Faults.{Rose}
 use Rattle.load_spec.specs.Manifest.{Resource, Manifest}
+use Rattle.manifest_read.specs.Asked.{MayAskSets}
 use Rattle.manifest_read.specs.Refusals.{Refuses, RefusesSets}
 use Rattle.manifest_read.proofs.Whole.{refused_by_sets}
 use Rattle.manifest_read.proofs.extension.read_extension.Goals as goal
+
+pub read_sets-requires : goal.read_sets-requires
+read_sets-requires g c =
+    let named = c.deref.ensures.value ∙ ap (λ (m : Manifest). m.resources) c.manifest.view_is in
+    subst (λ (rs : List Resource). MayAskSets g.F.Shelf.allows c.args.name.now rs) (sym named) (c.requires.sets c.in_ok-manifest.manifest c.in_ok-manifest.ensures.held)
 
 pub returns-in_err-sets-clause-refused : goal.returns-in_err-sets-clause-refused
 returns-in_err-sets-clause-refused g c =

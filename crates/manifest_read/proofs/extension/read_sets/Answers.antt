@@ -1,7 +1,10 @@
 use Rattle.std.proofs.Common.{sym, subst}
 use Rattle.std.specs.Prelude.{IfSome, IfErr}
+use Rattle.std.proofs.lemmas.List.Elements.{All-get_or}
 use Rattle.std.proofs.lemmas.Result.{err_from_is_err_and}
 use Rattle.dnr_base.specs.Faults.{Rose}
+use Rattle.load_spec.specs.Extensions.{file_in}
+use Rattle.load_spec.specs.Manifest.{Resource}
 use Rattle.manifest_read.specs.Refusals.{RefusesSet, RefusesSets}
 use Rattle.manifest_read.proofs.Sets.{sets_stop, rose_since}
 use Rattle.manifest_read.proofs.extension.read_sets.Goals as goal
@@ -19,3 +22,8 @@ returns-in_err-set-clause-refused g c =
     let stop = sets_stop known (Rose mid now) (Rose old now) c.args.name.now c.args.resources.now l.sets.items l.resource-index c.resource-item.result refusal (rose_since old mid now l.invariant.later) c.loop-resource-test.true c.resource-item.is l.invariant.so_far why in
     subst (λ r. IfErr r (λ e. IfSome known (λ files. RefusesSets files (Rose old now) c.args.name.now c.args.resources.now e))) (sym p.1)
     (subst (λ e. IfSome known (λ files. RefusesSets files (Rose old now) c.args.name.now c.args.resources.now e)) (sym p.2) stop)
+
+pub read_set-requires : goal.read_set-requires
+read_set-requires g c =
+    let May = λ (r : Resource). g.F.Shelf.allows (file_in c.args.name.now r.path) in
+    subst May (sym c.resource-item.is) (All-get_or May c.args.resources.now c.loop-resource.resource-index c.resource-item.result c.loop-resource-test.true c.requires)

@@ -1,13 +1,24 @@
-use Rattle.std.proofs.Common.{◌∙◌, ◌+◌, sym, subst, map, arith, get_or}
+use Rattle.std.proofs.Common.{◌∙◌, ◌+◌, ◌<◌, length, sym, subst, map, arith, get_or}
 use Rattle.std.specs.Prelude.{IfSome, IfErr}
+use Rattle.std.proofs.lemmas.List.{get_or-map, length-map}
 use Rattle.std.proofs.lemmas.Result.{err_from_is_err_and}
 use Rattle.dnr_base.specs.Faults.{Rose}
 use Rattle.dnr_words.specs.Seen.{installed_seen}
+use Rattle.session_load.specs.Asked.{MayAsk}
 use Rattle.session_load.specs.Loads.{StopsInOne, StopsInExtensions}
 use Rattle.session_load.proofs.Read.{AreLoadedSoFar, extensions_go, extensions_stop, get_or_again, no_one}
 use Rattle.session_load.proofs.Stopped.{rose_since}
 use Rattle.session_spec.specs.Loading.{Reads}
+use Rattle.session_spec.specs.Words.{Installed}
 use Rattle.session_load.proofs.serving.load_extensions.Goals as goal
+
+pub load_one-requires : goal.load_one-requires
+load_one-requires g c =
+    let l = c.loop-one in
+    let inside : l.one-index < length (map installed_seen c.args.installed.now) = omega (arith, length-map c.args.installed.now installed_seen, c.loop-one-test.true) in
+    subst (λ k. MayAsk g.F.Shelf.allows k (installed_seen (get_or c.args.installed.now l.one-index no_one))) (sym l.invariant.files)
+    (subst (λ (one : Installed). MayAsk g.F.Shelf.allows (g.F.Source.files c.args.shelf.now) one) (get_or-map installed_seen c.args.installed.now l.one-index no_one (installed_seen no_one) c.loop-one-test.true)
+    (c.requires l.one-index (installed_seen no_one) inside))
 
 pub returns-in_err-extension-clause-stops : goal.returns-in_err-extension-clause-stops
 returns-in_err-extension-clause-stops g c =
@@ -33,6 +44,7 @@ loop-one-preserved g c =
           (extensions_go known c.args.installed.now l.all.items l.one-index (get_or c.args.installed.now l.one-index no_one) c.in_ok-extension.extension c.loop-one-test.true (get_or_again c.args.installed.now l.one-index no_one) l.invariant.so_far
           (subst (λ k. IfSome k (λ files. Reads files (installed_seen (get_or c.args.installed.now l.one-index no_one)) c.in_ok-extension.extension)) l.invariant.files c.in_ok-extension.ensures.reads));
       files = c.in_ok-extension.ensures.files ∙ l.invariant.files;
+      starts = c.in_ok-extension.ensures.starts ∙ l.invariant.starts;
       read = omega (arith, l.invariant.read, c.in_ok-extension.ensures.cause.later);
       later = omega (arith, l.invariant.later, c.in_ok-extension.ensures.later);
     }

@@ -26,6 +26,7 @@ loop-round-init g c = record {
   live = search rules;
   fell = none_fell_yet (g.H.RegexHost.faults c.args.checker.now ∷ map g.H.RegexHost.faults c.args.finders.now);
   told = refl;
+  starts = refl;
   read = omega arith;
   wrote = omega arith;
 }
@@ -62,6 +63,7 @@ loop-round-preserved g c =
       live = search rules;
       fell = none_fell_on (g.H.RegexHost.faults c.args.checker.now ∷ map g.H.RegexHost.faults c.args.finders.now) (g.H.RegexHost.faults c.loop-round.checker ∷ map g.H.RegexHost.faults c.loop-round.finders) (g.H.RegexHost.faults c.serve_line.new.checker ∷ map g.H.RegexHost.faults c.serve_line.new.finders) was.fell one.later;
       told = next.told ∙ was.told;
+      starts = next.starts ∙ was.starts;
       read = omega (arith, was.read, next.cause.later);
       wrote = omega (arith, was.wrote, one.cause.later);
     }

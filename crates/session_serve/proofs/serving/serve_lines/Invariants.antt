@@ -20,6 +20,7 @@ invariant-loop-round g l = record {
   live : IsTrue l.lines.live;
   fell : NoneFell (g.H.RegexHost.faults l.fn.checker ∷ map g.H.RegexHost.faults l.fn.finders) (g.H.RegexHost.faults l.checker ∷ map g.H.RegexHost.faults l.finders);
   told : is_some (g.S.Source.left l.source) ≡ is_some (g.S.Source.left l.fn.source);
+  starts : g.S.Source.starts l.source ≡ g.S.Source.starts l.fn.source;
   read : g.S.Source.faults l.fn.source ≤ g.S.Source.faults l.source;
   wrote : g.O.Sink.faults l.fn.out ≤ g.O.Sink.faults l.out;
 }
