@@ -41,6 +41,7 @@ pub fn cut_lines<S: Source>(
     ensures live { result ≡ Ok true → IsTrue lines.new.live }
     ensures told { is_some (S.left source.new) ≡ is_some (S.left source.old) }
     ensures files { S.files source.new ≡ S.files source.old }
+    ensures starts { S.starts source.new ≡ S.starts source.old }
     ensures cause { HasCauseOf LineRefusal.ReadFault (S.faults source.old) (S.faults source.new) result }
 {
     let mut going = true;

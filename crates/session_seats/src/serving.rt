@@ -60,6 +60,7 @@ pub fn serve_with_seats<
         (serving generation.suffixes (length finders.old)) generation.state script (S.left source.new) result) }
     ensures later { NoneFell (H.faults checker.old ∷ map H.faults finders.old) (H.faults checker.new ∷ map H.faults finders.new) }
     ensures told { is_some (S.left source.new) ≡ is_some (S.left source.old) }
+    ensures starts { S.starts source.new ≡ S.starts source.old }
     ensures read_fault { HasCauseOf ServeStop.ReadFault (S.faults source.old) (S.faults source.new) result }
     ensures write_fault { HasCauseOf ServeStop.WriteFault (O.faults out.old) (O.faults out.new) result }
 {
@@ -105,6 +106,7 @@ fn serve_pair<
         (serving P.opening.suffixes (length finders.old)) P.opening.state script (S.left source.new) result) }
     ensures later { NoneFell (H.faults checker.old ∷ map H.faults finders.old) (H.faults checker.new ∷ map H.faults finders.new) }
     ensures told { is_some (S.left source.new) ≡ is_some (S.left source.old) }
+    ensures starts { S.starts source.new ≡ S.starts source.old }
     ensures read_fault { HasCauseOf ServeStop.ReadFault (S.faults source.old) (S.faults source.new) result }
     ensures write_fault { HasCauseOf ServeStop.WriteFault (O.faults out.old) (O.faults out.new) result }
 {
@@ -153,6 +155,7 @@ fn serve_desks<
         (serving P.opening.suffixes (length finders.old)) P.opening.state script (S.left source.new) result) }
     ensures later { NoneFell (H.faults checker.old ∷ map H.faults finders.old) (H.faults checker.new ∷ map H.faults finders.new) }
     ensures told { is_some (S.left source.new) ≡ is_some (S.left source.old) }
+    ensures starts { S.starts source.new ≡ S.starts source.old }
     ensures read_fault { HasCauseOf ServeStop.ReadFault (S.faults source.old) (S.faults source.new) result }
     ensures write_fault { HasCauseOf ServeStop.WriteFault (O.faults out.old) (O.faults out.new) result }
 {
@@ -209,6 +212,7 @@ fn serve_lines<
         (serving P.opening.suffixes (length finders.old)) P.opening.state script (S.left source.new) result) }
     ensures later { NoneFell (H.faults checker.old ∷ map H.faults finders.old) (H.faults checker.new ∷ map H.faults finders.new) }
     ensures told { is_some (S.left source.new) ≡ is_some (S.left source.old) }
+    ensures starts { S.starts source.new ≡ S.starts source.old }
     ensures read_fault { HasCauseOf ServeStop.ReadFault (S.faults source.old) (S.faults source.new) result }
     ensures write_fault { HasCauseOf ServeStop.WriteFault (O.faults out.old) (O.faults out.new) result }
 {

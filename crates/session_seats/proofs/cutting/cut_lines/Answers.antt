@@ -19,6 +19,7 @@ loop-going-init g c =
       some = λ is. absurd (cc is);
       told = refl;
       files = refl;
+      starts = refl;
       read = omega arith;
     }
 
@@ -77,6 +78,7 @@ loop-going-preserved g c =
       some = λ is. omega (arith, inv.more);
       told = next.told ∙ inv.told;
       files = next.files ∙ inv.files;
+      starts = next.starts ∙ inv.starts;
       read = omega (arith, inv.read, next.cause.later);
     }
 

@@ -16,6 +16,7 @@ invariant-loop-going g l = record {
   some : l.going ≡ false → l.fn.number < l.number;
   told : is_some (g.S.Source.left l.source) ≡ is_some (g.S.Source.left l.fn.source);
   files : g.S.Source.files l.source ≡ g.S.Source.files l.fn.source;
+  starts : g.S.Source.starts l.source ≡ g.S.Source.starts l.fn.source;
   read : g.S.Source.faults l.fn.source ≤ g.S.Source.faults l.source;
 }
 

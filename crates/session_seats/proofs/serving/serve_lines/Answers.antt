@@ -41,6 +41,7 @@ rounds-init g c =
       checker = omega arith;
       fell = none_fell_yet (map g.H.RegexHost.faults c.args.finders.now);
       told = refl;
+      starts = refl;
       read = omega arith;
       wrote = omega arith;
     }
@@ -126,6 +127,7 @@ rounds-preserved g c =
       checker = omega (arith, inv.checker, served.later);
       fell = none_fell_on (map g.H.RegexHost.faults c.args.finders.now) (map g.H.RegexHost.faults at.finders) (map g.H.RegexHost.faults c.serve_cut.new.finders) inv.fell served.fell;
       told = cut.told ∙ inv.told;
+      starts = cut.starts ∙ inv.starts;
       read = omega (arith, inv.read, cut.cause.later);
       wrote = omega (arith, inv.wrote, served.cause.later);
     }

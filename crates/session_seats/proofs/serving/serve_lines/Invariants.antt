@@ -24,6 +24,7 @@ invariant-rounds g l = record {
   checker : g.H.RegexHost.faults l.fn.checker ≤ g.H.RegexHost.faults l.checker;
   fell : NoneFell (map g.H.RegexHost.faults l.fn.finders) (map g.H.RegexHost.faults l.finders);
   told : is_some (g.S.Source.left l.source) ≡ is_some (g.S.Source.left l.fn.source);
+  starts : g.S.Source.starts l.source ≡ g.S.Source.starts l.fn.source;
   read : g.S.Source.faults l.fn.source ≤ g.S.Source.faults l.source;
   wrote : g.O.Sink.faults l.fn.out ≤ g.O.Sink.faults l.out;
 }
