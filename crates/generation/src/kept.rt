@@ -105,6 +105,10 @@ impl<'a> Kept<'a> {
     pub(crate) fn outdoes(&self, live: &Live<'_>) -> bool
         ensures { IsTrue result → (frame : Option ℕ) → spec.with_candidate self.now live.now frame ≡ self.now }
     {
+        if self.best.is_none() {
+            // Most rules of most requests: their action is not looked at.
+            return false;
+        }
         match live.verb() {
             Some(verb) => self.outdoes_deciding(live, verb),
             None => false,
