@@ -48,6 +48,7 @@ pub fn read_extension<F: Shelf, H: RegexHost>(
     ensures apart { IfErr result IsNoMemoryApart }
     ensures later { H.faults host.old ≤ H.faults host.new }
     ensures files { F.Source.files shelf.new ≡ F.Source.files shelf.old }
+    ensures left { F.Source.left shelf.new ≡ F.Source.left shelf.old }
     ensures starts { F.Source.starts shelf.new ≡ F.Source.starts shelf.old }
     ensures cause { HasCauseOf ManifestRefusal.ReadFault (F.Source.faults shelf.old) (F.Source.faults shelf.new) result }
 {
@@ -71,6 +72,7 @@ fn read_manifest<F: Shelf>(
         RefusesManifest files name.now refusal)) }
     ensures apart { IfErr result IsNoMemoryApart }
     ensures files { F.Source.files shelf.new ≡ F.Source.files shelf.old }
+    ensures left { F.Source.left shelf.new ≡ F.Source.left shelf.old }
     ensures starts { F.Source.starts shelf.new ≡ F.Source.starts shelf.old }
     ensures cause { HasCauseOf ManifestRefusal.ReadFault (F.Source.faults shelf.old) (F.Source.faults shelf.new) result }
 {
@@ -132,6 +134,7 @@ fn read_sets<F: Shelf, H: RegexHost>(
     ensures apart { IfErr result IsNoMemoryApart }
     ensures later { H.faults host.old ≤ H.faults host.new }
     ensures files { F.Source.files shelf.new ≡ F.Source.files shelf.old }
+    ensures left { F.Source.left shelf.new ≡ F.Source.left shelf.old }
     ensures starts { F.Source.starts shelf.new ≡ F.Source.starts shelf.old }
     ensures cause { HasCauseOf ManifestRefusal.ReadFault (F.Source.faults shelf.old) (F.Source.faults shelf.new) result }
 {
@@ -159,6 +162,7 @@ fn read_set<F: Shelf, H: RegexHost>(
     ensures apart { IfErr result IsNoMemoryApart }
     ensures later { H.faults host.old ≤ H.faults host.new }
     ensures files { F.Source.files shelf.new ≡ F.Source.files shelf.old }
+    ensures left { F.Source.left shelf.new ≡ F.Source.left shelf.old }
     ensures starts { F.Source.starts shelf.new ≡ F.Source.starts shelf.old }
     ensures cause { HasCauseOf ManifestRefusal.ReadFault (F.Source.faults shelf.old) (F.Source.faults shelf.new) result }
 {

@@ -57,6 +57,7 @@ pub fn load_rules<F: Shelf, H: RegexHost>(
     ensures apart { IfErr result IsNoMemoryApart }
     ensures later { H.faults host.old ≤ H.faults host.new }
     ensures files { F.Source.files shelf.new ≡ F.Source.files shelf.old }
+    ensures left { F.Source.left shelf.new ≡ F.Source.left shelf.old }
     ensures starts { F.Source.starts shelf.new ≡ F.Source.starts shelf.old }
     ensures cause { HasCauseOf LoadRefusal.ReadFault (F.Source.faults shelf.old) (F.Source.faults shelf.new) result }
 {

@@ -32,6 +32,7 @@ pub(crate) fn fetch<F: Shelf>(alloc: Global, name: &str, shelf: &mut F) -> Resul
     ensures short { IfOk result (λ bytes. length bytes.items ≤ max_file) }
     ensures stops { IfErr result (StopsInFile (F.Source.files shelf.old) name.now) }
     ensures files { F.Source.files shelf.new ≡ F.Source.files shelf.old }
+    ensures left { F.Source.left shelf.new ≡ F.Source.left shelf.old }
     ensures starts { F.Source.starts shelf.new ≡ F.Source.starts shelf.old }
     ensures cause { HasCauseOf Stop.ReadFault (F.Source.faults shelf.old) (F.Source.faults shelf.new) result }
 {

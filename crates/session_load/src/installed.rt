@@ -37,6 +37,7 @@ pub(crate) fn load_one<F: Shelf, H: RegexHost>(
     ensures stops { IfErr result (StopsInOne (F.Source.files shelf.old)
         (Rose (H.faults host.old) (H.faults host.new)) (installed_seen installed.now)) }
     ensures files { F.Source.files shelf.new ≡ F.Source.files shelf.old }
+    ensures left { F.Source.left shelf.new ≡ F.Source.left shelf.old }
     ensures starts { F.Source.starts shelf.new ≡ F.Source.starts shelf.old }
     ensures later { H.faults host.old ≤ H.faults host.new }
     ensures cause { HasCauseOf Stop.ReadFault (F.Source.faults shelf.old) (F.Source.faults shelf.new) result }
@@ -58,6 +59,7 @@ fn load_folder<F: Shelf, H: RegexHost>(
     ensures stops { IfErr result (StopsInOne (F.Source.files shelf.old)
         (Rose (H.faults host.old) (H.faults host.new)) (folder name.now)) }
     ensures files { F.Source.files shelf.new ≡ F.Source.files shelf.old }
+    ensures left { F.Source.left shelf.new ≡ F.Source.left shelf.old }
     ensures starts { F.Source.starts shelf.new ≡ F.Source.starts shelf.old }
     ensures later { H.faults host.old ≤ H.faults host.new }
     ensures cause { HasCauseOf Stop.ReadFault (F.Source.faults shelf.old) (F.Source.faults shelf.new) result }
@@ -133,6 +135,7 @@ fn load_as_list<F: Shelf, H: RegexHost>(
     ensures stops { IfErr result (StopsInOne (F.Source.files shelf.old)
         (Rose (H.faults host.old) (H.faults host.new)) (list name.now file.now)) }
     ensures files { F.Source.files shelf.new ≡ F.Source.files shelf.old }
+    ensures left { F.Source.left shelf.new ≡ F.Source.left shelf.old }
     ensures starts { F.Source.starts shelf.new ≡ F.Source.starts shelf.old }
     ensures later { H.faults host.old ≤ H.faults host.new }
     ensures cause { HasCauseOf Stop.ReadFault (F.Source.faults shelf.old) (F.Source.faults shelf.new) result }

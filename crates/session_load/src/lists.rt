@@ -47,6 +47,7 @@ pub fn load_list<F: Shelf, H: RegexHost>(
     ensures stops { IfErr result (StopsInList (F.Source.files shelf.old)
         (Rose (H.faults host.old) (H.faults host.new)) name.now) }
     ensures files { F.Source.files shelf.new ≡ F.Source.files shelf.old }
+    ensures left { F.Source.left shelf.new ≡ F.Source.left shelf.old }
     ensures starts { F.Source.starts shelf.new ≡ F.Source.starts shelf.old }
     ensures later { H.faults host.old ≤ H.faults host.new }
     ensures cause { HasCauseOf Stop.ReadFault (F.Source.faults shelf.old) (F.Source.faults shelf.new) result }

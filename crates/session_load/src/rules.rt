@@ -42,6 +42,7 @@ pub fn load_rules<F: Shelf, H: RegexHost>(
     ensures stops { IfErr result (StopsInRules (F.Source.files shelf.old)
         (Rose (H.faults host.old) (H.faults host.new)) kind name.now) }
     ensures files { F.Source.files shelf.new ≡ F.Source.files shelf.old }
+    ensures left { F.Source.left shelf.new ≡ F.Source.left shelf.old }
     ensures starts { F.Source.starts shelf.new ≡ F.Source.starts shelf.old }
     ensures later { H.faults host.old ≤ H.faults host.new }
     ensures cause { HasCauseOf Stop.ReadFault (F.Source.faults shelf.old) (F.Source.faults shelf.new) result }
@@ -69,6 +70,7 @@ pub fn load_local<F: Shelf, H: RegexHost>(
     ensures stops { IfErr result (StopsInRules (F.Source.files shelf.old)
         (Rose (H.faults host.old) (H.faults host.new)) Static name.now) }
     ensures files { F.Source.files shelf.new ≡ F.Source.files shelf.old }
+    ensures left { F.Source.left shelf.new ≡ F.Source.left shelf.old }
     ensures starts { F.Source.starts shelf.new ≡ F.Source.starts shelf.old }
     ensures later { H.faults host.old ≤ H.faults host.new }
     ensures cause { HasCauseOf Stop.ReadFault (F.Source.faults shelf.old) (F.Source.faults shelf.new) result }

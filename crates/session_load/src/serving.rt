@@ -38,6 +38,7 @@ pub fn load_serving<F: Shelf, H: RegexHost>(
     ensures stops { IfErr result (StopsInServing (F.Source.files shelf.old)
         (Rose (H.faults host.old) (H.faults host.new)) serving.now) }
     ensures files { F.Source.files shelf.new ≡ F.Source.files shelf.old }
+    ensures left { F.Source.left shelf.new ≡ F.Source.left shelf.old }
     ensures starts { F.Source.starts shelf.new ≡ F.Source.starts shelf.old }
     ensures later { H.faults host.old ≤ H.faults host.new }
     ensures cause { HasCauseOf Stop.ReadFault (F.Source.faults shelf.old) (F.Source.faults shelf.new) result }
@@ -64,6 +65,7 @@ fn load_extensions<F: Shelf, H: RegexHost>(
     ensures stops { IfErr result (StopsInExtensions (F.Source.files shelf.old)
         (Rose (H.faults host.old) (H.faults host.new)) (map installed_seen installed.now)) }
     ensures files { F.Source.files shelf.new ≡ F.Source.files shelf.old }
+    ensures left { F.Source.left shelf.new ≡ F.Source.left shelf.old }
     ensures starts { F.Source.starts shelf.new ≡ F.Source.starts shelf.old }
     ensures later { H.faults host.old ≤ H.faults host.new }
     ensures cause { HasCauseOf Stop.ReadFault (F.Source.faults shelf.old) (F.Source.faults shelf.new) result }

@@ -27,6 +27,7 @@ pub(crate) fn load_suffixes<F: Shelf>(
     ensures suffixes { IfOk result (TellsSuffixes (F.Source.files shelf.old) (option_copied name.entry)) }
     ensures stops { IfErr result (StopsInSuffixes (F.Source.files shelf.old) (option_copied name.entry)) }
     ensures files { F.Source.files shelf.new ≡ F.Source.files shelf.old }
+    ensures left { F.Source.left shelf.new ≡ F.Source.left shelf.old }
     ensures starts { F.Source.starts shelf.new ≡ F.Source.starts shelf.old }
     ensures cause { HasCauseOf Stop.ReadFault (F.Source.faults shelf.old) (F.Source.faults shelf.new) result }
 {
@@ -44,6 +45,7 @@ fn load_file<F: Shelf>(alloc: Global, name: &str, shelf: &mut F) -> Result<Suffi
     ensures suffixes { IfOk result (TellsSuffixFile (F.Source.files shelf.old) name.now) }
     ensures stops { IfErr result (StopsInSuffixFile (F.Source.files shelf.old) name.now) }
     ensures files { F.Source.files shelf.new ≡ F.Source.files shelf.old }
+    ensures left { F.Source.left shelf.new ≡ F.Source.left shelf.old }
     ensures starts { F.Source.starts shelf.new ≡ F.Source.starts shelf.old }
     ensures cause { HasCauseOf Stop.ReadFault (F.Source.faults shelf.old) (F.Source.faults shelf.new) result }
 {

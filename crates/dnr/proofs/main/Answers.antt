@@ -1,6 +1,10 @@
 use denote.Param.Send.{sendable}
+use Rattle.dnr_top.proofs.Asked.{all_may_be_asked}
 use Rattle.sent_hosts.proofs.Hosts.{PackHost-send}
 use Rattle.dnr.proofs.main.Goals as goal
 
 pub run-status-requires-send-H : goal.run-status-requires-send-H
 run-status-requires-send-H g c κs = search (PackHost-send, sendable)
+
+pub run-status-requires-clause-names : goal.run-status-requires-clause-names
+run-status-requires-clause-names g c κs within = all_may_be_asked _ _ _ (λ name. tt)

@@ -44,6 +44,7 @@ loop-one-preserved g c =
           (extensions_go known c.args.installed.now l.all.items l.one-index (get_or c.args.installed.now l.one-index no_one) c.in_ok-extension.extension c.loop-one-test.true (get_or_again c.args.installed.now l.one-index no_one) l.invariant.so_far
           (subst (λ k. IfSome k (λ files. Reads files (installed_seen (get_or c.args.installed.now l.one-index no_one)) c.in_ok-extension.extension)) l.invariant.files c.in_ok-extension.ensures.reads));
       files = c.in_ok-extension.ensures.files ∙ l.invariant.files;
+      left = c.in_ok-extension.ensures.left ∙ l.invariant.left;
       starts = c.in_ok-extension.ensures.starts ∙ l.invariant.starts;
       read = omega (arith, l.invariant.read, c.in_ok-extension.ensures.cause.later);
       later = omega (arith, l.invariant.later, c.in_ok-extension.ensures.later);
