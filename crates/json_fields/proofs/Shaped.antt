@@ -1,11 +1,12 @@
 -- What is kept of items and members, and of one more.
-use Rattle.std.proofs.Common.{Bool, ◌≡◌, ℕ, zero, suc, ◌-◌, ◌<◌, ◌≤◌, List, [], ◌∷◌, ◌++◌, length, true, false, Option, Some, None, is_some, option_and_then, Result, Ok, Err, refl, sym, ap, ◌∙◌, subst, ⊎_elim, arith}
+use Rattle.std.proofs.Common.{Bool, ◌≡◌, ℕ, zero, suc, ◌+◌, ◌-◌, ◌<◌, ◌≤◌, List, [], ◌∷◌, ◌++◌, length, true, false, Option, Some, None, is_some, option_and_then, Result, Ok, Err, refl, sym, ap, ◌∙◌, subst, ⊎_elim, arith}
 use Rattle.std.specs.Prelude.{IfOk, OnOk}
+use Rattle.std.proofs.lemmas.Bool.Decides.{nat_tests}
 use Rattle.json.specs.Token.{Token}
 use Rattle.json.specs.Json as json
 use Rattle.json.specs.Json.{Parse, parse_map, after_end_array, items_step, items, value}
 use Rattle.json.proofs.Grammar.{left, items_fail, skip_value-shorter, value_is}
-use Rattle.serde_json.specs.Data.{Data, string, array, object, Items, no_items, item, Members, no_members, put}
+use Rattle.serde_json.specs.Data.{Data, null, string, array, object, Items, no_items, item, Members, no_members, put}
 use Rattle.serde_json.specs.Read.{of_items, converted}
 use Rattle.serde_json.specs.View.{view, items_view}
 use Rattle.serde_json.specs.declared.value.Value.{Value}
@@ -14,7 +15,7 @@ use Rattle.serde_json.proofs.Views.{get_member-put, get_member-put_other}
 use Rattle.json_fields.specs.declared.shape.Wanted.{Wanted}
 use Rattle.json_fields.specs.declared.tree.Fault.{Fault}
 use Rattle.json_fields.specs.Last.{value_at, members_in}
-use Rattle.json_fields.specs.Shapes.{Kept, EndsIf, KeptItems, KeptList, KeptAt, KeptMembers, KeptObject, KeepsMember, kept_text}
+use Rattle.json_fields.specs.Shapes.{Kept, EndsIf, KeptItems, KeptEach, item_count, has_few, KeptFew, KeptList, KeptAt, KeptMembers, KeptObject, KeepsMember, kept_text}
 use Rattle.json_fields.proofs.Keeping.{same_or_other}
 
 pub then_ok : {A E : Type 0} (r : Result A E) (P Q : Type 0) → OnOk r P → (P → Q) → OnOk r Q
@@ -128,6 +129,53 @@ module _ (keeps : Data → Data → Type 0) where
   up_to (x ∷ ds) [] d v rest h k e = absurd h
   up_to (x ∷ ds) (w ∷ vs) d v rest h k e =
       (h.0, goes_on (is_some (as_null (view w))) (items_view (vs ++ v ∷ [])) (KeptItems keeps (data_before (ds ++ d ∷ []) rest) (items_view (vs ++ v ∷ []))) h.1 (up_to ds vs d v rest h.2 k e))
+
+-- ---- a list of few items
+
+counted : (ds : List Data) (rest : Items) → item_count (data_before ds rest) ≡ length ds + item_count rest
+counted [] rest = grind arith
+counted (d ∷ ds) rest = let behind = counted ds rest in grind (arith, behind)
+
+module _ (keeps : Data → Data → Type 0) where
+  -- each is kept
+  abbrev pub EachIs : List Data → List Value → Type 0
+  EachIs [] [] = Unit {0}
+  EachIs [] (v ∷ vs) = ⊥
+  EachIs (d ∷ ds) [] = ⊥
+  EachIs (d ∷ ds) (v ∷ vs) = keeps d (view v) × EachIs ds vs
+
+  pub each_more : (ds : List Data) (vs : List Value) (d : Data) (v : Value) → EachIs ds vs → keeps d (view v) → EachIs (ds ++ d ∷ []) (vs ++ v ∷ [])
+  each_more [] [] d v h k = (k, tt)
+  each_more [] (w ∷ vs) d v h k = absurd h
+  each_more (x ∷ ds) [] d v h k = absurd h
+  each_more (x ∷ ds) (w ∷ vs) d v h k = (h.0, each_more ds vs d v h.1 k)
+
+  each_are : (ds : List Data) (vs : List Value) → EachIs ds vs → KeptEach keeps (data_before ds no_items) (items_view vs)
+  each_are [] [] h = tt
+  each_are [] (v ∷ vs) h = absurd h
+  each_are (d ∷ ds) [] h = absurd h
+  each_are (d ∷ ds) (v ∷ vs) h = (h.0, each_are ds vs h.1)
+
+  as_many : (ds : List Data) (vs : List Value) → EachIs ds vs → length ds ≡ length vs
+  as_many [] [] h = refl
+  as_many [] (v ∷ vs) h = absurd h
+  as_many (d ∷ ds) [] h = absurd h
+  as_many (d ∷ ds) (v ∷ vs) h = let behind = as_many ds vs h.1 in grind (arith, behind)
+
+  pub few_are : (most : ℕ) (ds : List Data) (vs : List Value) → EachIs ds vs → length vs ≤ most → KeptFew keeps (has_few most (data_before ds no_items)) (data_before ds no_items) (array (items_view vs))
+  few_are most ds vs h few =
+      let count = counted ds no_items in
+      let same = as_many ds vs h in
+      let is : has_few most (data_before ds no_items) ≡ true = grind (arith, nat_tests, count, same, few) in
+      subst (λ b. KeptFew keeps b (data_before ds no_items) (array (items_view vs))) (sym is) (items_view vs, refl, each_are ds vs h)
+
+  pub more_are : (most : ℕ) (ds : List Data) (vs : List Value) (d : Data) (rest : Items) → EachIs ds vs → length vs ≡ most → KeptFew keeps (has_few most (data_before (ds ++ d ∷ []) rest)) (data_before (ds ++ d ∷ []) rest) null
+  more_are most ds vs d rest h full =
+      let count = ap item_count (data_push ds d rest) in
+      let counts = counted ds (item d rest) in
+      let same = as_many ds vs h in
+      let is : has_few most (data_before (ds ++ d ∷ []) rest) ≡ false = grind (arith, nat_tests, count, counts, same, full) in
+      subst (λ b. KeptFew keeps b (data_before (ds ++ d ∷ []) rest) null) (sym is) refl
 
 -- ---- a value
 

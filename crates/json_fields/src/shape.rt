@@ -6,7 +6,7 @@ ghost use Rattle.serde_json.specs.Read.{of_items, of_members, converted};
 ghost use Rattle.serde_json.specs.View.{view, items_view, members_view, number_view};
 ghost use Rattle.json_fields.specs.declared.shape.Wanted.{Wanted as SpecWanted};
 ghost use Rattle.json_fields.specs.Last.{value_at};
-ghost use Rattle.json_fields.specs.Shapes.{Kept, KeptItems, KeptList, KeptMembers, KeptObject, KeepsMember, kept_number, kept_text, kept_truth, kept_if};
+ghost use Rattle.json_fields.specs.Shapes.{Kept, KeptItems, KeptList, KeptMembers, KeptObject, KeepsMember, KeptFew, has_few, stand_in, kept_number, kept_text, kept_truth, kept_if};
 
 use crate::number::read_number;
 use crate::passed::{pass_items, pass_members, pass_value};
@@ -15,19 +15,23 @@ use json::{Reader, Token};
 use serde_json::{Map, Number, Value};
 use std::alloc::Global;
 
-/// Which values are kept. Null stands in the place of any other.
+/// Which values are kept. Null stands in the place of any other, but for texts beside which null says something.
 #[derive(Clone, Copy, Debug, PartialEq, Eq, Drop)]
 pub enum Wanted {
     /// None: what counts is that one is there.
     Nothing,
     /// Texts.
     Text,
+    /// Texts, and null. The value false stands in the place of any other.
+    TextOrNull,
     /// Truth values.
     Truth,
     /// Numbers.
     Number,
     /// Lists, up to the first item that is not kept.
     List,
+    /// Lists of at most so many items, with each of them or what stands in its place.
+    Few(usize),
     /// Objects, with their members at some keys, where the form accepts these.
     Object,
 }
@@ -64,7 +68,7 @@ pub trait Shape: Copy {
 }
 
 /// The next value of the tokens, with arrays and objects nested no deeper than `depth`. What has another form is
-/// passed over without memory, and null is kept in its place.
+/// passed over without memory, and what stands in its place is kept.
 ///
 /// # Errors
 ///
@@ -111,8 +115,18 @@ fn text_kept(alloc: Global, text: &str, wanted: Wanted) -> Result<Value, Fault>
     ensures bad { result ≡ Err Fault.BadJson → ⊥ }
 {
     match wanted {
-        Wanted::Text => Ok(Value::String(String::from_str(alloc, text)?)),
-        _ => Ok(Value::Null),
+        Wanted::Text | Wanted::TextOrNull => Ok(Value::String(String::from_str(alloc, text)?)),
+        other => Ok(stand_in(other)),
+    }
+}
+
+// What stands in the place of a value that is not kept.
+fn stand_in(wanted: Wanted) -> Value
+    ensures { view result ≡ stand_in wanted }
+{
+    match wanted {
+        Wanted::TextOrNull => Value::Bool(false),
+        _ => Value::Null,
     }
 }
 
@@ -121,7 +135,7 @@ fn number_kept(number: Number, wanted: Wanted) -> Value
 {
     match wanted {
         Wanted::Number => Value::Number(number),
-        _ => Value::Null,
+        other => stand_in(other),
     }
 }
 
@@ -130,7 +144,7 @@ fn truth_kept(truth: bool, wanted: Wanted) -> Value
 {
     match wanted {
         Wanted::Truth => Value::Bool(truth),
-        _ => Value::Null,
+        other => stand_in(other),
     }
 }
 
@@ -151,9 +165,10 @@ fn list_kept<S: Shape>(
             let found = items_kept(alloc, reader, depth, shape.of_items())?;
             Ok(Value::Array(found))
         }
-        _ => {
+        Wanted::Few(most) => few_kept(alloc, reader, depth, most, shape.of_items()),
+        other => {
             pass_items(reader, depth)?;
-            Ok(Value::Null)
+            Ok(stand_in(other))
         }
     }
 }
@@ -182,6 +197,32 @@ fn items_kept<S: Shape>(
     Ok(found)
 }
 
+// The list whose bracket was read, if it has at most so many items.
+#[cycle(shape)]
+fn few_kept<S: Shape>(
+    alloc: Global,
+    reader: &mut Reader<'_>,
+    depth: usize,
+    most: usize,
+    shape: S,
+) -> Result<Value, Fault>
+    ensures ok { IfOk result (λ kept. (ds : Items) × (converted of_items (items (value depth) (length reader.old) reader.old) ≡ Some (ds, reader.new)) × KeptFew (Kept S.wants S.item_shape S.member_shape S.accepts depth shape) (has_few most ds) ds (view kept)) }
+    ensures shorter { OnOk result (length reader.new < length reader.old) }
+    ensures bad { result ≡ Err Fault.BadJson → converted of_items (items (value depth) (length reader.old) reader.old) ≡ None }
+{
+    let mut found = Vec::new(alloc);
+    'items: while !reader.take_end_array() {
+        if found.len() == most {
+            pass_value(reader, depth)?;
+            pass_items(reader, depth)?;
+            return Ok(Value::Null);
+        }
+        let item = next_shaped(alloc, reader, depth, shape)?;
+        found.push(item)?;
+    }
+    Ok(Value::Array(found))
+}
+
 // The object whose brace was read.
 #[cycle(shape)]
 fn object_kept<S: Shape>(
@@ -199,9 +240,9 @@ fn object_kept<S: Shape>(
             let found = members_kept(alloc, reader, depth, shape)?;
             Ok(if_accepted(Value::Object(found), shape))
         }
-        _ => {
+        other => {
             pass_members(reader, depth)?;
-            Ok(Value::Null)
+            Ok(stand_in(other))
         }
     }
 }

@@ -4,6 +4,7 @@ pub mod Stops
 pub mod FramesRead
 pub mod Pairs
 pub mod Same
+pub mod PartsRead
 pub mod Chains
 pub mod RulesRead
 pub mod Asking

@@ -18,10 +18,12 @@ use Rattle.dnr_base.specs.declared.frame.Frame.{Frame}
 use Rattle.dnr_base.specs.declared.header.Header.{Header}
 use Rattle.dnr_base.specs.Request.{is_short_name, IsHeaderList}
 use Rattle.dnr_spec.specs.Headers.{is_name}
+use Rattle.line_spec.specs.declared.command_path.CommandPath.TheVariants as path
 use Rattle.line_spec.specs.declared.line_fault.LineFault.{LineFault}
+use Rattle.line_spec.specs.declared.line_fault.LineFault.TheVariants.{BadCommand}
 use Rattle.json_spec.specs.RuleFields.{each}
 use Rattle.line_spec.specs.Reading.{and_then}
-use Rattle.line_spec.specs.RequestLine.{count_of, each_frame, frame_in, as_header, header_from, header_of, is_one_value}
+use Rattle.line_spec.specs.RequestLine.{count_of, each_frame, frames_from, frames_given, frame_in, as_header, header_from, header_of, is_one_value}
 use Rattle.script_read.proofs.Names.{is_name_by_bytes}
 
 -- ---- counts
@@ -144,3 +146,12 @@ pub frames_few : (values : List Value) (result : Result (List Frame) LineFault) 
 frames_few values (Ok frames) few h =
     let count = frames_counted (items_view values) frames h ∙ count_is values in grind (arith, count, few)
 frames_few values (Err fault) few h = h
+
+-- a list of few items is read by them
+pub frames_are : (values items : List Value) (d : Data) → items ≡ values → Some (items_view values) ≡ as_array d → length values ≤ 64 → each_frame (items_view items) ≡ frames_given (Some d)
+frames_are values items d same is few =
+    let count = count_is values in
+    let small : nat_le (count_of (items_view values)) 64 ≡ true = grind (arith, nat_tests, count, few) in
+    ap (λ vs. each_frame (items_view vs)) same
+    ∙ sym (cond-true (nat_le (count_of (items_view values)) 64) (each_frame (items_view values)) (Err (BadCommand path.Frames)) small)
+    ∙ ap frames_from is

@@ -1,5 +1,5 @@
 -- The command by a line's fields is that of its tree.
-use Rattle.std.proofs.Common.{◌≡◌, ℕ, ◌<◌, List, [], ◌∷◌, Bool, length, map, get_or, true, false, Option, Some, None, Result, Err, option_map, refl, sym, ap, ◌∙◌, arith}
+use Rattle.std.proofs.Common.{◌≡◌, ℕ, ◌<◌, List, [], ◌∷◌, Bool, length, map, get_or, false, Option, Some, None, Result, Err, option_map, refl, sym, ap, ◌∙◌, arith}
 use Rattle.serde_json.specs.Data.{Data, null, boolean, number, string, array, object}
 use Rattle.serde_json.specs.Find.{get, as_object}
 use Rattle.line_spec.specs.declared.command_path.CommandPath.{CommandPath}
@@ -14,7 +14,7 @@ use Rattle.line_spec.specs.declared.command_name.CommandName.{CommandName}
 use Rattle.line_spec.specs.declared.command_name.CommandName.TheVariants as name
 use Rattle.line_spec.specs.CommandName.{name_from, name_in}
 use Rattle.line_spec.specs.CommandPath.{path_name}
-use Rattle.line_spec.specs.RequestLine.{field_at, initiator_from, frames_given, headers_given, request_in}
+use Rattle.line_spec.specs.RequestLine.{field_at, initiator_from, request_in}
 use Rattle.json_fields.specs.declared.fields.Form.TheVariants.{Object}
 use Rattle.json_fields.specs.declared.field.Field.{Field}
 use Rattle.json_fields.specs.Held.{seen}
@@ -23,15 +23,6 @@ use Rattle.json_fields.proofs.Asked.{value_is}
 use Rattle.script_read.specs.Fields.{line_keys, value_at, place_of, url_from, kind_from, method_from, tab_from, request_from, name_at, command_at, command_from}
 
 -- ---- a value of which its brackets alone are seen
-
-all_seen : (found : Option Data) → option_map (seen true) found ≡ found
-all_seen None = refl
-all_seen (Some null) = refl
-all_seen (Some (boolean b)) = refl
-all_seen (Some (number n)) = refl
-all_seen (Some (string s)) = refl
-all_seen (Some (array ds)) = refl
-all_seen (Some (object ms)) = refl
 
 url_seen : (d : Data) (found : Option Data) → field_at path.Url d ≡ found → url_from (option_map (seen false) found) ≡ request.url_in d
 unfolding url_from request.url_in
@@ -95,13 +86,10 @@ cmd_seen (Some (object ms)) = refl
 -- ---- the whole line
 
 module _ (n : ℕ) (fields : List Field) (e : Field) (d : Data) (gives : Gives Object fields d) (keys : map key_of fields ≡ line_keys) (all : length fields ≡ 9) where
-  nested : (p : CommandPath) → place_of p < 9 → (get_or line_keys (place_of p) (key_of e)) ≡ (path_name p, true) → value_at fields p ≡ field_at p d
-  nested p within key = value_is fields line_keys (place_of p) e d gives keys (omega (arith, all)) ∙ ap (λ k. option_map (seen k.1) (get k.0 d)) key ∙ all_seen (field_at p d)
-
-  plain : (p : CommandPath) → place_of p < 9 → (get_or line_keys (place_of p) (key_of e)) ≡ (path_name p, false) → value_at fields p ≡ option_map (seen false) (field_at p d)
+  pub plain : (p : CommandPath) → place_of p < 9 → (get_or line_keys (place_of p) (key_of e)) ≡ (path_name p, false) → value_at fields p ≡ option_map (seen false) (field_at p d)
   plain p within key = value_is fields line_keys (place_of p) e d gives keys (omega (arith, all)) ∙ ap (λ k. option_map (seen k.1) (get k.0 d)) key
 
-  request_same : request_from n fields ≡ request_in n d
+  request_same : request_from n fields (Some d) ≡ request_in n d
   unfolding request_from request_in request.frames_in request.headers_in
   request_same =
       let url = ap url_from (plain path.Url (omega arith) refl) ∙ url_seen d _ refl in
@@ -109,15 +97,12 @@ module _ (n : ℕ) (fields : List Field) (e : Field) (d : Data) (gives : Gives O
       let initiator = ap (initiator_from path.Initiator) (plain path.Initiator (omega arith) refl) ∙ initiator_seen d _ refl in
       let method = ap (method_from path.Method) (plain path.Method (omega arith) refl) ∙ method_seen d _ refl in
       let tab = ap tab_from (plain path.Tab (omega arith) refl) ∙ tab_seen d _ refl in
-      let frames = ap frames_given (nested path.Frames (omega arith) refl) in
-      let sent = ap (headers_given path.RequestHeaders) (nested path.RequestHeaders (omega arith) refl) in
-      let received = ap (headers_given path.ResponseHeaders) (nested path.ResponseHeaders (omega arith) refl) in
-      rw (url, kind, initiator, method, tab, frames, sent, received)
+      rw (url, kind, initiator, method, tab)
 
   same_name : name_at fields ≡ name_in d
   same_name = ap name_from (plain path.Cmd (omega arith) refl) ∙ cmd_seen (field_at path.Cmd d)
 
-  at_name : (found : Option CommandName) (c : Result Command LineFault) → command_at n fields found ≡ Some c → line.command_named n d found ≡ c
+  at_name : (found : Option CommandName) (c : Result Command LineFault) → command_at n fields (Some d) found ≡ Some c → line.command_named n d found ≡ c
   at_name None c h = cc
   at_name (Some name.Request) c h = let same = request_same in cc
   at_name (Some name.Explain) c h = let same = request_same in cc
@@ -125,12 +110,12 @@ module _ (n : ℕ) (fields : List Field) (e : Field) (d : Data) (gives : Gives O
   at_name (Some (name.Update which)) c h = cc
   at_name (Some name.Batch) c h = cc
 
-  pub command_same : (c : Result Command LineFault) → command_from n fields ≡ Some c → command_in n d ≡ c
+  pub command_same : (c : Result Command LineFault) → command_from n fields (Some d) ≡ Some c → command_in n d ≡ c
   unfolding command_in
   command_same c h =
-      ap (line.command_of_members n d) (ap as_object gives.1) ∙ at_name (name_in d) c (ap (command_at n fields) (sym same_name) ∙ h)
+      ap (line.command_of_members n d) (ap as_object gives.1) ∙ at_name (name_in d) c (ap (command_at n fields (Some d)) (sym same_name) ∙ h)
 
-pub command_is : (n : ℕ) (fields : List Field) (d : Data) (c : Result Command LineFault) → Gives Object fields d → map key_of fields ≡ line_keys → command_from n fields ≡ Some c → command_in n d ≡ c
+pub command_is : (n : ℕ) (fields : List Field) (d : Data) (c : Result Command LineFault) → Gives Object fields d → map key_of fields ≡ line_keys → command_from n fields (Some d) ≡ Some c → command_in n d ≡ c
 command_is n [] d c gives keys h = absurd (cc)
 command_is n (e ∷ rest) d c gives keys h =
     let all : length (e ∷ rest) ≡ 9 = sym (length-map (e ∷ rest) key_of) ∙ ap (length {A = List ℕ × Bool}) keys in

@@ -28,11 +28,11 @@ IsAsked number tree (asked.Command command) = (command_of_tree number tree ≡ O
 IsAsked number tree (asked.Update which) = Asks tree (name.Update which)
 IsAsked number tree asked.Batch = Asks tree name.Batch
 
--- the fields say that
-abbrev pub Reads : ℕ → List Field → Asked → Type 0
-Reads number fields (asked.Command command) = (command_from number fields ≡ Some (Ok (command_seen command))) × IsWithinLimits (command_seen command)
-Reads number fields (asked.Update which) = name_at fields ≡ Some (name.Update which)
-Reads number fields asked.Batch = name_at fields ≡ Some name.Batch
+-- the fields say that, with the frames and the headers of this tree
+abbrev pub Reads : ℕ → List Field → Option Data → Asked → Type 0
+Reads number fields tree (asked.Command command) = (command_from number fields tree ≡ Some (Ok (command_seen command))) × IsWithinLimits (command_seen command)
+Reads number fields tree (asked.Update which) = name_at fields ≡ Some (name.Update which)
+Reads number fields tree asked.Batch = name_at fields ≡ Some name.Batch
 
 -- ---- the line
 

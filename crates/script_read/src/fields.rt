@@ -17,10 +17,10 @@ use std::alloc::Global;
 use url_view::parse;
 
 macro_rules! field {
-    ($name:literal, $keeps:literal) => {
+    ($name:literal) => {
         Field {
             name: $name,
-            keeps: $keeps,
+            keeps: false,
             held: None,
         }
     };
@@ -33,15 +33,15 @@ pub(crate) fn line_fields<'a>() -> [Field<'static, 'a>; 9]
     ensures empty { All IsEmpty result }
 {
     [
-        field!("cmd", false),
-        field!("url", false),
-        field!("type", false),
-        field!("initiator", false),
-        field!("method", false),
-        field!("tab", false),
-        field!("frames", true),
-        field!("requestHeaders", true),
-        field!("responseHeaders", true),
+        field!("cmd"),
+        field!("url"),
+        field!("type"),
+        field!("initiator"),
+        field!("method"),
+        field!("tab"),
+        field!("frames"),
+        field!("requestHeaders"),
+        field!("responseHeaders"),
     ]
 }
 

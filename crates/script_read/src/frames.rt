@@ -2,13 +2,11 @@
 ghost use Rattle.std.specs.Prelude.{◌≡◌, ◌≤◌, length, Ok, IfOk, IfErr, option_map};
 ghost use Rattle.serde_json.specs.View.{view, items_view};
 ghost use Rattle.dnr_base.specs.Request.{max_frames};
-ghost use Rattle.json_fields.specs.Fields.{value_in};
 ghost use Rattle.line_spec.specs.IsFault.{IsFaultOf};
 ghost use Rattle.line_spec.specs.RequestLine as spec;
 
 use crate::fields::{asking_host, view_at};
 use dnr_base::{Frame, Items, Method, Text, View};
-use json_fields::Field;
 use json_spec::as_method;
 use line_spec::{CommandPath, LineFault};
 use serde_json::Value;
@@ -19,16 +17,16 @@ const MAX_FRAMES: usize = 64;
 
 // The frames in which the request is asked for.
 #[tactic(auto, using(crate::proofs::Limits::count_is))]
-pub(crate) fn frames_in(alloc: Global, frames: &Field<'_, '_>) -> Result<Items<Frame>, LineFault>
-    ensures read { IfOk result (λ read. spec.frames_given (value_in frames.now) ≡ Ok read) }
+pub(crate) fn frames_in(alloc: Global, frames: Option<&Value>) -> Result<Items<Frame>, LineFault>
+    ensures read { IfOk result (λ read. spec.frames_given (option_map (λ v. view v.now) frames.entry) ≡ Ok read) }
     ensures few { IfOk result (λ read. length read ≤ max_frames) }
-    ensures refused { IfErr result (IsFaultOf (spec.frames_given (value_in frames.now))) }
+    ensures refused { IfErr result (IsFaultOf (spec.frames_given (option_map (λ v. view v.now) frames.entry))) }
 {
-    let Some(_) = &frames.held else {
+    let Some(list) = frames else {
         return Ok(Items::build(Vec::new(alloc)));
     };
-    match frames.list() {
-        Some(values) if values.len() <= MAX_FRAMES => each_frame(alloc, values),
+    match list.as_array() {
+        Some(values) if values.len() <= MAX_FRAMES => each_frame(alloc, values.as_slice()),
         _ => Err(LineFault::BadCommand(CommandPath::Frames)),
     }
 }

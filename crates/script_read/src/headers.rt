@@ -1,19 +1,17 @@
 // The headers of a request.
-ghost use Rattle.std.specs.Prelude.{◌≡◌, not, Ok, IfOk, IfErr, IfSome, option_map, option_and_then};
+ghost use Rattle.std.specs.Prelude.{◌≡◌, not, Ok, IfOk, IfErr, IfSome, option_map};
 ghost use Rattle.std.specs.List.{list_all, list_any};
 ghost use Rattle.std.specs.Option.{option_copied};
 ghost use Rattle.http_header.specs.Token.{is_token_byte};
 ghost use Rattle.serde_json.specs.View.{view, items_view};
 ghost use Rattle.dnr_base.specs.Request.{IsHeaderList};
 ghost use Rattle.dnr_spec.specs.Headers as words;
-ghost use Rattle.json_fields.specs.Fields.{value_in};
 ghost use Rattle.line_spec.specs.IsFault.{IsFaultOf};
 ghost use Rattle.line_spec.specs.RequestLine as spec;
 ghost use Rattle.json_spec.specs.RuleFields.{each};
 
 use dnr_base::{Header, Items, NoMemory, Text};
 use http_header::is_token_char;
-use json_fields::Field;
 use line_spec::{CommandPath, LineFault};
 use serde_json::Value;
 use std::alloc::Global;
@@ -24,33 +22,34 @@ const MAX_HEADERS: usize = 512;
 // The most bytes of a header's name.
 const MAX_NAME: usize = 256;
 
-// The headers of the list in this field, if there is one.
+// The headers of the list at this key, if there is one.
 pub(crate) fn headers_in(
     alloc: Global,
     path: CommandPath,
-    headers: &Field<'_, '_>,
+    headers: Option<&Value>,
 ) -> Result<Option<Items<Header>>, LineFault>
-    ensures read { IfOk result (λ read. spec.headers_given path (value_in headers.now) ≡ Ok read) }
+    ensures read { IfOk result (λ read.
+        spec.headers_given path (option_map (λ v. view v.now) headers.entry) ≡ Ok read) }
     ensures listed { IfOk result (λ read. IfSome read IsHeaderList) }
-    ensures refused { IfErr result (IsFaultOf (spec.headers_given path (value_in headers.now))) }
+    ensures refused { IfErr result
+        (IsFaultOf (spec.headers_given path (option_map (λ v. view v.now) headers.entry))) }
 {
-    let Some(_) = &headers.held else {
+    let Some(list) = headers else {
         return Ok(None);
     };
-    match as_headers(alloc, headers.list())? {
+    match as_headers(alloc, list)? {
         Some(headers) => Ok(Some(headers)),
         None => Err(LineFault::BadCommand(path)),
     }
 }
 
 #[tactic(auto, using(crate::proofs::Limits::count_is, crate::proofs::Limits::headers_listed))]
-fn as_headers(alloc: Global, values: Option<&[Value]>) -> Result<Option<Items<Header>>, NoMemory>
-    ensures read { IfOk result (λ headers.
-        headers ≡ option_and_then spec.few_headers (option_map (λ s. items_view s.now) values.entry)) }
+fn as_headers(alloc: Global, list: &Value) -> Result<Option<Items<Header>>, NoMemory>
+    ensures read { IfOk result (λ headers. headers ≡ spec.as_headers (view list.now)) }
     ensures listed { IfOk result (λ headers. IfSome headers IsHeaderList) }
 {
-    match values {
-        Some(values) if values.len() <= MAX_HEADERS => each_header(alloc, values),
+    match list.as_array() {
+        Some(values) if values.len() <= MAX_HEADERS => each_header(alloc, values.as_slice()),
         _ => Ok(None),
     }
 }

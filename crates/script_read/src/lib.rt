@@ -12,6 +12,7 @@ mod frames;
 mod headers;
 mod memo;
 mod new_sets;
+mod parts;
 mod reading;
 mod rules;
 mod rulesets;

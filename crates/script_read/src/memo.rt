@@ -15,6 +15,8 @@ use std::marker::Model;
 #[derive(Drop)]
 pub struct Memo {
     pub(crate) scratch: Scratch,
+    // While the first is lent to the fields of a request, its frames and headers are read with this one.
+    pub(crate) spare: Scratch,
     pub(crate) asker: Option<Asker>,
 }
 
@@ -23,6 +25,7 @@ impl Memo {
     pub fn new(alloc: Global) -> Memo {
         Memo {
             scratch: Scratch::new(alloc),
+            spare: Scratch::new(alloc),
             asker: None,
         }
     }

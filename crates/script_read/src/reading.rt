@@ -1,5 +1,5 @@
 // A line, and the request in it.
-ghost use Rattle.std.specs.Prelude.{◌≡◌, ◌≤◌, Ok, IfOk, IfErr, length, map};
+ghost use Rattle.std.specs.Prelude.{◌≡◌, ◌≤◌, Ok, Some, IfOk, IfErr, length, map};
 ghost use Rattle.std.specs.List.{All};
 ghost use Rattle.dnr_spec.specs.Lines as lines;
 ghost use Rattle.dnr_base.specs.Faults.{Rose};
@@ -9,9 +9,10 @@ ghost use Rattle.line_spec.specs.CommandName.{name_from};
 ghost use Rattle.line_spec.specs.IsFault.{IsFaultOf, IsFaultOfLine, MayRefuse, IsCalm};
 ghost use Rattle.line_spec.specs.Line as spec;
 ghost use Rattle.line_spec.specs.Stops.{StopsIn};
+ghost use Rattle.serde_json.specs.View.{view};
 ghost use Rattle.json_fields.specs.Fields.{AreApart, IsEmpty, key_of, value_in};
 ghost use Rattle.script_read.specs.Asked.{Asks, AsksFor, IsAsked, Reads};
-ghost use Rattle.script_read.specs.Fields.{line_keys, request_from, IsFaultFrom};
+ghost use Rattle.script_read.specs.Fields.{line_keys, request_from, AreFieldsOf, IsFaultFrom};
 ghost use Rattle.script_read.specs.Seen.{command_seen};
 
 use crate::Command;
@@ -22,12 +23,14 @@ use crate::fields::{field_at, initiator_in, kind_in, line_fields, method_in, tab
 use crate::frames::frames_in;
 use crate::headers::headers_in;
 use crate::memo::{Asker, Memo};
+use crate::parts::parts_in;
 use crate::updates::update_of_line;
 use dnr_base::Request;
 use json::Scratch;
 use json_fields::{Fault, Field, Form, Held, read_fields};
 use line_spec::{CommandName, CommandPath, LineFault, UpdateFault, UpdateName};
 use regex_host::RegexHost;
+use serde_json::Value;
 use std::alloc::Global;
 
 /// Reads a line of a script, without the LF at its end; `line` is its number, from 1.
@@ -148,6 +151,7 @@ fn asked_of(alloc: Global, line: u32, bytes: &[u8], memo: &mut Memo) -> Result<A
         line,
         bytes,
         &mut memo.scratch,
+        &mut memo.spare,
         &mut memo.asker,
         &mut fields,
     )
@@ -159,6 +163,7 @@ fn asked_by<'a>(
     line: u32,
     bytes: &'a [u8],
     scratch: &'a mut Scratch,
+    spare: &mut Scratch,
     asker: &mut Option<Asker>,
     fields: &mut [Field<'static, 'a>],
 ) -> Result<Asked, LineFault>
@@ -169,7 +174,7 @@ fn asked_by<'a>(
     ensures refused { IfErr result (IsFaultOf (spec.command_of_tree line (tree_of bytes.now))) }
 {
     match read_fields(alloc, bytes, scratch, fields) {
-        Ok(Form::Object) => asked_in(alloc, line, asker, fields),
+        Ok(Form::Object) => asked_in(alloc, line, bytes, spare, asker, fields),
         Ok(Form::Other) => Err(LineFault::BadCommand(CommandPath::Cmd)),
         Err(Fault::BadJson) => Err(LineFault::BadJson),
         Err(Fault::NoMemory) => Err(LineFault::NoMemory),
@@ -179,19 +184,22 @@ fn asked_by<'a>(
 fn asked_in(
     alloc: Global,
     line: u32,
+    bytes: &[u8],
+    spare: &mut Scratch,
     asker: &mut Option<Asker>,
     fields: &[Field<'static, '_>],
 ) -> Result<Asked, LineFault>
-    requires { length fields.now ≡ 9 }
-    ensures read { IfOk result (Reads line fields.now) }
-    ensures refused { IfErr result (IsFaultFrom line fields.now) }
+    requires all { length fields.now ≡ 9 }
+    requires given { AreFieldsOf bytes.now fields.now }
+    ensures read { IfOk result (Reads line fields.now (tree_of bytes.now)) }
+    ensures refused { IfErr result (IsFaultFrom line fields.now (tree_of bytes.now)) }
 {
     match name_in(field_at(fields, CommandPath::Cmd)) {
-        Some(CommandName::Request) => match request_in(alloc, line, asker, fields) {
+        Some(CommandName::Request) => match request_in(alloc, line, bytes, spare, asker, fields) {
             Ok(request) => Ok(Asked::Command(Command::Request(request))),
             Err(fault) => Err(fault),
         },
-        Some(CommandName::Explain) => match request_in(alloc, line, asker, fields) {
+        Some(CommandName::Explain) => match request_in(alloc, line, bytes, spare, asker, fields) {
             Ok(request) => Ok(Asked::Command(Command::Explain(request))),
             Err(fault) => Err(fault),
         },
@@ -213,34 +221,54 @@ fn name_in(cmd: &Field<'_, '_>) -> Option<CommandName>
     }
 }
 
-// The request, whose fields are tested in the order in which they stand here.
-#[tactic(auto, using(crate::proofs::Stops::stops_there), unfolding(crate::specs::Fields::request_from))]
+// The request.
 fn request_in(
+    alloc: Global,
+    line: u32,
+    bytes: &[u8],
+    spare: &mut Scratch,
+    asker: &mut Option<Asker>,
+    fields: &[Field<'static, '_>],
+) -> Result<Request, LineFault>
+    requires all { length fields.now ≡ 9 }
+    requires given { AreFieldsOf bytes.now fields.now }
+    ensures read { IfOk result (λ request. request_from line fields.now (tree_of bytes.now) ≡ Ok request) }
+    ensures within_limits { IfOk result IsRequest }
+    ensures refused { IfErr result (IsFaultOf (request_from line fields.now (tree_of bytes.now))) }
+{
+    let parts = parts_in(alloc, bytes, spare, fields)?;
+    request_with(alloc, line, asker, fields, &parts)
+}
+
+// The request with these frames and headers. Its fields are tested in the order in which they stand here.
+#[tactic(auto, using(crate::proofs::Stops::stops_there), unfolding(crate::specs::Fields::request_from))]
+fn request_with(
     alloc: Global,
     line: u32,
     asker: &mut Option<Asker>,
     fields: &[Field<'static, '_>],
+    parts: &Value,
 ) -> Result<Request, LineFault>
     requires { length fields.now ≡ 9 }
-    ensures read { IfOk result (λ request. request_from line fields.now ≡ Ok request) }
+    ensures read { IfOk result (λ request. request_from line fields.now (Some (view parts.now)) ≡ Ok request) }
     ensures within_limits { IfOk result IsRequest }
-    ensures refused { IfErr result (IsFaultOf (request_from line fields.now)) }
+    ensures refused { IfErr result (IsFaultOf (request_from line fields.now (Some (view parts.now)))) }
 {
     let view = url_in(alloc, field_at(fields, CommandPath::Url))?;
     let kind = kind_in(field_at(fields, CommandPath::Kind))?;
     let initiator = initiator_in(alloc, asker, field_at(fields, CommandPath::Initiator))?;
     let method = method_in(field_at(fields, CommandPath::Method))?;
     let tab = tab_in(field_at(fields, CommandPath::Tab))?;
-    let frames = frames_in(alloc, field_at(fields, CommandPath::Frames))?;
+    let frames = frames_in(alloc, parts.get(CommandPath::Frames.name()))?;
     let request_headers = headers_in(
         alloc,
         CommandPath::RequestHeaders,
-        field_at(fields, CommandPath::RequestHeaders),
+        parts.get(CommandPath::RequestHeaders.name()),
     )?;
     let response_headers = headers_in(
         alloc,
         CommandPath::ResponseHeaders,
-        field_at(fields, CommandPath::ResponseHeaders),
+        parts.get(CommandPath::ResponseHeaders.name()),
     )?;
     Ok(Request {
         line,

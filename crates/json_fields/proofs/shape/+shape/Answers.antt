@@ -1,4 +1,7 @@
-use Rattle.std.proofs.Common.{is_some, true, ◌≡◌, ◌-◌, ◌<◌, ◌++◌, [], ◌∷◌, length, Some, None, refl, sym, ap, ap₂, ◌∙◌, subst, arith}
+use Rattle.std.proofs.Common.{is_some, true, ◌≡◌, ◌-◌, ◌<◌, ◌≤◌, ◌++◌, [], ◌∷◌, length, Some, None, refl, sym, ap, ap₂, ◌∙◌, subst, arith}
+use Rattle.std.proofs.lemmas.Bool.Decides.{nat_tests}
+use Rattle.std.proofs.lemmas.Grind.{common_steps}
+use Rattle.std.proofs.lemmas.List.{length-append}
 use Rattle.json.specs.Token.{Token}
 use Rattle.json.specs.Json.{parse_map, after_end_array, read_key, items, members, value}
 use Rattle.json.specs.Reads.{token_of}
@@ -7,11 +10,12 @@ use Rattle.serde_json.specs.Data.{no_members, no_items, null, boolean, number, s
 use Rattle.serde_json.specs.Read.{of_json, of_items, converted}
 use Rattle.serde_json.specs.View.{view, number_view, items_view, members_view}
 use Rattle.serde_json.specs.Find.{as_null}
+use Rattle.serde_json.proofs.Views.{view-Array}
 use Rattle.json_fields.specs.Last.{value_at}
-use Rattle.json_fields.specs.Shapes.{Kept, KeptItems, KeptMembers, kept_number, kept_truth}
+use Rattle.json_fields.specs.Shapes.{Kept, KeptItems, KeptFew, has_few, KeptMembers, kept_number, kept_truth}
 use Rattle.json_fields.proofs.Turns.{converted-array, converted-object, item_read, item_refused, items_over, member_read, member_refused, key_refused, members_over, none_before}
 use Rattle.json_fields.proofs.Keeping.{null_is}
-use Rattle.json_fields.proofs.Shaped.{then_ok, bounds_same, none_kept, member_kept, member_passed, data_before, one_more, AllKept, all_more, all_are, up_to, text_given, list_given, object_given}
+use Rattle.json_fields.proofs.Shaped.{then_ok, bounds_same, none_kept, member_kept, member_passed, data_before, one_more, AllKept, all_more, all_are, up_to, EachIs, each_more, few_are, more_are, text_given, list_given, object_given}
 use Rattle.json_fields.proofs.shape.+shape.Goals as goal
 
 -- ---- a value
@@ -204,6 +208,117 @@ items_kept-returns-clause-ok g t c =
 
 pub items_kept-returns-clause-shorter : goal.items_kept-returns-clause-shorter
 items_kept-returns-clause-shorter g t c =
+    let l = c.items in
+    let less = after_end_array-shorter l.reader c.take_end_array.new.self c.items-test.ensures in
+    omega (arith, l.invariant.shorter, less)
+
+-- ---- few items
+
+pub few_kept-items-init : goal.few_kept-items-init
+few_kept-items-init g t c = record {
+  left = length c.args.reader.now;
+  before = [];
+  enough = omega arith;
+  same = none_before (converted of_items (items (value c.args.depth) (length c.args.reader.now) c.args.reader.now));
+  all = subst (EachIs (Kept g.S.Shape.wants g.S.Shape.item_shape g.S.Shape.member_shape g.S.Shape.accepts c.args.depth c.args.shape) []) (sym c.new-found.ensures.items) tt;
+  few = subst (λ vs. length vs ≤ c.args.most) (sym c.new-found.ensures.items) (omega arith);
+  shorter = omega arith;
+}
+
+pub few_kept-returns-in_err-item-clause-bad : goal.few_kept-returns-in_err-item-clause-bad
+few_kept-returns-in_err-item-clause-bad g t c = λ e.
+    let l = c.items in
+    let going : (after_end_array l.reader ≡ None) × (c.take_end_array.new.self ≡ l.reader) = c.items-test.ensures in
+    l.invariant.same ∙ ap (parse_map (data_before l.invariant.before)) (item_refused (value c.args.depth) l.invariant.left l.reader going.0 (rw (← going.1) (c.next_shaped.ensures.bad (grind (arith, e)))))
+
+pub few_kept-items-preserved : goal.few_kept-items-preserved
+few_kept-items-preserved g t c =
+    let p = value c.args.depth in
+    let l = c.items in
+    let n = l.invariant.left in
+    let going : (after_end_array l.reader ≡ None) × (c.take_end_array.new.self ≡ l.reader) = c.items-test.ensures in
+    let read = c.in_ok-item.ensures.ok in
+    let d = read.0 in
+    let v = c.in_ok-item.item in
+    let r = c.next_shaped.new.reader in
+    let less : length r < length l.reader = rw (← going.1) c.in_ok-item.ensures.shorter in
+    let enough = l.invariant.enough in
+    let turn = item_read p n l.reader r d (omega arith) going.0 (rw (← going.1) read.1) in
+    let keeps = Kept g.S.Shape.wants g.S.Shape.item_shape g.S.Shape.member_shape g.S.Shape.accepts c.args.depth c.args.shape in
+    record {
+      left = n - 1;
+      before = l.invariant.before ++ d ∷ [];
+      enough = omega arith;
+      same = l.invariant.same ∙ ap (parse_map (data_before l.invariant.before)) turn ∙ one_more l.invariant.before d (converted of_items (items p (n - 1) r));
+      all = subst (EachIs keeps (l.invariant.before ++ d ∷ [])) (sym c.in_ok-push.ensures.items) (each_more keeps l.invariant.before l.found.items d v l.invariant.all read.2);
+      few = subst (λ vs. length vs ≤ c.args.most) (sym c.in_ok-push.ensures.items) (let more = length-append l.found.items (c.in_ok-item.item ∷ []) in grind (arith, common_steps, nat_tests, more, l.invariant.few, c.if-len-most.false));
+      shorter = omega (arith, l.invariant.shorter);
+    }
+
+pub few_kept-returns-in_err-pass_value-clause-bad : goal.few_kept-returns-in_err-pass_value-clause-bad
+few_kept-returns-in_err-pass_value-clause-bad g t c = λ _.
+    let l = c.items in
+    let going : (after_end_array l.reader ≡ None) × (c.take_end_array.new.self ≡ l.reader) = c.items-test.ensures in
+    let none = left_none (value_at c.args.depth c.take_end_array.new.self) c.in_err-pass_value.ensures.value in
+    l.invariant.same ∙ ap (parse_map (data_before l.invariant.before)) (item_refused (value c.args.depth) l.invariant.left l.reader going.0 (rw (← going.1) none))
+
+pub few_kept-returns-in_err-pass_items-clause-bad : goal.few_kept-returns-in_err-pass_items-clause-bad
+few_kept-returns-in_err-pass_items-clause-bad g t c = λ _.
+    let p = value c.args.depth in
+    let l = c.items in
+    let n = l.invariant.left in
+    let going : (after_end_array l.reader ≡ None) × (c.take_end_array.new.self ≡ l.reader) = c.items-test.ensures in
+    let r = c.pass_value.new.reader in
+    let passed = left_some (value_at c.args.depth c.take_end_array.new.self) r c.in_ok-pass_value.ensures.value in
+    let less : length r < length l.reader = rw (← going.1) c.in_ok-pass_value.ensures.shorter in
+    let enough = l.invariant.enough in
+    let turn = item_read p n l.reader r passed.0 (omega arith) going.0 (rw (← going.1) passed.1) in
+    let bound = bounds_same c.args.depth (n - 1) (length r) r (omega arith) (omega arith) in
+    let none = left_none (converted of_items (items p (length r) r)) c.in_err-pass_items.ensures.value in
+    l.invariant.same ∙ ap (parse_map (data_before l.invariant.before)) (turn ∙ ap (parse_map (item passed.0)) (ap (converted of_items) bound ∙ none))
+
+pub few_kept-returns-then-len-most-clause-ok : goal.few_kept-returns-then-len-most-clause-ok
+few_kept-returns-then-len-most-clause-ok g t c =
+    let p = value c.args.depth in
+    let l = c.items in
+    let n = l.invariant.left in
+    let going : (after_end_array l.reader ≡ None) × (c.take_end_array.new.self ≡ l.reader) = c.items-test.ensures in
+    let r = c.pass_value.new.reader in
+    let passed = left_some (value_at c.args.depth c.take_end_array.new.self) r c.in_ok-pass_value.ensures.value in
+    let d = passed.0 in
+    let less : length r < length l.reader = rw (← going.1) c.in_ok-pass_value.ensures.shorter in
+    let enough = l.invariant.enough in
+    let turn = item_read p n l.reader r d (omega arith) going.0 (rw (← going.1) passed.1) in
+    let bound = bounds_same c.args.depth (n - 1) (length r) r (omega arith) (omega arith) in
+    let rest = left_some (converted of_items (items p (length r) r)) c.pass_items.new.reader c.in_ok-pass_items.ensures.value in
+    let keeps = Kept g.S.Shape.wants g.S.Shape.item_shape g.S.Shape.member_shape g.S.Shape.accepts c.args.depth c.args.shape in
+    let all = data_before (l.invariant.before ++ d ∷ []) rest.0 in (
+      all,
+      l.invariant.same ∙ ap (parse_map (data_before l.invariant.before)) turn ∙ one_more l.invariant.before d (converted of_items (items p (n - 1) r))
+          ∙ ap (parse_map (data_before (l.invariant.before ++ d ∷ []))) (ap (converted of_items) bound ∙ rest.1),
+      subst (KeptFew keeps (has_few c.args.most all) all) (sym null_is) (more_are keeps c.args.most l.invariant.before l.found.items d rest.0 l.invariant.all (grind (arith, common_steps, nat_tests, c.if-len-most.true))),
+    )
+
+pub few_kept-returns-then-len-most-clause-shorter : goal.few_kept-returns-then-len-most-clause-shorter
+few_kept-returns-then-len-most-clause-shorter g t c =
+    let l = c.items in
+    let going : (after_end_array l.reader ≡ None) × (c.take_end_array.new.self ≡ l.reader) = c.items-test.ensures in
+    let less : length c.pass_value.new.reader < length l.reader = rw (← going.1) c.in_ok-pass_value.ensures.shorter in
+    omega (arith, less, l.invariant.shorter, c.in_ok-pass_items.ensures.shorter)
+
+pub few_kept-returns-clause-ok : goal.few_kept-returns-clause-ok
+few_kept-returns-clause-ok g t c =
+    let l = c.items in
+    let r = c.take_end_array.new.self in
+    let keeps = Kept g.S.Shape.wants g.S.Shape.item_shape g.S.Shape.member_shape g.S.Shape.accepts c.args.depth c.args.shape in
+    let all = data_before l.invariant.before no_items in (
+      all,
+      l.invariant.same ∙ ap (parse_map (data_before l.invariant.before)) (items_over (value c.args.depth) l.invariant.left l.reader r l.invariant.enough c.items-test.ensures),
+      subst (KeptFew keeps (has_few c.args.most all) all) (sym (view-Array l.found)) (few_are keeps c.args.most l.invariant.before l.found.items l.invariant.all l.invariant.few),
+    )
+
+pub few_kept-returns-clause-shorter : goal.few_kept-returns-clause-shorter
+few_kept-returns-clause-shorter g t c =
     let l = c.items in
     let less = after_end_array-shorter l.reader c.take_end_array.new.self c.items-test.ensures in
     omega (arith, l.invariant.shorter, less)

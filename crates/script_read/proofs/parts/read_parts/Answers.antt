@@ -1,0 +1,10 @@
+use Rattle.std.proofs.Common.{sym}
+use Rattle.json_spec.proofs.Trees.{tree_of_none}
+use Rattle.script_read.proofs.PartsRead.{tree_says}
+use Rattle.script_read.proofs.parts.read_parts.Goals as goal
+
+pub returns-in-Ok-clause-ok : goal.returns-in-Ok-clause-ok
+returns-in-Ok-clause-ok c = tree_says c.args.bytes.now c.in-Ok.text.now c.text_parts.result c.in-Ok.ensures.cases.0 c.in-Ok.ensures.cases.1 c.text_parts.ensures.ok
+
+pub returns-in-Err-clause-bad : goal.returns-in-Err-clause-bad
+returns-in-Err-clause-bad c = λ _. sym (tree_of_none c.args.bytes.now (λ utf8. absurd (c.in-Err.ensures.cases.0 utf8)))
