@@ -1,0 +1,4 @@
+mod InRules
+mod RulesKept
+mod SetsKept
+mod UpdateKept
