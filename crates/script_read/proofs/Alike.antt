@@ -30,44 +30,16 @@ use Rattle.line_spec.specs.Names.{is_extension_name}
 use Rattle.line_spec.specs.Updates.{needed, list_given, as_wholes, as_rule_ids, sets_of_list, access_from, text_in, texts_in, wholes_in, remove_in, sets_in, access_in, rulesets_in, static_in, new_name_in, install_in, uninstall_in, update_in}
 use Rattle.line_spec.specs.Stops.{StopsInUpdate, StopsInSetList}
 use Rattle.script_read.specs.Apart.{added_by}
-use Rattle.script_read.specs.Chosen.{HasKey, HasUpdateKeys, IsKept, SpeaksAs}
+use Rattle.script_read.specs.Chosen.{HasKey}
+use Rattle.update_parts.specs.SpeaksAs.{SpeaksAs}
 use Rattle.script_read.specs.Faults.{MayStopBy, MayRefuse}
 
--- ---- what reads as the whole
+-- ---- the whole text
 
--- what is no object has no members, and nothing is chosen of it
-no_object : (d e : Data) → e ≡ null → ((k : List ℕ) → get k d ≡ None) → SpeaksAs e d
-no_object d e h none = record {
-  field = λ f other. ap (get (field_name f)) h ∙ sym (none (field_name f));
-}
-
-has_field : (names : List (Bor (List ℕ))) → HasUpdateKeys names → (f : UpdateField) → IsKept f → HasKey names (field_name f)
-has_field names keys field.Extension kept = keys.extension
-has_field names keys field.RemoveRuleIds kept = keys.remove
-has_field names keys field.AddRules kept = absurd kept
-has_field names keys field.DisableRulesetIds kept = keys.disable_sets
-has_field names keys field.EnableRulesetIds kept = keys.enable_sets
-has_field names keys field.RulesetId kept = keys.set
-has_field names keys field.DisableRuleIds kept = keys.disable
-has_field names keys field.EnableRuleIds kept = keys.enable
-has_field names keys field.Rulesets kept = keys.sets
-has_field names keys field.HostPermissions kept = keys.access
-
-pub speaks_as : (names : List (Bor (List ℕ))) (d e : Data) → HasUpdateKeys names → GivesThose names d e → SpeaksAs e d
-speaks_as names null e keys h = no_object null e h (λ k. refl)
-speaks_as names (boolean b) e keys h = no_object (boolean b) e h (λ k. refl)
-speaks_as names (number n) e keys h = no_object (number n) e h (λ k. refl)
-speaks_as names (string s) e keys h = no_object (string s) e h (λ k. refl)
-speaks_as names (array ds) e keys h = no_object (array ds) e h (λ k. refl)
-speaks_as names (object ms) e keys h = record {
-  field = λ f kept. ap (get (field_name f)) h.1 ∙ h.2 (field_name f) (has_field names keys f kept);
-}
-
-pub tree_speaks : (bytes text : List ℕ) (names : List (Bor (List ℕ))) (result : Result Value Fault) → text ≡ bytes → IsUtf8 bytes → HasUpdateKeys names
-    → IfOk result (λ kept. (d : Data) × (read text ≡ Some d) × GivesThose names d (view kept)) → IfOk result (λ kept. (d : Data) × (tree_of bytes ≡ Some d) × SpeaksAs (view kept) d)
-tree_speaks bytes text names (Ok kept) same utf8 keys h =
-    (h.0, sym (tree_of_read bytes h.0 utf8 (ap read (sym same) ∙ h.1)), speaks_as names h.0 (view kept) keys h.2)
-tree_speaks bytes text names (Err fault) same utf8 keys h = tt
+pub tree_speaks : (bytes text : List ℕ) (result : Result Value Fault) → text ≡ bytes → IsUtf8 bytes
+    → IfOk result (λ kept. (d : Data) × (read text ≡ Some d) × SpeaksAs (view kept) d) → IfOk result (λ kept. (d : Data) × (tree_of bytes ≡ Some d) × SpeaksAs (view kept) d)
+tree_speaks bytes text (Ok kept) same utf8 h = (h.0, sym (tree_of_read bytes h.0 utf8 (ap read (sym same) ∙ h.1)), h.2)
+tree_speaks bytes text (Err fault) same utf8 h = tt
 
 -- ---- the list of updates
 
@@ -95,53 +67,20 @@ batch_alike e d same = ap elements_of same
 -- ---- updates
 
 module _ (e d : Data) (alike : SpeaksAs e d) where
-  pub text_alike : (f : UpdateField) → IsKept f → text_in f e ≡ text_in f d
-  unfolding text_in
-  text_alike f kept = ap (λ v. needed f (option_and_then as_str v)) (alike.field f kept)
-
-  texts_alike : (f : UpdateField) → IsKept f → texts_in f e ≡ texts_in f d
-  unfolding texts_in
-  texts_alike f kept = ap (list_given f as_texts) (alike.field f kept)
-
-  wholes_alike : (f : UpdateField) → IsKept f → wholes_in f e ≡ wholes_in f d
-  unfolding wholes_in
-  wholes_alike f kept = ap (list_given f as_wholes) (alike.field f kept)
-
-  pub remove_alike : remove_in e ≡ remove_in d
-  unfolding remove_in
-  remove_alike = ap (list_given field.RemoveRuleIds as_rule_ids) (alike.field field.RemoveRuleIds tt)
-
-  sets_alike : sets_in e ≡ sets_in d
-  unfolding sets_in
-  sets_alike = ap (λ v. sets_of_list (option_and_then as_array v)) (alike.field field.Rulesets tt)
-
-  access_alike : access_in e ≡ access_in d
-  unfolding access_in
-  access_alike = ap access_from (alike.field field.HostPermissions tt)
-
-  new_name_alike : new_name_in e ≡ new_name_in d
-  unfolding new_name_in
-  new_name_alike = ap (λ v. needed field.Extension (option_and_then (passing is_extension_name) (option_and_then as_str v))) (alike.field field.Extension tt)
-
   pub update_alike : (which : UpdateName) → added_by which ≡ None → update_in which e ≡ update_in which d
-  unfolding rulesets_in static_in install_in uninstall_in
   update_alike name.Dynamic none = absurd (cc)
   update_alike name.Session none = absurd (cc)
-  update_alike name.Rulesets none = rw (text_alike field.Extension tt, texts_alike field.DisableRulesetIds tt, texts_alike field.EnableRulesetIds tt)
-  update_alike name.Static none = rw (text_alike field.Extension tt, text_alike field.RulesetId tt, wholes_alike field.DisableRuleIds tt, wholes_alike field.EnableRuleIds tt)
-  update_alike name.Install none = rw (new_name_alike, sets_alike, access_alike)
-  update_alike name.Uninstall none = rw (text_alike field.Extension tt)
+  update_alike name.Rulesets none = alike.rulesets
+  update_alike name.Static none = alike.static
+  update_alike name.Install none = alike.install
+  update_alike name.Uninstall none = alike.uninstall
 
   stops_alike : (which : UpdateName) (refusal : PlacedRefusal) → added_by which ≡ None → StopsInUpdate which e refusal → StopsInUpdate which d refusal
   stops_alike name.Dynamic refusal none s = absurd (cc)
   stops_alike name.Session refusal none s = absurd (cc)
   stops_alike name.Rulesets refusal none s = s
   stops_alike name.Static refusal none s = s
-  stops_alike name.Install refusal none s = record {
-    extension = s.extension;
-    named = sym new_name_alike ∙ s.named;
-    stops = subst (λ found. StopsInSetList (option_and_then as_array found) refusal) (alike.field field.Rulesets tt) s.stops;
-  }
+  stops_alike name.Install refusal none s = alike.stops refusal s
   stops_alike name.Uninstall refusal none s = s
 
   refused_by : (which : UpdateName) (rose : Type 0) (refusal : PlacedRefusal) (cause : RuleRefusal) → added_by which ≡ None → MayStopBy (update_in which e) (rose × StopsInUpdate which e refusal) refusal cause

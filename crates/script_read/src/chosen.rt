@@ -6,15 +6,17 @@ ghost use Rattle.serde_json.specs.View.{view};
 ghost use Rattle.json_spec.specs.Json.{tree_of};
 ghost use Rattle.json_fields.specs.Chosen.{GivesThose};
 ghost use Rattle.line_spec.specs.Batch.{updates_at};
-ghost use Rattle.script_read.specs.Chosen.{HasKey, HasUpdateKeys, SpeaksAs};
+ghost use Rattle.script_read.specs.Chosen.{HasKey};
+ghost use Rattle.update_parts.specs.SpeaksAs.{SpeaksAs};
 
 use json::{Reader, Scratch};
 use json_fields::{Fault, next_chosen};
 use serde_json::Value;
 use std::alloc::Global;
 use std::str;
+use update_parts::next_update;
 
-// Reads the members of an update, but for the rules to add, of the object that stands alone in a line.
+// Reads the update, but for the rules to add, that the object of a line is.
 pub(crate) fn read_update(
     alloc: Global,
     bytes: &[u8],
@@ -23,11 +25,25 @@ pub(crate) fn read_update(
     ensures ok { IfOk result (λ kept. (d : Data) × (tree_of bytes.now ≡ Some d) × SpeaksAs (view kept) d) }
     ensures bad { result ≡ Err Fault.BadJson → tree_of bytes.now ≡ None }
 {
-    let names = update_keys();
     match str::from_utf8(bytes) {
-        Ok(text) => text_chosen(alloc, text, scratch, &names),
+        Ok(text) => text_update(alloc, text, scratch),
         Err(_) => Err(Fault::BadJson),
     }
+}
+
+// The update that the text is.
+fn text_update(alloc: Global, text: &str, scratch: &mut Scratch) -> Result<Value, Fault>
+    ensures ok { IfOk result (λ kept. (d : Data) × (read text.now ≡ Some d) × SpeaksAs (view kept) d) }
+    ensures bad { result ≡ Err Fault.BadJson → read text.now ≡ None }
+{
+    let Ok(mut reader) = Reader::new(text, scratch) else {
+        return Err(Fault::NoMemory);
+    };
+    let kept = next_update(alloc, &mut reader, 127)?;
+    if reader.next().is_some() {
+        return Err(Fault::BadJson);
+    }
+    Ok(kept)
 }
 
 // Reads its list of updates.
@@ -60,23 +76,6 @@ fn text_chosen(
         return Err(Fault::BadJson);
     }
     Ok(kept)
-}
-
-// The keys of an update, but for that of the rules to add.
-fn update_keys() -> [&'static str; 9]
-    ensures { HasUpdateKeys result }
-{
-    [
-        "extension",
-        "removeRuleIds",
-        "disableRulesetIds",
-        "enableRulesetIds",
-        "rulesetId",
-        "disableRuleIds",
-        "enableRuleIds",
-        "rulesets",
-        "hostPermissions",
-    ]
 }
 
 fn batch_keys() -> [&'static str; 1]

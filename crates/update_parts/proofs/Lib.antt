@@ -2,3 +2,5 @@ mod InRules
 mod RulesKept
 mod SetsKept
 mod UpdateKept
+mod ElementKept
+mod BatchKept

@@ -5,6 +5,7 @@
 //! so. What is kept costs no more than an update of its texts, its numbers and its rules.
 #![tactic(auto)]
 
+mod batch;
 mod part;
 
 ghost use Rattle.std.specs.Prelude.{◌≡◌, ◌<◌, Err, OnOk, IfOk, length, None, Some};
@@ -13,6 +14,7 @@ ghost use Rattle.serde_json.specs.View.{view};
 ghost use Rattle.json_fields.specs.Last.{value_at};
 ghost use Rattle.update_parts.specs.SpeaksAs.{SpeaksAs};
 
+pub use batch::next_batch;
 use json::Reader;
 use json_fields::{Fault, next_shaped};
 use part::UpdatePart;
