@@ -14,8 +14,8 @@ use json_fields::{Fault, next_shaped, open_list, open_object, pass_items, pass_v
 use serde_json::Value;
 use std::alloc::Global;
 
-// The most updates of a batch.
-const MAX_BATCH: usize = 256;
+/// The most updates of a batch.
+pub const MAX_BATCH: usize = 256;
 
 /// The next value of the tokens, with arrays and objects nested no deeper than `depth`: the updates of the batch that
 /// it is, where it has a list of no more than 256. What is kept of each reads as the whole does.

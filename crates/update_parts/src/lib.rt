@@ -14,7 +14,7 @@ ghost use Rattle.serde_json.specs.View.{view};
 ghost use Rattle.json_fields.specs.Last.{value_at};
 ghost use Rattle.update_parts.specs.SpeaksAs.{SpeaksAs};
 
-pub use batch::next_batch;
+pub use batch::{MAX_BATCH, next_batch};
 use json::Reader;
 use json_fields::{Fault, next_shaped};
 use part::UpdatePart;
