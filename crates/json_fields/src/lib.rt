@@ -13,6 +13,7 @@ mod held;
 mod last;
 mod list;
 mod number;
+mod object;
 mod passed;
 mod shape;
 #[cfg(test)]
@@ -26,6 +27,7 @@ pub use held::Held;
 pub use last::{count_members, pass_others, seek_last};
 pub use list::open_list;
 pub use number::read_number;
-pub use passed::pass_value;
+pub use object::open_object;
+pub use passed::{pass_items, pass_value};
 pub use shape::{Shape, Wanted, next_shaped};
 pub use tree::{Fault, next_value};
