@@ -6,7 +6,7 @@ use Rattle.serde_json.specs.Find.{get_member, as_null, as_str, as_bool}
 use Rattle.json_spec.specs.RuleFields.{as_texts}
 use Rattle.json_fields.specs.declared.shape.Wanted.{Wanted}
 use Rattle.json_fields.specs.declared.shape.Wanted.TheVariants as wanted
-use Rattle.json_fields.specs.Shapes.{EndsIf, KeptAt, KeptItems, KeptList, KeptObject}
+use Rattle.json_fields.specs.Shapes.{EndsIf, KeptAt, KeptItems, KeptEach, KeptFew, KeptList, KeptObject, has_few}
 use Rattle.line_spec.specs.Updates.{as_wholes, as_whole}
 use Rattle.rule_parts.specs.declared.part.RulePart.{RulePart}
 use Rattle.rule_parts.specs.declared.part.RulePart.TheVariants as rule
@@ -30,8 +30,19 @@ module _ (keeps others : Data → Data → Type 0) (law : (d e : Data) → keeps
   items_too (item d ds) no_items h = absurd h
   items_too (item d ds) (item e es) h = (law d e h.0, ends_too (is_some (as_null e)) es (KeptItems keeps ds es) (KeptItems others ds es) (items_too ds es) h.1)
 
+  each_too : (ds es : Items) → KeptEach keeps ds es → KeptEach others ds es
+  each_too no_items no_items h = tt
+  each_too no_items (item e es) h = absurd h
+  each_too (item d ds) no_items h = absurd h
+  each_too (item d ds) (item e es) h = (law d e h.0, each_too ds es h.1)
+
+  few_too : (b : Bool) (ds : Items) (e : Data) → KeptFew keeps b ds e → KeptFew others b ds e
+  few_too true ds e h = (h.0, h.1, each_too ds h.0 h.2)
+  few_too false ds e h = h
+
   list_too : (w : Wanted) (ds : Items) (e : Data) → KeptList keeps w ds e → KeptList others w ds e
   list_too wanted.List ds e h = (h.0, h.1, items_too ds h.0 h.2)
+  list_too (wanted.Few most) ds e h = few_too (has_few most ds) ds e h
   list_too w ds e h = h
 
 -- ---- members
