@@ -95,11 +95,11 @@ returns-in-None-clause-hosts g c =
     (sym (ap length c.deref_mut.ensures.value) ∙ c.deref_mut.ensures.len) (sym c.deref_mut.ensures.value ∙ c.split_at_mut-checkers.ensures.value) c.split_at_mut-checkers.ensures.front_len
     (none_fell_yet (g.H.RegexHost.faults (slice_index_or c.split_at_mut-checkers.result.0.now 0 c.index-checkers-0.result) ∷ map g.H.RegexHost.faults c.split_at_mut-checkers.result.1.now))
 
-pub match_requests-requires-names : goal.match_requests-requires-names
-match_requests-requires-names g c = subst (MayAskFor g.F.Shelf.allows (g.F.Source.files c.args.shelf.now)) (sym c.in-Some-Match.ensures ∙ ap (λ t. Some (task_seen t)) c.in-Some-Match.field-0-is) c.requires.names
+pub match_requests-requires-clause-names : goal.match_requests-requires-clause-names
+match_requests-requires-clause-names g c κs within = subst (MayAskFor g.F.Shelf.allows (g.F.Source.files c.args.shelf.now)) (sym c.in-Some-Match.ensures ∙ ap (λ t. Some (task_seen t)) c.in-Some-Match.field-0-is) c.requires.names
 
-pub serve_script-requires-names : goal.serve_script-requires-names
-serve_script-requires-names g c = subst (MayAskFor g.F.Shelf.allows (g.F.Source.files c.args.shelf.now)) (sym c.in-Some-Serve.ensures ∙ ap (λ t. Some (task_seen t)) c.in-Some-Serve.field-0-is) c.requires.names
+pub serve_script-requires-clause-names : goal.serve_script-requires-clause-names
+serve_script-requires-clause-names g c κs within = subst (MayAskFor g.F.Shelf.allows (g.F.Source.files c.args.shelf.now)) (sym c.in-Some-Serve.ensures ∙ ap (λ t. Some (task_seen t)) c.in-Some-Serve.field-0-is) c.requires.names
 
 pub check_rules-requires : goal.check_rules-requires
 check_rules-requires g c = subst (MayAskFor g.F.Shelf.allows (g.F.Source.files c.args.shelf.now)) (sym c.in-Some-Check.ensures ∙ ap (λ t. Some (task_seen t)) c.in-Some-Check.field-0-is) c.requires.names
