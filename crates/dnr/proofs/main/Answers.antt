@@ -7,4 +7,4 @@ pub run-status-requires-send-H : goal.run-status-requires-send-H
 run-status-requires-send-H g c κs = search (PackHost-send, sendable)
 
 pub run-status-requires-clause-names : goal.run-status-requires-clause-names
-run-status-requires-clause-names g c κs within = all_may_be_asked _ _ _ (λ name. tt)
+run-status-requires-clause-names g c κs = all_may_be_asked _ _ _ (λ name. tt)

@@ -1,0 +1,75 @@
+-- What follows from what a run may do, for whoever reads its output.
+use Rattle.std.specs.Prelude.{◌≡◌, ◌≤◌, ◌⊎◌, ℕ, List, [], ◌∷◌, Some}
+use Rattle.dnr_base.specs.Faults.{Rose, Count}
+use Rattle.dnr_spec.specs.declared.status.Status.{Status}
+use Rattle.dnr_spec.specs.declared.status.Status.TheVariants.{Done, NoMemory}
+use Rattle.load_spec.specs.Files.{Files}
+use Rattle.rule_spec.specs.State.{State}
+use Rattle.update_spec.specs.declared.refusal.Refusal.{Refusal}
+use Rattle.update_spec.specs.Entries.{Entry, judge}
+use Rattle.session_spec.specs.Answers.{Setting, Applies, RoundSays, Serves}
+use Rattle.session_spec.specs.Loading.{Loaded}
+use Rattle.session_spec.specs.Out.{Outside, HostRose, Session, HasLongFileOf, HoldsTooMuch, RefusesSession, in_rounds, EndsBy, hosts_needed, Opens, Out}
+use Rattle.session_spec.specs.Rounds.{Held, holds_nothing}
+use Rattle.session_spec.specs.Said.{Answer, Said, answered, numbers_by, NeverFall}
+use Rattle.session_spec.specs.Words.{list, Serving, Task, serve_script, task_of}
+use Rattle.run_laws.specs.History.{entry_in, Place, command_at, Transcript, SaysAt, IsTranscript, IsHistory}
+use Rattle.run_laws.specs.Printed.{IsAfterSoMany, IsSettled, FaultIsCounted}
+use Rattle.run_laws.specs.Listed.{BlocksAsListed}
+use Rattle.run_laws.specs.Ready.{IsReady}
+use Rattle.run_laws.specs.Wrote.{IsSession, Wrote}
+use Rattle.session_laws.specs.Turns.{TurnsSay}
+
+-- A command of which all that it reads is there, within the limits and in its form, ends with Done, unless memory runs out,
+-- where neither the shelf nor the sink failed, nor the host that reads files and lines.
+abbrev pub CommandsComplete : Type 0
+CommandsComplete =
+    (words : List (List ℕ)) (files : Files) (outside : Outside) (task : Task) (ended : Status) (written : List ℕ) → task_of words ≡ Some task
+    → (Rose outside.shelf.before outside.shelf.now → ⊥) → (Rose outside.sink.before outside.sink.now → ⊥) → (HostRose outside 0 → ⊥)
+    → IsReady files task → Out words files outside ended written → (ended ≡ Done) ⊎ (ended ≡ NoMemory)
+
+-- Nothing is counted before the first line of a script.
+abbrev pub SessionsBeginAtZero : Type 0
+SessionsBeginAtZero = (files : Files) (session : Session) (loaded : Loaded) (first : State) → Opens files session loaded first → first.count ≡ 0
+
+-- Rounds that were served are a history, whatever the status was: each line says what it must by one list of all that was
+-- accepted.
+abbrev pub ServedRoundsAreAHistory : Type 0
+ServedRoundsAreAHistory =
+    (hosts : List Count) (setting : Setting) (first : State) (rounds : List (List (List ℕ))) (written : List ℕ)
+    → first.count ≡ 0 → Serves hosts setting first rounds written → IsHistory hosts setting first rounds written
+
+-- Whatever the status, what a session wrote is such a history: with Done of its whole script.
+abbrev pub SessionsAreHistories : Type 0
+SessionsAreHistories =
+    (words : List (List ℕ)) (files : Files) (outside : Outside) (ended : Status) (written : List ℕ) (session : Session) (name : List ℕ)
+    → IsSession (task_of words) session name → Out words files outside ended written → Wrote files outside session name ended written
+
+-- A verdict that a session wrote is that of the precedence scan over all rules that exactly as many accepted updates and
+-- batches leave as the verdict prints: the first so many of one list. Among them are all of the earlier rounds, and all that
+-- its seat had seen. So is an explanation.
+abbrev pub VerdictsAreScans : Type 0
+VerdictsAreScans =
+    (t : Transcript) (written : List ℕ) → IsTranscript t written → (at : Place) (seat number : ℕ) (answer : Answer)
+    → SaysAt t at (answered seat number answer) → IsAfterSoMany t written at seat number answer
+
+-- An update or a batch that is read is refused exactly where the definition has a cause, judged on what all accepted ones
+-- before it leave. It names the first such cause and changes nothing. Only where the host failed at a pattern in it may it be
+-- refused for that instead; that changes nothing too.
+abbrev pub RefusalsNameTheirCause : Type 0
+RefusalsNameTheirCause =
+    (t : Transcript) (written : List ℕ) → IsTranscript t written → (at : Place) (entry : Entry) (told : Said)
+    → SaysAt t at told → entry_in (command_at t.setting at) ≡ entry ∷ [] → IsSettled t written at entry told
+
+-- A session of `serve` in which one filter list is all that is installed blocks exactly what the supported lines of the list
+-- say.
+abbrev pub ServedListsBlockWhatTheySay : Type 0
+ServedListsBlockWhatTheySay =
+    (words : List (List ℕ)) (files : Files) (outside : Outside) (written : List ℕ) (serving : Serving) (name file : List ℕ)
+    → task_of words ≡ Some (serve_script serving) → serving.installed ≡ list name file ∷ [] → Out words files outside Done written
+    → BlocksAsListed files outside serving file written
+
+-- Where no count of faults rose, no line says that a host failed: each request has its verdict, and each line that can be
+-- read is read.
+abbrev pub FaultsAreCounted : Type 0
+FaultsAreCounted = (t : Transcript) (written : List ℕ) → IsTranscript t written → (at : Place) (told : Said) → SaysAt t at told → FaultIsCounted t at told

@@ -1,0 +1,54 @@
+//! Laws of runs: what whoever reads the output of a run may rely on, as it follows from `Out`. Each function does nothing; its
+//! contract is the law, stated in `specs/Laws.antt`.
+//!
+//! A session is read as a history: one list of all updates and batches that were accepted, of which each line speaks by the
+//! count that it prints.
+#![tactic(auto)]
+
+ghost use Rattle.run_laws.specs.Laws.{ServedRoundsAreAHistory, SessionsBeginAtZero, SessionsAreHistories};
+ghost use Rattle.run_laws.specs.Laws.{VerdictsAreScans, RefusalsNameTheirCause, CommandsComplete};
+ghost use Rattle.run_laws.specs.Laws.{ServedListsBlockWhatTheySay, FaultsAreCounted};
+
+/// Nothing is counted before the first line of a script.
+#[tactic(auto, using(crate::proofs::Laws::sessions_begin_at_zero))]
+pub fn sessions_begin_at_zero()
+    ensures { SessionsBeginAtZero }
+{}
+
+/// Rounds that were served are a history: each line says what it must by one list of all that was accepted.
+pub fn served_rounds_are_a_history()
+    ensures { ServedRoundsAreAHistory }
+{}
+
+/// Whatever the status, what a session wrote is such a history: with Done of its whole script.
+#[tactic(auto, using(crate::proofs::Wrote::sessions_are_histories))]
+pub fn sessions_are_histories()
+    ensures { SessionsAreHistories }
+{}
+
+/// A verdict, or an explanation, is the scan after exactly as many accepted updates and batches as it prints.
+pub fn verdicts_are_scans()
+    ensures { VerdictsAreScans }
+{}
+
+/// An update or a batch that is refused names its first cause and changes nothing.
+pub fn refusals_name_their_cause()
+    ensures { RefusalsNameTheirCause }
+{}
+
+/// A command that reads what is there, within the limits and in its form, and that meets no fault, ends with Done, unless
+/// memory runs out.
+#[tactic(auto, using(crate::proofs::Ready::commands_complete))]
+pub fn commands_complete()
+    ensures { CommandsComplete }
+{}
+
+/// A session in which a filter list is all that is installed blocks exactly what the supported lines of the list say.
+pub fn served_lists_block_what_they_say()
+    ensures { ServedListsBlockWhatTheySay }
+{}
+
+/// A line says that a host failed only where the count of faults of that host rose.
+pub fn faults_are_counted()
+    ensures { FaultsAreCounted }
+{}
