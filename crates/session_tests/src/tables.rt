@@ -162,7 +162,8 @@ fn asks_fail(
         let told = if host == 0 {
             ended.status == Status::Refused && ended.written.as_slice() == REFUSED
         } else {
-            ended.status == Status::Done && others == 1
+            let count = count_lines(ended.written.as_slice());
+            ended.status == Status::Done && others == 1 && count == count_lines(whole.as_slice())
         };
         fail_unless(told, "not told, or more than it")?;
     }
@@ -171,6 +172,9 @@ fn asks_fail(
 
 #[test]
 fn a_pattern_that_fails_refuses_its_list_or_costs_one_line(rt: HostRuntime) -> Result<(), Fail> {
+    let ended = ended(&rt, SEATS_SESSION, NOTHING)?;
+    let asked = ended.hosts.iter().filter(|host| !host.asked.is_empty());
+    assert_eq!(rt; asked.count(), 5);
     for host in 0..HOSTS {
         asks_fail(&rt, SEATS_SESSION, host)?;
         for session in SESSIONS {
