@@ -1,4 +1,4 @@
-//! The commands over files in memory: how they end where a file, a host or the output fails, and what they write.
+//! The commands over files in memory: how they end where calls of a host or of the output fail, and what they write.
 ghost use Rattle.std.specs.Prelude.{◌≡◌, length, IfOk};
 
 use crate::shelves::{shelf, words};
@@ -13,106 +13,137 @@ use std::sync::Wait;
 use std::test::Fail;
 use std::thread::Threads;
 
-// The call of the shelf, of the sink, of the host of files and of that of requests that fails, from 1.
+/// The calls that fail, from 1: one of the shelf, one of the sink, which takes at most so many bytes at a time, and those
+/// of the host at this place.
 #[derive(Clone, Copy)]
-pub struct Failing {
+pub struct Failing<'a> {
     pub read: u64,
+    pub most: usize,
     pub write: u64,
-    pub check: u64,
-    pub find: u64,
+    pub host: usize,
+    pub asks: &'a [u64],
 }
 
-pub const NOTHING: Failing = Failing {
+pub const NOTHING: Failing<'static> = Failing {
     read: 0,
+    most: 4096,
     write: 0,
-    check: 0,
-    find: 0,
+    host: 0,
+    asks: &[],
 };
 
-fn host(alloc: Global, failing: u64) -> Result<ListHost<PackHost>, NoMemory> {
-    let failing = vec![in alloc; failing]?;
-    Ok(ListHost::new(alloc, PackHost::new(alloc)?, failing))
-}
+/// One of files and lines, and one of each worker.
+pub const HOSTS: usize = 9;
 
-const AT_REST: usize = 7;
-
-// A host of files, one of requests, and others that are at rest.
-fn hosts(alloc: Global, failing: Failing) -> Result<Vec<ListHost<PackHost>>, NoMemory>
+// The calls of these numbers fail, of the host at this place.
+fn hosts(alloc: Global, failing: Failing<'_>) -> Result<Vec<ListHost<PackHost>>, NoMemory>
     ensures { IfOk result (λ hosts. length hosts.items ≡ 9) }
 {
-    let mut hosts = vec![in alloc; host(alloc, failing.check)?, host(alloc, failing.find)?]?;
-    for _ in 0..AT_REST {
-        hosts.push(host(alloc, 0)?)?;
+    let mut hosts = Vec::new(alloc);
+    for place in 0..HOSTS {
+        let asks = if place == failing.host {
+            failing.asks
+        } else {
+            &[]
+        };
+        let asks = Vec::from_slice(alloc, asks)?;
+        hosts.push(ListHost::new(alloc, PackHost::new(alloc)?, asks))?;
     }
     Ok(hosts)
 }
 
-// How a command ends on this shelf, and what it writes, where a write takes at most so many bytes.
+/// How a command has ended, what it has written, and its hosts.
+#[derive(Drop)]
+pub struct Ended {
+    pub status: Status,
+    pub written: Vec<u8>,
+    pub hosts: Vec<ListHost<PackHost>>,
+}
+
+/// A command on this shelf.
 pub fn ended_on(
     rt: &(impl Threads + Wait + Sync + AllocGlobal),
     command: &str,
     shelf: &mut MemoryShelf,
-    most: usize,
-    failing: Failing,
-) -> Result<(Status, Vec<u8>), NoMemory> {
+    failing: Failing<'_>,
+) -> Result<Ended, NoMemory> {
     let alloc = rt.alloc();
     let words = words(alloc, command)?;
-    let mut sink = MemorySink::new(alloc, most.max(1), vec![in alloc; failing.write]?);
+    let mut sink = MemorySink::new(alloc, failing.most.max(1), vec![in alloc; failing.write]?);
     let mut hosts = hosts(alloc, failing)?;
     nine_hosts_are_enough();
     let status = run(rt, alloc, &words, shelf, &mut sink, &mut hosts, &NoGate);
-    Ok((status, Vec::from_slice(alloc, sink.bytes())?))
+    let written = Vec::from_slice(alloc, sink.bytes())?;
+    Ok(Ended {
+        status,
+        written,
+        hosts,
+    })
 }
 
-// The same on the shelf of all tests.
-fn ended(
-    rt: &(impl Threads + Wait + Sync + AllocGlobal),
-    command: &str,
-    failing: Failing,
-) -> Result<(Status, Vec<u8>), NoMemory> {
-    let mut shelf = shelf(rt.alloc(), failing.read)?;
-    ended_on(rt, command, &mut shelf, 4096, failing)
-}
-
-const BLOCKED: &str =
-    "{\"line\":1,\"generation\":0,\"verdict\":\"block\",\"rule\":[\"local\",\"rules\",7]}\n{\"line\":3,\"generation\":0,\"verdict\":\"none\"}\n";
-
-const FAULT: &str =
-    "{\"line\":1,\"generation\":0,\"fault\":\"pattern-host\",\"rule\":[\"local\",\"rules\",7]}\n{\"line\":3,\"generation\":0,\"verdict\":\"none\"}\n";
+// A command on the shelf of all tests, what fails, how it ends, and what is written then. No host is asked for another
+// pattern than `x`.
+const CASES: &[(&str, Failing<'static>, Status, &str)] = &[
+    (
+        "match r.json q.jsonl",
+        Failing {
+            host: 1,
+            asks: &[1],
+            ..NOTHING
+        },
+        Status::Done,
+        "{\"line\":1,\"generation\":0,\"fault\":\"pattern-host\",\"rule\":[\"local\",\"rules\",1]}\n{\"line\":2,\"generation\":0,\"verdict\":\"block\",\"rule\":[\"local\",\"rules\",1]}\n{\"line\":3,\"generation\":0,\"verdict\":\"block\",\"rule\":[\"local\",\"rules\",1]}\n",
+    ),
+    (
+        "match r.json q.jsonl",
+        Failing {
+            host: 1,
+            asks: &[1, 2],
+            ..NOTHING
+        },
+        Status::Done,
+        "{\"line\":1,\"generation\":0,\"fault\":\"pattern-host\",\"rule\":[\"local\",\"rules\",1]}\n{\"line\":2,\"generation\":0,\"fault\":\"pattern-host\",\"rule\":[\"local\",\"rules\",1]}\n{\"line\":3,\"generation\":0,\"verdict\":\"block\",\"rule\":[\"local\",\"rules\",1]}\n",
+    ),
+    (
+        "serve --ext a pattern.jsonl",
+        Failing {
+            asks: &[1],
+            ..NOTHING
+        },
+        Status::Done,
+        "{\"line\":1,\"refused\":\"pattern-host\",\"place\":0,\"id\":1}\n{\"line\":2,\"accepted\":1}\n",
+    ),
+    (
+        "check static r.json",
+        Failing {
+            asks: &[1],
+            ..NOTHING
+        },
+        Status::Refused,
+        "{\"file\":\"r.json\",\"refused\":\"pattern-host\",\"place\":0,\"id\":1}\n",
+    ),
+    (
+        "serve --ext a block.jsonl",
+        Failing {
+            most: 10,
+            write: 3,
+            ..NOTHING
+        },
+        Status::WriteFault,
+        "{\"line\":1,\"accepted\"",
+    ),
+];
 
 #[test]
-fn requests_are_answered(rt: HostRuntime) -> Result<(), Fail> {
-    let (status, written) = ended(&rt, "match r.json q.jsonl", NOTHING)?;
-    assert!(rt; status == Status::Done);
-    assert_eq!(rt; written.as_slice(), BLOCKED.as_bytes());
-    Ok(())
-}
-
-#[test]
-fn a_host_that_fails_is_told_and_the_next_line_decided(rt: HostRuntime) -> Result<(), Fail> {
-    let failing = Failing { find: 1, ..NOTHING };
-    let (status, written) = ended(&rt, "match r.json q.jsonl", failing)?;
-    assert!(rt; status == Status::Done);
-    assert_eq!(rt; written.as_slice(), FAULT.as_bytes());
-    Ok(())
-}
-
-#[test]
-fn faults_end_a_run(rt: HostRuntime) -> Result<(), Fail> {
-    let failing = Failing { read: 2, ..NOTHING };
-    let (status, _) = ended(&rt, "match r.json q.jsonl", failing)?;
-    assert!(rt; status == Status::ReadFault);
-    let failing = Failing {
-        write: 1,
-        ..NOTHING
-    };
-    let (status, _) = ended(&rt, "compile l.txt", failing)?;
-    assert!(rt; status == Status::WriteFault);
-    let failing = Failing {
-        check: 1,
-        ..NOTHING
-    };
-    let (status, _) = ended(&rt, "check static r.json", failing)?;
-    assert!(rt; status == Status::Refused);
+fn each_call_that_fails_is_told_once(rt: HostRuntime) -> Result<(), Fail> {
+    for (command, failing, status, written) in CASES {
+        let mut shelf = shelf(rt.alloc(), 0)?;
+        let ended = ended_on(&rt, command, &mut shelf, *failing)?;
+        assert!(rt; ended.status == *status);
+        assert_eq!(rt; ended.written.as_slice(), written.as_bytes());
+        for host in ended.hosts.iter() {
+            assert!(rt; host.asked.iter().all(|pattern| pattern.as_str() == "x"));
+        }
+    }
     Ok(())
 }

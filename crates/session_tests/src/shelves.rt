@@ -3,11 +3,11 @@ use dnr_base::NoMemory;
 use dnr_io::{MemoryFile, MemoryShelf};
 use std::alloc::Global;
 
-// Rules, a list, a suffix list, an extension, one with a path that leaves its folder, and requests.
+// Rules, a list, a suffix list, an extension, one with a path that leaves its folder, one without rules, and scripts.
 const FILES: &[(&str, &str)] = &[
     (
         "r.json",
-        r#"[{"id":7,"condition":{"regexFilter":"^http://a"},"action":{"type":"block"}}]"#,
+        r#"[{"id":1,"condition":{"regexFilter":"x"},"action":{"type":"block"}}]"#,
     ),
     ("l.txt", "a.com##.ad\n||b.com^\n"),
     ("psl.dat", "uk\nco.uk\n"),
@@ -25,7 +25,16 @@ const FILES: &[(&str, &str)] = &[
     ),
     (
         "q.jsonl",
-        "{\"url\":\"http://a.com/\",\"type\":\"script\"}\n\n{\"url\":\"http://b.com/\",\"type\":\"script\"}\n",
+        "{\"url\":\"http://x.org/\",\"type\":\"script\"}\n{\"url\":\"http://x.org/\",\"type\":\"script\"}\n{\"url\":\"http://x.org/\",\"type\":\"script\"}\n",
+    ),
+    ("a/manifest.json", "{}"),
+    (
+        "block.jsonl",
+        "{\"cmd\":\"dynamic\",\"extension\":\"a\",\"addRules\":[{\"id\":1,\"condition\":{\"urlFilter\":\"||a.com^\"},\"action\":{\"type\":\"block\"}}]}\n{\"cmd\":\"sync\"}\n{\"url\":\"http://a.com/\",\"type\":\"script\"}\n",
+    ),
+    (
+        "pattern.jsonl",
+        "{\"cmd\":\"dynamic\",\"extension\":\"a\",\"addRules\":[{\"id\":1,\"condition\":{\"regexFilter\":\"x\"},\"action\":{\"type\":\"block\"}}]}\n{\"cmd\":\"dynamic\",\"extension\":\"a\"}\n",
     ),
 ];
 

@@ -1,6 +1,6 @@
-//! Sessions of which one call after another fails, and a script that is cut off at each byte: how they end, and that
-//! what is written before that is what is written where nothing fails.
-use crate::runs::{Failing, NOTHING, ended_on};
+//! Commands of which one call after another fails, and scripts that are cut off: how they end, and that what is written
+//! before that is what is written where nothing fails.
+use crate::runs::{Ended, Failing, HOSTS, NOTHING, ended_on};
 use crate::shelves::shelf_of;
 use dnr_base::NoMemory;
 use dnr_io::Status;
@@ -12,9 +12,14 @@ use std::thread::Threads;
 // Updates of which the last is refused, a filter list of each kind of line, and a day of a shop.
 const SESSIONS: &[&str] = &[
     "serve --ext a updates.jsonl",
+    "compile list.txt",
     "serve --list l=list.txt requests.jsonl",
-    "serve --workers 4 --psl psl.dat --ext shop day.txt",
+    DAY_SESSION,
 ];
+
+const SEATS_SESSION: &str = "serve --workers 4 --list l=list.txt requests.jsonl";
+
+const DAY_SESSION: &str = "serve --workers 4 --psl psl.dat --ext shop day.txt";
 
 const FILES: &[(&str, &str)] = &[
     ("a/manifest.json", "{}"),
@@ -28,7 +33,7 @@ const FILES: &[(&str, &str)] = &[
     ),
     (
         "requests.jsonl",
-        "{\"url\":\"http://ads.com/x\",\"type\":\"script\",\"initiator\":\"http://x.b.com\"}\n{\"url\":\"http://i.org/banner12.gif\",\"type\":\"image\"}\n{\"url\":\"http://i.org/banner12.gif\",\"type\":\"image\",\"frames\":[{\"url\":\"http://a.com/\"}]}\n",
+        "{\"url\":\"http://ads.com/x\",\"type\":\"script\",\"initiator\":\"http://x.b.com\"}\n{\"url\":\"http://ads.com/x\",\"type\":\"script\",\"initiator\":\"http://c.b.com\"}\n{\"url\":\"http://ads.com/x\",\"type\":\"script\",\"initiator\":\"http://d.c.b.com\"}\n{\"url\":\"http://ads.com/x\",\"type\":\"script\",\"initiator\":\"http://ads.com\"}\n{\"url\":\"http://i.org/banner12.gif\",\"type\":\"image\"}\n{\"url\":\"http://i.org/banner12.gif\",\"type\":\"image\",\"frames\":[{\"url\":\"http://a.com/\"}]}\n",
     ),
     (
         "shop/manifest.json",
@@ -52,84 +57,66 @@ const DAY: &str =
 // No session makes more calls of a kind.
 const CALLS: u64 = 10_000;
 
-// How a session ends, and what it writes, where a write takes at most so many bytes.
 fn ended(
     rt: &(impl Threads + Wait + Sync + AllocGlobal),
     session: &str,
-    most: usize,
-    failing: Failing,
-) -> Result<(Status, Vec<u8>), NoMemory> {
+    failing: Failing<'_>,
+) -> Result<Ended, NoMemory> {
     let mut shelf = shelf_of(rt.alloc(), FILES, failing.read)?;
-    ended_on(rt, session, &mut shelf, most, failing)
+    ended_on(rt, session, &mut shelf, failing)
 }
 
-// What it writes where nothing fails.
+// What is written where nothing fails.
 fn whole(rt: &(impl Threads + Wait + Sync + AllocGlobal), session: &str) -> Result<Vec<u8>, Fail> {
-    let (status, written) = ended(rt, session, 4096, NOTHING)?;
-    if status == Status::Done {
-        Ok(written)
+    let ended = ended(rt, session, NOTHING)?;
+    if ended.status == Status::Done {
+        Ok(ended.written)
     } else {
         Err(Fail::new("the session is not done"))
     }
-}
-
-#[test]
-fn a_read_that_fails_leaves_whole_rounds(rt: HostRuntime) -> Result<(), Fail> {
-    for session in SESSIONS {
-        let whole = whole(&rt, session)?;
-        let mut done = false;
-        for read in 1..CALLS {
-            let failing = Failing { read, ..NOTHING };
-            let (status, written) = ended(&rt, session, 4096, failing)?;
-            assert!(rt; whole.as_slice().starts_with(written.as_slice()));
-            if status == Status::Done {
-                assert!(rt; whole.as_slice() == written.as_slice());
-                done = true;
-                break;
-            }
-            assert!(rt; status == Status::ReadFault);
-        }
-        assert!(rt; done);
-    }
-    Ok(())
 }
 
 fn fail_unless(holds: bool, why: &'static str) -> Result<(), Fail> {
     if holds { Ok(()) } else { Err(Fail::new(why)) }
 }
 
-// Each write in turn fails, where one takes at most so many bytes.
-fn writes_fail(
+// Each read in turn fails, or each write, where one takes at most so many bytes, and the session ends so.
+fn calls_fail(
     rt: &(impl Threads + Wait + Sync + AllocGlobal),
     session: &str,
     most: usize,
+    status: Status,
 ) -> Result<(), Fail> {
     let whole = whole(rt, session)?;
-    for write in 1..CALLS {
-        let failing = Failing { write, ..NOTHING };
-        let (status, written) = ended(rt, session, most, failing)?;
-        let begins = whole.as_slice().starts_with(written.as_slice());
+    for call in 1..CALLS {
+        let (read, write) = if status == Status::ReadFault {
+            (call, 0)
+        } else {
+            (0, call)
+        };
+        let failing = Failing {
+            read,
+            most,
+            write,
+            ..NOTHING
+        };
+        let ended = ended(rt, session, failing)?;
+        let begins = whole.as_slice().starts_with(ended.written.as_slice());
         fail_unless(begins, "other bytes")?;
-        if status == Status::Done {
-            return fail_unless(whole.len() == written.len(), "too few bytes");
+        if ended.status == Status::Done {
+            return fail_unless(whole.len() == ended.written.len(), "too few bytes");
         }
-        fail_unless(status == Status::WriteFault, "another status")?;
+        fail_unless(ended.status == status, "another status")?;
     }
     Err(Fail::new("no end"))
 }
 
 #[test]
-fn a_write_that_fails_leaves_a_beginning(rt: HostRuntime) -> Result<(), Fail> {
+fn a_call_that_fails_leaves_a_beginning(rt: HostRuntime) -> Result<(), Fail> {
     for session in SESSIONS {
-        writes_fail(&rt, session, 4096)?;
-    }
-    Ok(())
-}
-
-#[test]
-fn a_write_of_a_few_bytes_that_fails_leaves_a_beginning(rt: HostRuntime) -> Result<(), Fail> {
-    for session in SESSIONS {
-        writes_fail(&rt, session, 10)?;
+        calls_fail(&rt, session, 4096, Status::ReadFault)?;
+        calls_fail(&rt, session, 4096, Status::WriteFault)?;
+        calls_fail(&rt, session, 10, Status::WriteFault)?;
     }
     Ok(())
 }
@@ -137,7 +124,7 @@ fn a_write_of_a_few_bytes_that_fails_leaves_a_beginning(rt: HostRuntime) -> Resu
 #[test]
 fn a_write_of_one_byte_that_fails_leaves_a_beginning(rt: HostRuntime) -> Result<(), Fail> {
     for session in SESSIONS {
-        writes_fail(&rt, session, 1)?;
+        calls_fail(&rt, session, 1, Status::WriteFault)?;
     }
     Ok(())
 }
@@ -150,67 +137,107 @@ fn count_other_lines(a: &[u8], b: &[u8]) -> usize {
     pairs.filter(|pair| pair.0 != pair.1).count()
 }
 
-#[test]
-fn a_pattern_that_fails_costs_one_line(rt: HostRuntime) -> Result<(), Fail> {
-    for session in SESSIONS {
-        let whole = whole(&rt, session)?;
-        let mut done = false;
-        for find in 1..CALLS {
-            let failing = Failing { find, ..NOTHING };
-            let (status, written) = ended(&rt, session, 4096, failing)?;
-            assert!(rt; status == Status::Done);
-            if whole.as_slice() == written.as_slice() {
-                done = true;
-                break;
-            }
-            assert!(rt; count_other_lines(whole.as_slice(), written.as_slice()) == 1);
+const REFUSED: &[u8] = b"{\"file\":\"list.txt\",\"refused\":\"pattern-host\",\"line\":7}\n";
+
+// Each call of a host in turn fails. The first host refuses the list then, and each other one costs the line that it
+// was asked for.
+fn asks_fail(
+    rt: &(impl Threads + Wait + Sync + AllocGlobal),
+    session: &str,
+    host: usize,
+) -> Result<(), Fail> {
+    let whole = whole(rt, session)?;
+    for ask in 1..CALLS {
+        let asks = [ask];
+        let failing = Failing {
+            host,
+            asks: &asks,
+            ..NOTHING
+        };
+        let ended = ended(rt, session, failing)?;
+        let others = count_other_lines(whole.as_slice(), ended.written.as_slice());
+        if ended.status == Status::Done && others == 0 {
+            return fail_unless(whole.len() == ended.written.len(), "too few lines");
         }
-        assert!(rt; done);
+        let told = if host == 0 {
+            ended.status == Status::Refused && ended.written.as_slice() == REFUSED
+        } else {
+            let count = count_lines(ended.written.as_slice());
+            ended.status == Status::Done && others == 1 && count == count_lines(whole.as_slice())
+        };
+        fail_unless(told, "not told, or more than it")?;
+    }
+    Err(Fail::new("no end"))
+}
+
+#[test]
+fn a_pattern_that_fails_refuses_its_list_or_costs_one_line(rt: HostRuntime) -> Result<(), Fail> {
+    let ended = ended(&rt, SEATS_SESSION, NOTHING)?;
+    let asked = ended.hosts.iter().filter(|host| !host.asked.is_empty());
+    assert_eq!(rt; asked.count(), 5);
+    for host in 0..HOSTS {
+        asks_fail(&rt, SEATS_SESSION, host)?;
+        for session in SESSIONS {
+            asks_fail(&rt, session, host)?;
+        }
     }
     Ok(())
 }
 
-#[test]
-fn a_pattern_of_a_list_that_fails_refuses_it(rt: HostRuntime) -> Result<(), Fail> {
-    let session = "serve --list l=list.txt requests.jsonl";
-    let failing = Failing {
-        check: 1,
-        ..NOTHING
-    };
-    let (status, written) = ended(&rt, session, 4096, failing)?;
-    assert!(rt; status == Status::Refused);
-    assert_eq!(rt;
-        written.as_slice(),
-        b"{\"file\":\"list.txt\",\"refused\":\"pattern-host\",\"line\":7}\n".as_slice()
-    );
-    Ok(())
-}
-
-// Each line of a script says one line.
 fn count_lines(bytes: &[u8]) -> usize {
     bytes.iter().filter(|byte| **byte == b'\n').count()
 }
 
+// A round ends with its 1,024th line. Ten reads of 4,096 bytes give so many lines of 40 bytes, after a call that fetches
+// the rules and one that starts the script.
+#[test]
+fn a_read_that_fails_leaves_whole_rounds(rt: HostRuntime) -> Result<(), Fail> {
+    let script = "{\"url\":\"http://a.com/\",\"type\":\"script\"}\n".repeat(rt.alloc(), 1_025)?;
+    let files = [("r.json", "[]"), ("q.jsonl", script.as_str())];
+    for (read, lines) in [(12, 0), (13, 1_024), (14, 1_024)] {
+        let mut shelf = shelf_of(rt.alloc(), &files, read)?;
+        let ended = ended_on(&rt, "match r.json q.jsonl", &mut shelf, NOTHING)?;
+        assert!(rt; ended.status == Status::ReadFault);
+        assert_eq!(rt; count_lines(ended.written.as_slice()), lines);
+    }
+    Ok(())
+}
+
+// What a line says that is cut off within, as one of this start: it is no JSON.
+fn is_no_json(line: &[u8], whole: &[u8]) -> bool {
+    let start = whole.split(|byte| *byte == b',').next();
+    line.strip_prefix(start.unwrap_or(whole)) == Some(b",\"bad\":\"json\"}")
+}
+
 #[test]
 fn a_script_that_is_cut_off_says_the_lines_before(rt: HostRuntime) -> Result<(), Fail> {
-    let session = "serve --workers 4 --psl psl.dat --ext shop day.txt";
-    let whole = whole(&rt, session)?;
+    let whole = whole(&rt, DAY_SESSION)?;
     for cut in 0..DAY.len() {
-        let Some(script) = DAY.get(..cut) else {
-            continue;
-        };
+        let script = DAY.get(..cut).ok_or("no such cut")?;
         let mut files = Vec::from_slice(rt.alloc(), FILES)?;
         files.pop();
         files.push(("day.txt", script))?;
         let mut shelf = shelf_of(rt.alloc(), files.as_slice(), 0)?;
-        let (status, written) = ended_on(&rt, session, &mut shelf, 4096, NOTHING)?;
-        assert!(rt; status == Status::Done);
-        let before = count_lines(script.as_bytes());
+        let ended = ended_on(&rt, DAY_SESSION, &mut shelf, NOTHING)?;
+        assert!(rt; ended.status == Status::Done);
         let mut lines = whole.as_slice().split(|byte| *byte == b'\n');
-        let mut cut_lines = written.as_slice().split(|byte| *byte == b'\n');
-        for _ in 0..before {
-            assert!(rt; lines.next() == cut_lines.next());
+        let mut said = ended.written.as_slice().split(|byte| *byte == b'\n');
+        for _ in 0..count_lines(script.as_bytes()) {
+            assert!(rt; lines.next() == said.next());
         }
+        if !script.is_empty() && !script.ends_with('\n') {
+            let line = lines.next().unwrap_or(b"");
+            let cut_line = said.next().unwrap_or(b"");
+            let is_whole = DAY.as_bytes().get(cut) == Some(&b'\n');
+            assert!(rt;
+                if is_whole {
+                    cut_line == line
+                } else {
+                    is_no_json(cut_line, line)
+                }
+            );
+        }
+        assert!(rt; said.next() == Some(b"") && said.next().is_none());
     }
     Ok(())
 }
