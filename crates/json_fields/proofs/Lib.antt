@@ -8,3 +8,4 @@ pub mod Asked
 pub mod Keeping
 pub mod Times
 pub mod Shaped
+pub mod Forms

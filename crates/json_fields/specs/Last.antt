@@ -4,8 +4,8 @@ use Rattle.std.specs.Str.{bytes_eq}
 use Rattle.json.specs.Token.{Token}
 use Rattle.json.specs.Json as json
 use Rattle.json.specs.Json.{parse_map}
-use Rattle.serde_json.specs.Data.{Data, array, Members, no_members, put}
-use Rattle.serde_json.specs.Find.{as_array, get_member}
+use Rattle.serde_json.specs.Data.{Data, array, object, Members, no_members, put}
+use Rattle.serde_json.specs.Find.{as_array, as_object, get_member}
 use Rattle.serde_json.specs.Read.{of_json, of_items, of_members, converted}
 
 abbrev pub one_if : Bool → ℕ
@@ -66,3 +66,8 @@ HasNoMembers depth ts = (found : Members) (n : ℕ) → length ts ≤ n → memb
 abbrev pub Opens : ℕ → List Token → List Token → Bool → Type 0
 Opens depth ts rest true = (0 < depth) × (value_at depth ts ≡ parse_map array (converted of_items (json.items (json.value (depth - 1)) (length rest) rest)))
 Opens depth ts rest false = (d : Data) × (value_at depth ts ≡ Some (d, rest)) × (as_array d ≡ None)
+
+-- an object was opened, whose members come next, or another value was passed
+abbrev pub OpensObject : ℕ → List Token → List Token → Bool → Type 0
+OpensObject depth ts rest true = (0 < depth) × (value_at depth ts ≡ parse_map object (members_in (depth - 1) rest))
+OpensObject depth ts rest false = (d : Data) × (value_at depth ts ≡ Some (d, rest)) × (as_object d ≡ None)

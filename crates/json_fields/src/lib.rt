@@ -6,26 +6,26 @@
 //! last field, nothing is read here either, and of a repeated key the last value counts.
 #![tactic(auto)]
 
-mod chosen;
 mod field;
 mod fields;
 mod held;
 mod last;
 mod list;
 mod number;
+mod object;
 mod passed;
 mod shape;
 #[cfg(test)]
 mod tests;
 mod tree;
 
-pub use chosen::next_chosen;
 pub use field::Field;
 pub use fields::{Form, read_fields, text_fields};
 pub use held::Held;
 pub use last::{count_members, pass_others, seek_last};
 pub use list::open_list;
 pub use number::read_number;
-pub use passed::pass_value;
+pub use object::open_object;
+pub use passed::{pass_items, pass_value};
 pub use shape::{Shape, Wanted, next_shaped};
 pub use tree::{Fault, next_value};

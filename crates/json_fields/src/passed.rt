@@ -35,8 +35,9 @@ pub fn pass_value(reader: &mut Reader<'_>, depth: usize) -> Result<(), Invalid>
     }
 }
 
+/// Passes over the items of a list up to the bracket that closes it.
 #[cycle(pass)]
-pub(crate) fn pass_items(reader: &mut Reader<'_>, depth: usize) -> Result<(), Invalid>
+pub fn pass_items(reader: &mut Reader<'_>, depth: usize) -> Result<(), Invalid>
     ensures value { MatchResult result (λ _. behind_items depth reader.old ≡ Some reader.new)
         (λ _. behind_items depth reader.old ≡ None) }
     ensures shorter { OnOk result (length reader.new < length reader.old) }

@@ -1,4 +1,4 @@
-mod PartForms
-mod PartFields
-mod PartActions
-mod RuleKept
+pub mod PartForms
+pub mod PartFields
+pub mod PartActions
+pub mod RuleKept

@@ -10,7 +10,8 @@ use Rattle.json_fields.specs.Shapes.{Kept, KeptItems, KeptMembers}
 use Rattle.rule_parts.specs.declared.part.RulePart.{RulePart}
 use Rattle.rule_parts.specs.declared.part.RulePart.TheVariants as part
 use Rattle.rule_parts.specs.Parts.{wanted_at, item_of, member_of, has_text, accepts_at, KeptAs}
-use Rattle.rule_parts.proofs.PartForms.{none_if, get_none, text_same, truth_same, inner_same, item_same, member_same, object_same, list_same}
+use Rattle.json_fields.proofs.Forms.{none_if, get_none}
+use Rattle.rule_parts.proofs.PartForms.{text_same, truth_same, inner_same, item_same, member_same, object_same, list_same}
 
 -- ---- transforms
 

@@ -12,7 +12,8 @@ use Rattle.rule_parts.specs.declared.part.RulePart.{RulePart}
 use Rattle.rule_parts.specs.declared.part.RulePart.TheVariants as part
 use Rattle.rule_parts.specs.Parts.{wanted_at, item_of, member_of, accepts_at, KeptAs}
 use Rattle.json_fields.specs.Shapes.{Kept, KeptMembers}
-use Rattle.rule_parts.proofs.PartForms.{none_if, get_none, inner_same, item_same, text_same, truth_same, number_same, member_same, list_same}
+use Rattle.json_fields.proofs.Forms.{none_if, get_none}
+use Rattle.rule_parts.proofs.PartForms.{inner_same, item_same, text_same, truth_same, number_same, member_same, list_same}
 
 -- ---- forms
 

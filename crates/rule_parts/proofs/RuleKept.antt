@@ -56,7 +56,7 @@ rule_same kind is_taken n d e h =
     let action = member_same part.Rule part.Action (codes "action") (action_in (groups_at d)) refl (λ _. refl) refl (action_same (groups_at d)) n d e h in
     rw (numbers, fields, frames, action)
 
-reads_as : (n : ℕ) (d e : Data) → KeptAs n part.Rule d e → ReadsAs e d
+pub reads_as : (n : ℕ) (d e : Data) → KeptAs n part.Rule d e → ReadsAs e d
 reads_as n d e h = record {
   rule = λ kind is_taken. rule_same kind is_taken n d e h;
   id = id_same n d e h;

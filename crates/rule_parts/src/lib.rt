@@ -15,7 +15,7 @@ ghost use Rattle.rule_parts.specs.ReadsAs.{ReadsAs};
 
 use json::Reader;
 use json_fields::{Fault, next_shaped};
-use part::RulePart;
+pub use part::RulePart;
 use serde_json::Value;
 use std::alloc::Global;
 

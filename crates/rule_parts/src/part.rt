@@ -6,27 +6,44 @@ ghost use Rattle.rule_parts.specs.Parts.{wanted_at, item_of, member_of, rule_mem
 use json_fields::{Shape, Wanted};
 use serde_json::Value;
 
-// A part of a rule. The values that are read there are its form.
+/// A part of a rule, as a form: what is read there, and the parts that it holds.
 #[derive(Clone, Copy, Debug, PartialEq, Eq, Drop)]
-pub(crate) enum RulePart {
+pub enum RulePart {
+    /// A rule.
     Rule,
+    /// Its condition.
     Condition,
+    /// Tests of response headers.
     HeaderTests,
+    /// One of them.
     HeaderTest,
+    /// The action of a rule.
     Action,
+    /// Where it redirects to.
     Redirect,
+    /// How it changes the URL.
     Transform,
+    /// How it changes the query.
     QueryTransform,
+    /// The parameters of the query that are set.
     QueryPairs,
+    /// One of them.
     QueryPair,
+    /// Changes of headers.
     HeaderChanges,
+    /// One of them.
     HeaderChange,
+    /// A list of texts.
     Texts,
+    /// A text.
     Text,
+    /// A list of numbers.
     Numbers,
+    /// A number.
     Number,
+    /// A truth value.
     Truth,
-    // What counts is that it is there.
+    /// Any value: what counts is that it is there.
     Presence,
 }
 

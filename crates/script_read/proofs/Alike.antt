@@ -1,7 +1,7 @@
--- An update but for its rules is read of some members of its line, so an object with those reads as the whole.
-use Rattle.std.proofs.Common.{◌≡◌, ℕ, List, Some, None, Result, Ok, Err, refl, sym, ap, ◌∙◌, subst}
-use Rattle.std.specs.Prelude.{codes, option_and_then}
-use Rattle.std.specs.Borrow.{Bor}
+-- What was kept of a line reads as the updates that the whole reads as.
+use Rattle.std.proofs.Common.{◌≡◌, ℕ, List, Option, Some, None, Result, Ok, Err, sym, ap, ◌∙◌}
+use Rattle.std.specs.Prelude.{Vec}
+use Rattle.std.specs.declared.alloc.Global.{Global}
 use Rattle.std.specs.Result.{IfOk}
 use Rattle.std.specs.Str.{IsUtf8}
 use Rattle.serde_json.specs.Read.{read}
@@ -10,138 +10,78 @@ use Rattle.serde_json.specs.declared.value.Value.{Value}
 use Rattle.json_spec.specs.Json.{tree_of}
 use Rattle.json_spec.proofs.Trees.{tree_of_read}
 use Rattle.json_fields.specs.declared.tree.Fault.{Fault}
-use Rattle.serde_json.specs.Data.{Data, null, boolean, number, string, array, object}
-use Rattle.serde_json.specs.Find.{get, as_str, as_array}
+use Rattle.serde_json.specs.Data.{Data, Items}
 use Rattle.rule_spec.specs.declared.rule_refusal.RuleRefusal.{RuleRefusal}
 use Rattle.rule_spec.specs.declared.rule_refusal.RuleRefusal.TheVariants as rule
 use Rattle.rule_spec.specs.declared.placed_refusal.PlacedRefusal.{PlacedRefusal}
-use Rattle.json_spec.specs.RuleFields.{as_texts}
-use Rattle.load_spec.specs.Manifest.{passing}
-use Rattle.json_fields.specs.Chosen.{GivesThose}
 use Rattle.line_spec.specs.declared.command_name.UpdateName.{UpdateName}
 use Rattle.line_spec.specs.declared.command_name.UpdateName.TheVariants as name
-use Rattle.line_spec.specs.declared.update_field.UpdateField.{UpdateField}
-use Rattle.line_spec.specs.declared.update_field.UpdateField.TheVariants as field
+use Rattle.line_spec.specs.declared.line_fault.LineFault.{LineFault}
+use Rattle.line_spec.specs.declared.line_fault.LineFault.TheVariants as line
 use Rattle.line_spec.specs.declared.update_fault.UpdateFault.{UpdateFault}
 use Rattle.line_spec.specs.declared.update_fault.UpdateFault.TheVariants.{BadField, RuleRefused, NoMemory}
 use Rattle.line_spec.specs.Batch.{elements_of, batch_in, updates_at}
-use Rattle.line_spec.specs.CommandPath.{field_name}
-use Rattle.line_spec.specs.Names.{is_extension_name}
-use Rattle.line_spec.specs.Updates.{needed, list_given, as_wholes, as_rule_ids, sets_of_list, access_from, text_in, texts_in, wholes_in, remove_in, sets_in, access_in, rulesets_in, static_in, new_name_in, install_in, uninstall_in, update_in}
-use Rattle.line_spec.specs.Stops.{StopsInUpdate, StopsInSetList}
+use Rattle.line_spec.specs.Updates.{update_in}
+use Rattle.line_spec.specs.Stops.{StopsInUpdate}
 use Rattle.script_read.specs.Apart.{added_by}
-use Rattle.script_read.specs.Chosen.{HasKey, HasUpdateKeys, IsKept, SpeaksAs}
+use Rattle.update_parts.specs.SpeaksAs.{SpeaksAs}
 use Rattle.script_read.specs.Faults.{MayStopBy, MayRefuse}
+use Rattle.script_read.specs.Stops.{StopsInEach, StopsInList}
+use Rattle.update_parts.specs.Batch.{ReadAsAll, HoldsList, HoldsBatch, items_kept}
 
--- ---- what reads as the whole
+-- ---- the whole text
 
--- what is no object has no members, and nothing is chosen of it
-no_object : (d e : Data) → e ≡ null → ((k : List ℕ) → get k d ≡ None) → SpeaksAs e d
-no_object d e h none = record {
-  field = λ f other. ap (get (field_name f)) h ∙ sym (none (field_name f));
-}
+pub tree_speaks : (bytes text : List ℕ) (result : Result Value Fault) → text ≡ bytes → IsUtf8 bytes
+    → IfOk result (λ kept. (d : Data) × (read text ≡ Some d) × SpeaksAs (view kept) d) → IfOk result (λ kept. (d : Data) × (tree_of bytes ≡ Some d) × SpeaksAs (view kept) d)
+tree_speaks bytes text (Ok kept) same utf8 h = (h.0, sym (tree_of_read bytes h.0 utf8 (ap read (sym same) ∙ h.1)), h.2)
+tree_speaks bytes text (Err fault) same utf8 h = tt
 
-has_field : (names : List (Bor (List ℕ))) → HasUpdateKeys names → (f : UpdateField) → IsKept f → HasKey names (field_name f)
-has_field names keys field.Extension kept = keys.extension
-has_field names keys field.RemoveRuleIds kept = keys.remove
-has_field names keys field.AddRules kept = absurd kept
-has_field names keys field.DisableRulesetIds kept = keys.disable_sets
-has_field names keys field.EnableRulesetIds kept = keys.enable_sets
-has_field names keys field.RulesetId kept = keys.set
-has_field names keys field.DisableRuleIds kept = keys.disable
-has_field names keys field.EnableRuleIds kept = keys.enable
-has_field names keys field.Rulesets kept = keys.sets
-has_field names keys field.HostPermissions kept = keys.access
-
-pub speaks_as : (names : List (Bor (List ℕ))) (d e : Data) → HasUpdateKeys names → GivesThose names d e → SpeaksAs e d
-speaks_as names null e keys h = no_object null e h (λ k. refl)
-speaks_as names (boolean b) e keys h = no_object (boolean b) e h (λ k. refl)
-speaks_as names (number n) e keys h = no_object (number n) e h (λ k. refl)
-speaks_as names (string s) e keys h = no_object (string s) e h (λ k. refl)
-speaks_as names (array ds) e keys h = no_object (array ds) e h (λ k. refl)
-speaks_as names (object ms) e keys h = record {
-  field = λ f kept. ap (get (field_name f)) h.1 ∙ h.2 (field_name f) (has_field names keys f kept);
-}
-
-pub tree_speaks : (bytes text : List ℕ) (names : List (Bor (List ℕ))) (result : Result Value Fault) → text ≡ bytes → IsUtf8 bytes → HasUpdateKeys names
-    → IfOk result (λ kept. (d : Data) × (read text ≡ Some d) × GivesThose names d (view kept)) → IfOk result (λ kept. (d : Data) × (tree_of bytes ≡ Some d) × SpeaksAs (view kept) d)
-tree_speaks bytes text names (Ok kept) same utf8 keys h =
-    (h.0, sym (tree_of_read bytes h.0 utf8 (ap read (sym same) ∙ h.1)), speaks_as names h.0 (view kept) keys h.2)
-tree_speaks bytes text names (Err fault) same utf8 keys h = tt
+pub tree_holds : (bytes text : List ℕ) (result : Result (Option (Vec Value Global)) Fault) → text ≡ bytes → IsUtf8 bytes
+    → IfOk result (λ kept. (d : Data) × (read text ≡ Some d) × HoldsBatch (items_kept kept) d) → IfOk result (λ kept. (d : Data) × (tree_of bytes ≡ Some d) × HoldsBatch (items_kept kept) d)
+tree_holds bytes text (Ok kept) same utf8 h = (h.0, sym (tree_of_read bytes h.0 utf8 (ap read (sym same) ∙ h.1)), h.2)
+tree_holds bytes text (Err fault) same utf8 h = tt
 
 -- ---- the list of updates
 
-no_updates : (d e : Data) → e ≡ null → get (codes "updates") d ≡ None → updates_at e ≡ updates_at d
-no_updates d e h none = ap updates_at h ∙ sym (ap (option_and_then as_array) none)
+list_alike : (kept found : Option Items) → HoldsList kept found → elements_of kept ≡ elements_of found
+list_alike None found h = sym h
+list_alike (Some es) None h = absurd h
+list_alike (Some es) (Some ds) h = rw (h.0.count, h.0.elements 0)
 
-pub lists_as : (names : List (Bor (List ℕ))) (d e : Data) → HasKey names (codes "updates") → GivesThose names d e → updates_at e ≡ updates_at d
-lists_as names null e key h = no_updates null e h refl
-lists_as names (boolean b) e key h = no_updates (boolean b) e h refl
-lists_as names (number n) e key h = no_updates (number n) e h refl
-lists_as names (string s) e key h = no_updates (string s) e h refl
-lists_as names (array ds) e key h = no_updates (array ds) e h refl
-lists_as names (object ms) e key h = ap updates_at h.1 ∙ ap (option_and_then as_array) (h.2 (codes "updates") key)
-
-pub tree_lists : (bytes text : List ℕ) (names : List (Bor (List ℕ))) (result : Result Value Fault) → text ≡ bytes → IsUtf8 bytes → HasKey names (codes "updates")
-    → IfOk result (λ kept. (d : Data) × (read text ≡ Some d) × GivesThose names d (view kept)) → IfOk result (λ kept. (d : Data) × (tree_of bytes ≡ Some d) × (updates_at (view kept) ≡ updates_at d))
-tree_lists bytes text names (Ok kept) same utf8 key h =
-    (h.0, sym (tree_of_read bytes h.0 utf8 (ap read (sym same) ∙ h.1)), lists_as names h.0 (view kept) key h.2)
-tree_lists bytes text names (Err fault) same utf8 key h = tt
-
-pub batch_alike : (e d : Data) → updates_at e ≡ updates_at d → batch_in e ≡ batch_in d
+pub batch_alike : (kept : Option Items) (d : Data) → HoldsBatch kept d → elements_of kept ≡ batch_in d
 unfolding batch_in
-batch_alike e d same = ap elements_of same
+batch_alike kept d h = list_alike kept (updates_at d) h
+
+each_stops : (es ds : Items) (fault : LineFault) → ReadAsAll es ds → StopsInEach 0 es fault → StopsInEach 0 ds fault
+each_stops es ds (line.InBatch place refusal) all s = all.stops 0 place refusal s
+each_stops es ds line.BadJson all s = s
+each_stops es ds (line.BadCommand path) all s = s
+each_stops es ds (line.BadUrl path why) all s = s
+each_stops es ds (line.RuleRefused refusal) all s = s
+each_stops es ds line.NoMemory all s = s
+
+pub list_stops : (kept found : Option Items) (fault : LineFault) → HoldsList kept found → StopsInList kept fault → StopsInList found fault
+list_stops None found fault h s = absurd s
+list_stops (Some es) None fault h s = absurd h
+list_stops (Some es) (Some ds) fault h s = (h.1, each_stops es ds fault h.0 s.1)
 
 -- ---- updates
 
 module _ (e d : Data) (alike : SpeaksAs e d) where
-  pub text_alike : (f : UpdateField) → IsKept f → text_in f e ≡ text_in f d
-  unfolding text_in
-  text_alike f kept = ap (λ v. needed f (option_and_then as_str v)) (alike.field f kept)
-
-  texts_alike : (f : UpdateField) → IsKept f → texts_in f e ≡ texts_in f d
-  unfolding texts_in
-  texts_alike f kept = ap (list_given f as_texts) (alike.field f kept)
-
-  wholes_alike : (f : UpdateField) → IsKept f → wholes_in f e ≡ wholes_in f d
-  unfolding wholes_in
-  wholes_alike f kept = ap (list_given f as_wholes) (alike.field f kept)
-
-  pub remove_alike : remove_in e ≡ remove_in d
-  unfolding remove_in
-  remove_alike = ap (list_given field.RemoveRuleIds as_rule_ids) (alike.field field.RemoveRuleIds tt)
-
-  sets_alike : sets_in e ≡ sets_in d
-  unfolding sets_in
-  sets_alike = ap (λ v. sets_of_list (option_and_then as_array v)) (alike.field field.Rulesets tt)
-
-  access_alike : access_in e ≡ access_in d
-  unfolding access_in
-  access_alike = ap access_from (alike.field field.HostPermissions tt)
-
-  new_name_alike : new_name_in e ≡ new_name_in d
-  unfolding new_name_in
-  new_name_alike = ap (λ v. needed field.Extension (option_and_then (passing is_extension_name) (option_and_then as_str v))) (alike.field field.Extension tt)
-
   pub update_alike : (which : UpdateName) → added_by which ≡ None → update_in which e ≡ update_in which d
-  unfolding rulesets_in static_in install_in uninstall_in
   update_alike name.Dynamic none = absurd (cc)
   update_alike name.Session none = absurd (cc)
-  update_alike name.Rulesets none = rw (text_alike field.Extension tt, texts_alike field.DisableRulesetIds tt, texts_alike field.EnableRulesetIds tt)
-  update_alike name.Static none = rw (text_alike field.Extension tt, text_alike field.RulesetId tt, wholes_alike field.DisableRuleIds tt, wholes_alike field.EnableRuleIds tt)
-  update_alike name.Install none = rw (new_name_alike, sets_alike, access_alike)
-  update_alike name.Uninstall none = rw (text_alike field.Extension tt)
+  update_alike name.Rulesets none = alike.rulesets
+  update_alike name.Static none = alike.static
+  update_alike name.Install none = alike.install
+  update_alike name.Uninstall none = alike.uninstall
 
   stops_alike : (which : UpdateName) (refusal : PlacedRefusal) → added_by which ≡ None → StopsInUpdate which e refusal → StopsInUpdate which d refusal
   stops_alike name.Dynamic refusal none s = absurd (cc)
   stops_alike name.Session refusal none s = absurd (cc)
   stops_alike name.Rulesets refusal none s = s
   stops_alike name.Static refusal none s = s
-  stops_alike name.Install refusal none s = record {
-    extension = s.extension;
-    named = sym new_name_alike ∙ s.named;
-    stops = subst (λ found. StopsInSetList (option_and_then as_array found) refusal) (alike.field field.Rulesets tt) s.stops;
-  }
+  stops_alike name.Install refusal none s = alike.stops refusal s
   stops_alike name.Uninstall refusal none s = s
 
   refused_by : (which : UpdateName) (rose : Type 0) (refusal : PlacedRefusal) (cause : RuleRefusal) → added_by which ≡ None → MayStopBy (update_in which e) (rose × StopsInUpdate which e refusal) refusal cause

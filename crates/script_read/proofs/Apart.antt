@@ -24,7 +24,7 @@ use Rattle.rule_read.specs.Reading.{MayStop}
 use Rattle.script_read.specs.Apart.{added_at, add_from, replacing_with, StopsApart, IsKeptOf, added_by, update_of_tree, StopsInTheUpdate}
 use Rattle.script_read.specs.Faults.{MayStopBy, MayRefuse, IsFaultOf, fault_of}
 use Rattle.script_read.specs.Updates.{made_by}
-use Rattle.script_read.proofs.Alike.{text_alike, remove_alike, update_alike, refused_alike}
+use Rattle.script_read.proofs.Alike.{update_alike, refused_alike}
 use Rattle.script_read.proofs.Chains.{stops_within, stops_plainly}
 use Rattle.script_read.proofs.RulesRead.{rules_refused}
 
@@ -117,14 +117,14 @@ module _ (kept : Data) (tree : Option Data) (of : IsKeptOf kept tree) where
   apart_same : (kind : RuleKind) (make : List ℕ → List ℕ → List Rule → Update) → replacing_with kind make kept tree ≡ replacing_in kind make of.d
   unfolding replacing_with replacing_in add_from add_in
   apart_same kind make =
-      rw (text_alike kept of.d of.alike field.Extension tt, remove_alike kept of.d of.alike, ap added_at of.is)
+      rw (of.alike.extension, of.alike.remove, ap added_at of.is)
 
   apart_stops : (kind : RuleKind) (refusal : PlacedRefusal) → StopsApart kind kept tree refusal → StopsInAdded kind of.d refusal
   apart_stops kind refusal s = record {
     extension = s.extension;
-    named = sym (text_alike kept of.d of.alike field.Extension tt) ∙ s.named;
+    named = sym of.alike.extension ∙ s.named;
     remove = s.remove;
-    removed = sym (remove_alike kept of.d of.alike) ∙ s.removed;
+    removed = sym of.alike.remove ∙ s.removed;
     stops = subst (λ found. StopsInTree kind found refusal) (ap added_at of.is) s.stops;
   }
 

@@ -15,6 +15,6 @@ pub mod LinesRead
 pub mod BatchRead
 pub mod Ids
 pub mod WholeLines
-pub mod BatchIn
 pub mod Alike
+pub mod BatchIn
 pub mod Apart

@@ -16,7 +16,7 @@ use Rattle.line_spec.specs.declared.update_fault.UpdateFault.TheVariants.{NoMemo
 use Rattle.line_spec.specs.Reading.{and_then}
 use Rattle.line_spec.specs.Updates.{value_at, rules_given, text_in, remove_in, update_in}
 use Rattle.line_spec.specs.Stops.{StopsInUpdate}
-use Rattle.script_read.specs.Chosen.{SpeaksAs}
+use Rattle.update_parts.specs.SpeaksAs.{SpeaksAs}
 
 -- the rules to add stand here
 abbrev pub added_at : Option Data → Option Data

@@ -1,5 +1,5 @@
 // Batches of updates.
-ghost use Rattle.std.specs.Prelude.{◌≡◌, ◌<◌, ◌≤◌, length, Ok, IfOk, IfErr, option_map};
+ghost use Rattle.std.specs.Prelude.{◌≡◌, ◌<◌, ◌≤◌, length, Ok, IfOk, IfErr};
 ghost use Rattle.serde_json.specs.View.{view, items_view};
 ghost use Rattle.dnr_base.specs.Faults.{Rose};
 ghost use Rattle.line_spec.specs.Batch as spec;
@@ -7,6 +7,7 @@ ghost use Rattle.line_spec.specs.CommandName as names;
 ghost use Rattle.line_spec.specs.IsFault.{MayRefuse, IsCalm};
 ghost use Rattle.ruleset_store.specs.Seen.{update_seen, updates_seen};
 ghost use Rattle.script_read.specs.Stops.{StopsInElement, StopsInList, StopsInEach};
+ghost use Rattle.update_parts.specs.Batch.{items_kept};
 
 use crate::updates::update_in;
 use dnr_base::Items;
@@ -15,40 +16,28 @@ use regex_host::RegexHost;
 use ruleset_store::Update;
 use serde_json::Value;
 use std::alloc::Global;
+use update_parts::MAX_BATCH;
 
-// The most updates of a batch.
-const MAX_BATCH: usize = 256;
-
-// The updates of a batch.
-#[tactic(auto, using(crate::proofs::Limits::count_is), unfolding(line_spec::specs::Batch::batch_in))]
+// The updates of a batch, of which this list was kept.
+#[tactic(auto, using(crate::proofs::Limits::count_is))]
 pub(crate) fn batch_in<H: RegexHost>(
     alloc: Global,
-    tree: &Value,
+    kept: &Option<Vec<Value>>,
     host: &mut H,
 ) -> Result<Items<Update>, LineFault>
-    ensures read { IfOk result (λ updates. spec.batch_in (view tree.now) ≡ Ok (updates_seen updates)) }
+    ensures read { IfOk result (λ updates. spec.elements_of (items_kept kept.now) ≡ Ok (updates_seen updates)) }
     ensures some { IfOk result (λ updates. 0 < length updates) }
     ensures few { IfOk result (λ updates. length updates ≤ spec.max_batch) }
-    ensures refused { IfErr result (MayRefuse (spec.batch_in (view tree.now)) (λ fault.
-        Rose (H.faults host.old) (H.faults host.new) × StopsInList (spec.updates_at (view tree.now)) fault)) }
+    ensures refused { IfErr result (MayRefuse (spec.elements_of (items_kept kept.now)) (λ fault.
+        Rose (H.faults host.old) (H.faults host.new) × StopsInList (items_kept kept.now) fault)) }
     ensures calm { IsCalm (H.faults host.old) (H.faults host.new) result }
     ensures later { H.faults host.old ≤ H.faults host.new }
 {
-    match updates_at(tree) {
+    match kept {
         Some(values) if 1 <= values.len() && values.len() <= MAX_BATCH => {
-            each_update(alloc, values, host)
+            each_update(alloc, values.as_slice(), host)
         }
         _ => Err(LineFault::BadCommand(CommandPath::Updates)),
-    }
-}
-
-// The list of updates, if there is one.
-fn updates_at(tree: &Value) -> Option<&[Value]>
-    ensures { option_map (λ s. items_view s.now) result ≡ spec.updates_at (view tree.now) }
-{
-    match tree.get(CommandPath::Updates.name()) {
-        Some(Value::Array(values)) => Some(values.as_slice()),
-        _ => None,
     }
 }
 

@@ -1,20 +1,20 @@
-// The members of a line of which updates are read. Any other member is passed over without memory.
-ghost use Rattle.std.specs.Prelude.{◌≡◌, Err, IfOk, None, Some, codes};
+// The updates of a line. What has another form than theirs is passed over without memory.
+ghost use Rattle.std.specs.Prelude.{◌≡◌, Err, IfOk, None, Some};
 ghost use Rattle.serde_json.specs.Data.{Data};
 ghost use Rattle.serde_json.specs.Read.{read};
 ghost use Rattle.serde_json.specs.View.{view};
 ghost use Rattle.json_spec.specs.Json.{tree_of};
-ghost use Rattle.json_fields.specs.Chosen.{GivesThose};
-ghost use Rattle.line_spec.specs.Batch.{updates_at};
-ghost use Rattle.script_read.specs.Chosen.{HasKey, HasUpdateKeys, SpeaksAs};
+ghost use Rattle.update_parts.specs.Batch.{items_kept, HoldsBatch};
+ghost use Rattle.update_parts.specs.SpeaksAs.{SpeaksAs};
 
 use json::{Reader, Scratch};
-use json_fields::{Fault, next_chosen};
+use json_fields::Fault;
 use serde_json::Value;
 use std::alloc::Global;
 use std::str;
+use update_parts::{next_batch, next_update};
 
-// Reads the members of an update, but for the rules to add, of the object that stands alone in a line.
+// Reads the update, but for the rules to add, of the object that stands alone in a line.
 pub(crate) fn read_update(
     alloc: Global,
     bytes: &[u8],
@@ -23,64 +23,53 @@ pub(crate) fn read_update(
     ensures ok { IfOk result (λ kept. (d : Data) × (tree_of bytes.now ≡ Some d) × SpeaksAs (view kept) d) }
     ensures bad { result ≡ Err Fault.BadJson → tree_of bytes.now ≡ None }
 {
-    let names = update_keys();
     match str::from_utf8(bytes) {
-        Ok(text) => text_chosen(alloc, text, scratch, &names),
+        Ok(text) => text_update(alloc, text, scratch),
         Err(_) => Err(Fault::BadJson),
     }
 }
 
-// Reads its list of updates.
-pub(crate) fn read_batch(alloc: Global, bytes: &[u8], scratch: &mut Scratch) -> Result<Value, Fault>
-    ensures ok { IfOk result (λ kept. (d : Data) × (tree_of bytes.now ≡ Some d) × (updates_at (view kept) ≡ updates_at d)) }
-    ensures bad { result ≡ Err Fault.BadJson → tree_of bytes.now ≡ None }
-{
-    let names = batch_keys();
-    match str::from_utf8(bytes) {
-        Ok(text) => text_chosen(alloc, text, scratch, &names),
-        Err(_) => Err(Fault::BadJson),
-    }
-}
-
-// The members of these names of the object that is the text.
-fn text_chosen(
-    alloc: Global,
-    text: &str,
-    scratch: &mut Scratch,
-    names: &[&str],
-) -> Result<Value, Fault>
-    ensures ok { IfOk result (λ kept. (d : Data) × (read text.now ≡ Some d) × GivesThose names.now d (view kept)) }
+// The update of the object that is the text.
+fn text_update(alloc: Global, text: &str, scratch: &mut Scratch) -> Result<Value, Fault>
+    ensures ok { IfOk result (λ kept. (d : Data) × (read text.now ≡ Some d) × SpeaksAs (view kept) d) }
     ensures bad { result ≡ Err Fault.BadJson → read text.now ≡ None }
 {
     let Ok(mut reader) = Reader::new(text, scratch) else {
         return Err(Fault::NoMemory);
     };
-    let kept = next_chosen(alloc, &mut reader, 127, names)?;
+    let kept = next_update(alloc, &mut reader, 127)?;
     if reader.next().is_some() {
         return Err(Fault::BadJson);
     }
     Ok(kept)
 }
 
-// The keys of an update, but for that of the rules to add.
-fn update_keys() -> [&'static str; 9]
-    ensures { HasUpdateKeys result }
+// Reads the updates of its list, where it has one that is no longer than a batch.
+pub(crate) fn read_batch(
+    alloc: Global,
+    bytes: &[u8],
+    scratch: &mut Scratch,
+) -> Result<Option<Vec<Value>>, Fault>
+    ensures ok { IfOk result (λ kept. (d : Data) × (tree_of bytes.now ≡ Some d) × HoldsBatch (items_kept kept) d) }
+    ensures bad { result ≡ Err Fault.BadJson → tree_of bytes.now ≡ None }
 {
-    [
-        "extension",
-        "removeRuleIds",
-        "disableRulesetIds",
-        "enableRulesetIds",
-        "rulesetId",
-        "disableRuleIds",
-        "enableRuleIds",
-        "rulesets",
-        "hostPermissions",
-    ]
+    match str::from_utf8(bytes) {
+        Ok(text) => text_batch(alloc, text, scratch),
+        Err(_) => Err(Fault::BadJson),
+    }
 }
 
-fn batch_keys() -> [&'static str; 1]
-    ensures { HasKey result (codes "updates") }
+// The updates of the object that is the text.
+fn text_batch(alloc: Global, text: &str, scratch: &mut Scratch) -> Result<Option<Vec<Value>>, Fault>
+    ensures ok { IfOk result (λ kept. (d : Data) × (read text.now ≡ Some d) × HoldsBatch (items_kept kept) d) }
+    ensures bad { result ≡ Err Fault.BadJson → read text.now ≡ None }
 {
-    ["updates"]
+    let Ok(mut reader) = Reader::new(text, scratch) else {
+        return Err(Fault::NoMemory);
+    };
+    let kept = next_batch(alloc, &mut reader, 127)?;
+    if reader.next().is_some() {
+        return Err(Fault::BadJson);
+    }
+    Ok(kept)
 }

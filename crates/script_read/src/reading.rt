@@ -338,12 +338,12 @@ fn batch_of<H: RegexHost>(
     ensures calm { IsCalm (H.faults host.old) (H.faults host.new) result }
     ensures later { H.faults host.old ≤ H.faults host.new }
 {
-    let tree = match read_batch(alloc, bytes, scratch) {
-        Ok(tree) => tree,
+    let kept = match read_batch(alloc, bytes, scratch) {
+        Ok(kept) => kept,
         Err(Fault::BadJson) => return Err(LineFault::BadJson),
         Err(Fault::NoMemory) => return Err(LineFault::NoMemory),
     };
-    match batch_in(alloc, &tree, host) {
+    match batch_in(alloc, &kept, host) {
         Ok(updates) => Ok(Command::Batch(updates)),
         Err(fault) => Err(fault),
     }

@@ -5,7 +5,7 @@ use Rattle.script_read.proofs.chosen.read_update.Goals as goal
 
 pub returns-in-Ok-clause-ok : goal.returns-in-Ok-clause-ok
 returns-in-Ok-clause-ok c =
-    tree_speaks c.args.bytes.now c.in-Ok.text.now _ c.text_chosen.result c.in-Ok.ensures.cases.0 c.in-Ok.ensures.cases.1 c.update_keys-names.ensures c.text_chosen.ensures.ok
+    tree_speaks c.args.bytes.now c.in-Ok.text.now c.text_update.result c.in-Ok.ensures.cases.0 c.in-Ok.ensures.cases.1 c.text_update.ensures.ok
 
 pub returns-in-Err-clause-bad : goal.returns-in-Err-clause-bad
 returns-in-Err-clause-bad c = λ _. sym (tree_of_none c.args.bytes.now (λ utf8. absurd (c.in-Err.ensures.cases.0 utf8)))

@@ -7,7 +7,7 @@ use Rattle.line_spec.specs.Line.{command_of_tree}
 use Rattle.line_spec.specs.Stops.{StopsIn}
 use Rattle.ruleset_store.specs.Seen.{update_seen}
 use Rattle.script_read.specs.Apart.{update_of_tree, StopsInTheUpdate}
-use Rattle.script_read.specs.Chosen.{SpeaksAs}
+use Rattle.update_parts.specs.SpeaksAs.{SpeaksAs}
 use Rattle.script_read.specs.Faults.{MayRefuse}
 use Rattle.script_read.proofs.LinesRead.{same_tree, update_read, update_stops}
 use Rattle.script_read.proofs.reading.update_of.Goals as goal

@@ -1,10 +1,9 @@
 use Rattle.std.proofs.Common.{◌≡◌, length, ℕ, ◌≤◌}
 use Rattle.json.specs.Json.{value, members}
-use Rattle.serde_json.specs.Data.{Members, no_members}
+use Rattle.serde_json.specs.Data.{Members, no_members, object}
 use Rattle.serde_json.specs.Read.{of_members, converted}
-use Rattle.serde_json.specs.View.{members_view}
-use Rattle.json_fields.specs.Chosen.{HasThose}
-use Rattle.json_fields.proofs.chosen.chosen_members.Given as goal
+use Rattle.update_parts.specs.Batch.{items_kept, HoldsBatch}
+use Rattle.update_parts.proofs.batch.updates_of.Given as goal
 
 abbrev pub invariant-members : goal.invariant-members
 invariant-members l = record {
@@ -12,7 +11,7 @@ invariant-members l = record {
   found : Members;
   enough : length l.reader ≤ left;
   same : converted (λ ms. of_members ms no_members) (members (value l.depth) (length l.initial.reader) l.initial.reader) ≡ converted (λ ms. of_members ms found) (members (value l.depth) left l.reader);
-  holds : HasThose l.names (members_view l.kept.entries) found;
+  holds : HoldsBatch (items_kept l.kept) (object found);
   shorter : length l.reader ≤ length l.initial.reader;
 }
 

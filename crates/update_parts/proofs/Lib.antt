@@ -1,0 +1,6 @@
+mod InRules
+mod RulesKept
+mod SetsKept
+mod UpdateKept
+mod ElementKept
+mod BatchKept
