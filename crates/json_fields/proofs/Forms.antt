@@ -1,5 +1,5 @@
 -- What is read of a value stays, where only what has its form was kept.
-use Rattle.std.proofs.Common.{◌≡◌, ℕ, zero, suc, List, ◌∷◌, Bool, true, false, Option, Some, None, option_map, refl, sym, ap, ap₂, ◌∙◌, subst}
+use Rattle.std.proofs.Common.{◌≡◌, ℕ, zero, suc, List, ◌∷◌, Bool, true, false, Option, Some, None, option_map, refl, sym, ap, ap₂, ◌∙◌, subst, ◌⊎◌, inl, inr}
 use Rattle.std.specs.Prelude.{is_some, option_and_then}
 use Rattle.serde_json.specs.Data.{Data, null, boolean, number, string, array, object, Items, no_items, item, Members}
 use Rattle.serde_json.specs.Find.{get, get_member, as_null, as_str, as_bool, as_number, as_array, as_object}
@@ -29,10 +29,10 @@ null_if (string s) e = absurd (cc)
 null_if (array ds) e = absurd (cc)
 null_if (object ms) e = absurd (cc)
 
--- an item that is not accepted is not read
-if_not : {X : Type 0} (form : Data → Option X) (some : Data) (b : Bool) → form null ≡ None → (b ≡ false → form some ≡ None) → form (kept_if b some) ≡ form some
-if_not form some true none refuses = refl
-if_not form some false none refuses = none ∙ sym (refuses refl)
+-- an object that is not accepted is read as null
+if_not : {Y : Type 0} (reading : Data → Y) (some : Data) (b : Bool) → (b ≡ false → reading some ≡ reading null) → reading (kept_if b some) ≡ reading some
+if_not reading some true refuses = refl
+if_not reading some false refuses = sym (refuses refl)
 
 one_same : {X : Type 0} (form : Data → Option X) (d e : Data) (ds es : Items) (b : Bool) (others : Type 0) → form null ≡ None → (b ≡ true → e ≡ null) → EndsIf b es others
     → (others → each form es ≡ each form ds) → form e ≡ form d → each form (item e es) ≡ each form (item d ds)
@@ -161,17 +161,41 @@ module _ {S : Type 0} (wants : S → Wanted) (item_shape : S → S) (member_shap
       let k = whole_kept o n ms e is all h in
       ap (λ x. told (as_object x)) k.1 ∙ law k.0 ms
 
+  -- what is no object, or not accepted, is read as null
+  pub value_same : {Y : Type 0} (o : S) (reading : Data → Y) → wants o ≡ wanted.Object → ((d : Data) → as_object d ≡ None → reading d ≡ reading null) → ((d : Data) → accepts o d ≡ false → reading d ≡ reading null)
+      → ((n : ℕ) (ms some : Members) → KeptMembers (KeptAs n) (member_shape o) ms some → reading (object some) ≡ reading (object ms)) → (n : ℕ) (d e : Data) → KeptAs n o d e → reading e ≡ reading d
+  value_same o reading is other refuses law n null e h = ap reading (other_kept o n null e is refl h)
+  value_same o reading is other refuses law n (boolean b) e h = ap reading (other_kept o n (boolean b) e is refl h) ∙ sym (other (boolean b) refl)
+  value_same o reading is other refuses law n (number x) e h = ap reading (other_kept o n (number x) e is refl h) ∙ sym (other (number x) refl)
+  value_same o reading is other refuses law n (string s) e h = ap reading (other_kept o n (string s) e is refl h) ∙ sym (other (string s) refl)
+  value_same o reading is other refuses law n (array ds) e h = ap reading (other_kept o n (array ds) e is refl h) ∙ sym (other (array ds) refl)
+  value_same o reading is other refuses law zero (object ms) e h = absurd h
+  value_same o reading is other refuses law (suc n) (object ms) e h =
+      let k = object_kept o n ms e is h in
+      ap reading k.1 ∙ if_not reading (object k.0) (accepts o (object k.0)) (refuses (object k.0)) ∙ law n ms k.0 k.2
+
   pub item_same : {X : Type 0} (o : S) (form : Data → Option X) → wants o ≡ wanted.Object → ((d : Data) → as_object d ≡ None → form d ≡ None) → ((d : Data) → accepts o d ≡ false → form d ≡ None)
       → ((n : ℕ) (ms some : Members) → KeptMembers (KeptAs n) (member_shape o) ms some → form (object some) ≡ form (object ms)) → (n : ℕ) (d e : Data) → KeptAs n o d e → form e ≡ form d
-  item_same o form is other refuses law n null e h = ap form (other_kept o n null e is refl h)
-  item_same o form is other refuses law n (boolean b) e h = ap form (other_kept o n (boolean b) e is refl h) ∙ other null refl ∙ sym (other (boolean b) refl)
-  item_same o form is other refuses law n (number x) e h = ap form (other_kept o n (number x) e is refl h) ∙ other null refl ∙ sym (other (number x) refl)
-  item_same o form is other refuses law n (string s) e h = ap form (other_kept o n (string s) e is refl h) ∙ other null refl ∙ sym (other (string s) refl)
-  item_same o form is other refuses law n (array ds) e h = ap form (other_kept o n (array ds) e is refl h) ∙ other null refl ∙ sym (other (array ds) refl)
-  item_same o form is other refuses law zero (object ms) e h = absurd h
-  item_same o form is other refuses law (suc n) (object ms) e h =
+  item_same o form is other refuses law n d e h = value_same o form is (λ x k. other x k ∙ sym (other null refl)) (λ x k. refuses x k ∙ sym (other null refl)) law n d e h
+
+  -- null was kept, or an object of an object
+  abbrev pub IsNullOr : S → Data → Data → Type 0
+  IsNullOr o d e = (e ≡ null) ⊎ ((m : ℕ) × (ms : Members) × (some : Members) × (d ≡ object ms) × (e ≡ object some) × KeptMembers (KeptAs m) (member_shape o) ms some)
+
+  by_accepted : (o : S) (n : ℕ) (ms some : Members) (e : Data) (b : Bool) → e ≡ kept_if b (object some) → KeptMembers (KeptAs n) (member_shape o) ms some → IsNullOr o (object ms) e
+  by_accepted o n ms some e true is h = inr (n, ms, some, refl, is, h)
+  by_accepted o n ms some e false is h = inl is
+
+  pub null_or_object : (o : S) → wants o ≡ wanted.Object → (n : ℕ) (d e : Data) → KeptAs n o d e → IsNullOr o d e
+  null_or_object o is n null e h = inl (other_kept o n null e is refl h)
+  null_or_object o is n (boolean b) e h = inl (other_kept o n (boolean b) e is refl h)
+  null_or_object o is n (number x) e h = inl (other_kept o n (number x) e is refl h)
+  null_or_object o is n (string s) e h = inl (other_kept o n (string s) e is refl h)
+  null_or_object o is n (array ds) e h = inl (other_kept o n (array ds) e is refl h)
+  null_or_object o is zero (object ms) e h = absurd h
+  null_or_object o is (suc n) (object ms) e h =
       let k = object_kept o n ms e is h in
-      ap form k.1 ∙ if_not form (object k.0) (accepts o (object k.0)) (other null refl) (refuses (object k.0)) ∙ law n ms k.0 k.2
+      by_accepted o n ms k.0 e (accepts o (object k.0)) k.1 k.2
 
   -- ---- items of a list
 

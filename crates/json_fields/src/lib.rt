@@ -6,7 +6,6 @@
 //! last field, nothing is read here either, and of a repeated key the last value counts.
 #![tactic(auto)]
 
-mod chosen;
 mod field;
 mod fields;
 mod held;
@@ -20,7 +19,6 @@ mod shape;
 mod tests;
 mod tree;
 
-pub use chosen::next_chosen;
 pub use field::Field;
 pub use fields::{Form, read_fields, text_fields};
 pub use held::Held;

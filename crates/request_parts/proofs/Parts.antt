@@ -2,7 +2,7 @@
 use Rattle.std.proofs.Common.{◌≡◌, ℕ, zero, suc, ◌+◌, List, ◌∷◌, Bool, true, false, nat_le, Option, Some, None, Ok, codes, refl, sym, ap, ap₂, ◌∙◌, subst}
 use Rattle.std.specs.Prelude.{option_map, option_and_then}
 use Rattle.serde_json.specs.Data.{Data, null, boolean, number, string, array, object, Items, no_items, item}
-use Rattle.serde_json.specs.Find.{get, get_member, as_str, as_array, as_object}
+use Rattle.serde_json.specs.Find.{get, as_str, as_array}
 use Rattle.dnr_base.specs.declared.method.Method.TheVariants.{Get}
 use Rattle.dnr_base.specs.Request.{max_frames, max_headers}
 use Rattle.json_spec.specs.RuleFields.{each, as_method}
@@ -11,7 +11,8 @@ use Rattle.line_spec.specs.declared.command_path.CommandPath.TheVariants as path
 use Rattle.line_spec.specs.Reading.{and_then}
 use Rattle.line_spec.specs.RequestLine.{given, given_or, initiator_from, initiator_in, method_in, count_of, frame_url, frame_in, each_frame, frames_from, frames_given, header_of, header_from, as_header, few_headers, headers_given}
 use Rattle.json_fields.specs.declared.shape.Wanted.TheVariants as wanted
-use Rattle.json_fields.specs.Shapes.{Kept, KeptAt, KeptEach, KeptFew, KeptList, KeptObject, item_count, has_few, kept_text, kept_number, kept_truth}
+use Rattle.json_fields.proofs.Forms as forms
+use Rattle.json_fields.specs.Shapes.{Kept, KeptEach, KeptFew, KeptList, KeptObject, item_count, has_few, kept_text, kept_number, kept_truth}
 use Rattle.request_parts.specs.declared.part.RequestPart.{RequestPart}
 use Rattle.request_parts.specs.declared.part.RequestPart.TheVariants as part
 use Rattle.request_parts.specs.Parts.{wanted_at, item_of, member_of, accepts_at, KeptAs}
@@ -19,14 +20,7 @@ use Rattle.request_parts.specs.Parts.{wanted_at, item_of, member_of, accepts_at,
 -- ---- single values
 
 text_same : (n : ℕ) (d e : Data) → KeptAs n part.Text d e → as_str e ≡ as_str d
-text_same n null e h = ap as_str h
-text_same n (boolean b) e h = ap as_str h
-text_same n (number x) e h = ap as_str h
-text_same n (string s) e h = ap as_str h
-text_same zero (array ds) e h = absurd h
-text_same (suc n) (array ds) e h = ap as_str h
-text_same zero (object ms) e h = absurd h
-text_same (suc n) (object ms) e h = ap as_str h
+text_same n d e h = forms.text_same wanted_at item_of member_of accepts_at part.Text refl n d e h
 
 method_same : (n : ℕ) (d e : Data) → KeptAs n part.Text d e → given_or Get path.Frames as_method (Some e) ≡ given_or Get path.Frames as_method (Some d)
 method_same n d e h = rw (text_same n d e h)
@@ -53,35 +47,9 @@ initiator_same (suc n) (object ms) e h = ap (λ x. initiator_from path.Frames (S
 
 -- ---- members of an object
 
-at_same : {X : Type 0} (n : ℕ) (t : RequestPart) (reading : Option Data → X) → ((d e : Data) → KeptAs n t d e → reading (Some e) ≡ reading (Some d))
-    → (a b : Option Data) → KeptAt (Kept wanted_at item_of member_of accepts_at n) (Some t) a b → reading b ≡ reading a
-at_same n t reading law None b h = ap reading h
-at_same n t reading law (Some d) None h = absurd h
-at_same n t reading law (Some d) (Some e) h = law d e h
-
--- of another value null is kept
-other_kept : (o : RequestPart) (n : ℕ) (d e : Data) → wanted_at o ≡ wanted.Object → as_object d ≡ None → KeptAs n o d e → e ≡ null
-other_kept o n null e is none h = h
-other_kept o n (boolean b) e is none h = h ∙ ap (λ w. kept_truth w b) is
-other_kept o n (number x) e is none h = h ∙ ap (λ w. kept_number w x) is
-other_kept o n (string s) e is none h = h ∙ ap (λ w. kept_text w s) is
-other_kept o zero (array ds) e is none h = absurd h
-other_kept o (suc n) (array ds) e is none h = subst (λ w. KeptList (Kept wanted_at item_of member_of accepts_at n (item_of o)) w ds e) is h
-other_kept o n (object ms) e is none h = absurd (cc)
-
 pub member_same : {X : Type 0} (o t : RequestPart) (key : List ℕ) (reading : Option Data → X) → wanted_at o ≡ wanted.Object → member_of o key ≡ Some t
     → ((n : ℕ) (d e : Data) → KeptAs n t d e → reading (Some e) ≡ reading (Some d)) → (n : ℕ) (d e : Data) → KeptAs n o d e → reading (get key e) ≡ reading (get key d)
-member_same o t key reading is there law n null e h = ap (λ x. reading (get key x)) (other_kept o n null e is refl h)
-member_same o t key reading is there law n (boolean b) e h = ap (λ x. reading (get key x)) (other_kept o n (boolean b) e is refl h)
-member_same o t key reading is there law n (number x) e h = ap (λ y. reading (get key y)) (other_kept o n (number x) e is refl h)
-member_same o t key reading is there law n (string s) e h = ap (λ x. reading (get key x)) (other_kept o n (string s) e is refl h)
-member_same o t key reading is there law n (array ds) e h = ap (λ x. reading (get key x)) (other_kept o n (array ds) e is refl h)
-member_same o t key reading is there law zero (object ms) e h = absurd h
-member_same o t key reading is there law (suc n) (object ms) e h =
-    let k = subst (λ w. KeptObject (Kept wanted_at item_of member_of accepts_at n) (member_of o) (accepts_at o) w ms e) is h in
-    ap (λ x. reading (get key x)) k.1
-    ∙ at_same n t reading (law n) (get_member key ms) (get_member key k.0)
-    (subst (λ p. KeptAt (Kept wanted_at item_of member_of accepts_at n) p (get_member key ms) (get_member key k.0)) there (k.2 key))
+member_same o t key reading is there law n d e h = forms.member_same wanted_at item_of member_of accepts_at o t key reading is (λ _. refl) there law n d e h
 
 -- ---- items of a list
 

@@ -6,7 +6,7 @@ use Rattle.serde_json.specs.Find.{get_member, as_null, as_str, as_bool}
 use Rattle.json_spec.specs.RuleFields.{as_texts}
 use Rattle.json_fields.specs.declared.shape.Wanted.{Wanted}
 use Rattle.json_fields.specs.declared.shape.Wanted.TheVariants as wanted
-use Rattle.json_fields.specs.Shapes.{EndsIf, KeptAt, KeptItems, KeptEach, KeptFew, KeptList, KeptObject, has_few}
+use Rattle.json_fields.specs.Shapes.{EndsIf, KeptAt, KeptItems, KeptEach, KeptFew, has_few, KeptList, KeptObject}
 use Rattle.line_spec.specs.Updates.{as_wholes, as_whole}
 use Rattle.rule_parts.specs.declared.part.RulePart.{RulePart}
 use Rattle.rule_parts.specs.declared.part.RulePart.TheVariants as rule

@@ -1,7 +1,8 @@
 -- The parts of an update as JSON: the values that are read there, and the parts that they hold.
-use Rattle.std.specs.Prelude.{ℕ, List, codes, Bool, true, Option, Some, None, if◌then◌else◌}
+use Rattle.std.specs.Prelude.{ℕ, List, codes, Bool, true, ◌&&◌, Option, Some, None, is_some, option_and_then, if◌then◌else◌}
 use Rattle.std.specs.Str.{bytes_eq}
 use Rattle.serde_json.specs.Data.{Data}
+use Rattle.serde_json.specs.Find.{get, as_str, as_bool, as_array}
 use Rattle.json_fields.specs.declared.shape.Wanted.{Wanted}
 use Rattle.json_fields.specs.declared.shape.Wanted.TheVariants as wanted
 use Rattle.json_fields.specs.Shapes.{Kept}
@@ -63,7 +64,16 @@ member_of part.Set name = set_member name
 member_of (part.InRule p) name = in_rule (rules.member_of p name)
 member_of _ name = None
 
+-- each field of a ruleset has its form
+abbrev pub is_set : Data → Bool
+is_set d =
+    is_some (option_and_then as_str (get (codes "id") d))
+    && is_some (option_and_then as_bool (get (codes "enabled") d))
+    && is_some (option_and_then as_array (get (codes "rules") d))
+
+-- any fault of a ruleset that is none of its rules' is the same, and what is no object has it too
 abbrev pub accepts_at : UpdatePart → Data → Bool
+accepts_at part.Set d = is_set d
 accepts_at (part.InRule p) d = rules.accepts_at p d
 accepts_at _ d = true
 

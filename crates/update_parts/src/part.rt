@@ -1,7 +1,7 @@
 // The parts of an update as JSON.
 ghost use Rattle.std.specs.Prelude.{◌≡◌};
 ghost use Rattle.serde_json.specs.View.{view};
-ghost use Rattle.update_parts.specs.Parts.{wanted_at, item_of, member_of, accepts_at, in_rule, update_member, element_member, set_member};
+ghost use Rattle.update_parts.specs.Parts.{wanted_at, item_of, member_of, accepts_at, in_rule, update_member, element_member, set_member, is_set};
 
 use json_fields::{Shape, Wanted};
 use rule_parts::RulePart;
@@ -57,12 +57,23 @@ impl Shape for UpdatePart {
         }
     }
 
+    // Any fault of a ruleset that is none of its rules' is the same, and what is no object has it too.
     fn accepts(self, kept: &Value) -> bool {
         match self {
+            UpdatePart::Set => is_set(kept),
             UpdatePart::InRule(part) => part.accepts(kept),
             _ => true,
         }
     }
+}
+
+// Whether each field of a ruleset has its form.
+fn is_set(object: &Value) -> bool
+    ensures { result ≡ is_set (view object.now) }
+{
+    object.get("id").and_then(Value::as_str).is_some()
+        && object.get("enabled").and_then(Value::as_bool).is_some()
+        && object.get("rules").and_then(Value::as_array).is_some()
 }
 
 fn in_rule(part: Option<RulePart>) -> Option<UpdatePart>
