@@ -5,11 +5,11 @@
 
 mod asked;
 mod batch;
-mod chosen;
 mod command;
 mod fields;
 mod frames;
 mod headers;
+mod kept_updates;
 mod memo;
 mod new_sets;
 mod parts;

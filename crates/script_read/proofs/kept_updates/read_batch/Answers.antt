@@ -1,7 +1,7 @@
 use Rattle.std.proofs.Common.{sym}
 use Rattle.json_spec.proofs.Trees.{tree_of_none}
 use Rattle.script_read.proofs.Alike.{tree_holds}
-use Rattle.script_read.proofs.chosen.read_batch.Goals as goal
+use Rattle.script_read.proofs.kept_updates.read_batch.Goals as goal
 
 pub returns-in-Ok-clause-ok : goal.returns-in-Ok-clause-ok
 returns-in-Ok-clause-ok c =
