@@ -121,15 +121,21 @@ unread_ends files session whole part loaded basis updates workers name script be
     let same : left ≡ whole.left = cc known in (
       gave.writes.written,
       gave.writes.taken,
-      inr (started, inl (served files session whole part loaded basis updates workers (λ given. HoldsGiven files name given whole.left) (λ given. whole_rounds_of (ended_lines given)) gave.given gave.writes.written is
-          (record { script = script; held = held; split = subst (λ (l : List ℕ). script ≡ gave.given ++ l) same gave.split }) gave.writes.serves)),
+      inr (
+        started,
+        inl (served files session whole part loaded basis updates workers (λ given. HoldsGiven files name given whole.left) (λ given. whole_rounds_of (ended_lines given)) gave.given gave.writes.written is
+            (record { script = script; held = held; split = subst (λ (l : List ℕ). script ≡ gave.given ++ l) same gave.split }) gave.writes.serves),
+      ),
     )
 unread_ends files session whole part loaded basis updates workers name script before now (Some left) is held known started (inr all) =
     let same : left ≡ whole.left = cc known in (
       all.1.written,
       all.1.taken,
-      inr (started, inr (served files session whole part loaded basis updates workers (λ s. (files name ≡ Some s) × (whole.left ≡ [])) (λ s. whole_rounds_of (short_lines s)) script all.1.written is
-          (held, sym same ∙ all.0) all.1.serves)),
+      inr (
+        started,
+        inr (served files session whole part loaded basis updates workers (λ s. (files name ≡ Some s) × (whole.left ≡ [])) (λ s. whole_rounds_of (short_lines s)) script all.1.written is
+            (held, sym same ∙ all.0) all.1.serves),
+      ),
     )
 
 some_served : (files : Files) (session : Session) (whole part : Outside) (loaded : Loaded) (basis : Basis) (updates : Bool) (workers : ℕ) (name script : List ℕ) (written : List ℕ) (count : ℕ)
