@@ -1,0 +1,20 @@
+//! Script lines that are told by their bytes alone, before they are read, to ask for nothing but a request.
+#![tactic(auto)]
+
+ghost use Rattle.std.specs.Prelude.{ℕ, ◌↔◌, IsTrue};
+ghost use Rattle.line_spec.specs.Line.{command_of};
+ghost use Rattle.plain_lines.specs.Plain.{IsPlain, IsRequestAtMost};
+
+use memchr::{memchr, memmem};
+
+/// Whether the bytes of a line hold neither `cmd` nor a backslash, so that it has no key `cmd`: a JSON string without an
+/// escape stands in its text as it is. Whatever its number, such a line is blank, a request or at fault. It is no update,
+/// no batch, no sync and no explain.
+///
+/// A line that isn't plain may still be a request.
+pub fn is_plain(bytes: &[u8]) -> bool
+    ensures told { IsTrue result ↔ IsPlain bytes.now }
+    ensures request_at_most { IsTrue result → (number : ℕ) → IsRequestAtMost (command_of number bytes.now) }
+{
+    memmem::find(bytes, b"cmd").is_none() && memchr(b'\\', bytes).is_none()
+}
