@@ -9,7 +9,7 @@ use Rattle.load_spec.specs.Extensions.{bad_rules_file, bad_manifest, file_in, ma
 use Rattle.rules_file.specs.declared.FileRefusal.TheVariants as content
 use Rattle.rules_file.specs.declared.load.LoadRefusal.{LoadRefusal}
 use Rattle.rules_file.specs.declared.load.LoadRefusal.TheVariants as load
-use Rattle.rules_file.specs.Load.{is_no_memory}
+use Rattle.rules_file.specs.Answers.{is_no_memory}
 use Rattle.manifest_read.specs.declared.fault.Fault.{Fault}
 use Rattle.manifest_read.specs.declared.fault.Fault.TheVariants as fault
 use Rattle.manifest_read.specs.declared.refusal.ManifestRefusal.{ManifestRefusal}

@@ -11,7 +11,7 @@ use Rattle.json_spec.specs.RulesFile.{rules_of, bad_rules, StopsInFile}
 use Rattle.load_spec.specs.Files.{Files, BreaksForm, StopsAtHost, HoldsLongFile}
 use Rattle.rules_file.specs.declared.FileRefusal.{FileRefusal}
 use Rattle.rules_file.specs.declared.FileRefusal.TheVariants.{BadJson, BadRules}
-use Rattle.rules_file.specs.Answers.{refusal_seen}
+use Rattle.rules_file.specs.Answers.{refusal_seen, is_no_memory}
 use Rattle.rules_file.specs.declared.load.LoadRefusal.{LoadRefusal}
 use Rattle.rules_file.specs.declared.load.LoadRefusal.TheVariants.{BadFile, ReadFault, FileTooLong, NoMemory}
 
@@ -19,10 +19,6 @@ abbrev pub load_refusal : ShelfRefusal → LoadRefusal
 load_refusal shelf.Failed = ReadFault
 load_refusal shelf.TooLong = FileTooLong
 load_refusal shelf.NoMemory = NoMemory
-
-abbrev pub is_no_memory : RuleRefusal → Bool
-is_no_memory rule.NoMemory = true
-is_no_memory _ = false
 
 abbrev pub is_memory : FileRefusal → Bool
 is_memory BadJson = false

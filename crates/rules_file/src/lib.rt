@@ -16,7 +16,7 @@ mod value;
 ghost use Rattle.std.specs.Prelude.{◌≡◌, ◌≤◌, Ok, IfOk, IfErr};
 ghost use Rattle.dnr_base.specs.Faults.{Rose};
 ghost use Rattle.json_spec.specs.RulesFile.{rules_of};
-ghost use Rattle.rules_file.specs.Answers.{MayRefuse};
+ghost use Rattle.rules_file.specs.Answers.{IsCalmFile, MayRefuse, named, of_no_rule};
 
 use json_fields::Fault;
 pub use listed::{Listed, read_listed};
@@ -53,6 +53,7 @@ pub fn read_rules_file<H: RegexHost>(
 ) -> Result<Vec<Rule>, FileRefusal>
     ensures ok { IfOk result (λ rules. rules_of kind bytes.now ≡ Ok rules.items) }
     ensures refused { IfErr result (MayRefuse kind bytes.now (Rose (H.faults host.old) (H.faults host.new))) }
+    ensures calm { IsCalmFile (H.faults host.old) (H.faults host.new) result }
     ensures later { H.faults host.old ≤ H.faults host.new }
 {
     let Ok(text) = str::from_utf8(bytes) else {
@@ -60,14 +61,25 @@ pub fn read_rules_file<H: RegexHost>(
     };
     match text::read_text(alloc, text, kind, host) {
         Ok(Ok(rules)) => Ok(rules),
-        Ok(Err(refusal)) => Err(FileRefusal::BadRules(refusal)),
+        Ok(Err(refusal)) => Err(FileRefusal::BadRules(named(refusal))),
         Err(Fault::BadJson) => Err(FileRefusal::BadJson),
         Err(Fault::NoMemory) => Err(FileRefusal::BadRules(out_of_memory())),
     }
 }
 
+// The refusal, which names no rule where memory ran out.
+fn named(refusal: PlacedRefusal) -> PlacedRefusal
+    ensures { result ≡ named refusal }
+{
+    if matches!(refusal.cause, RuleRefusal::NoMemory) {
+        out_of_memory()
+    } else {
+        refusal
+    }
+}
+
 fn out_of_memory() -> PlacedRefusal
-    ensures { result.cause ≡ RuleRefusal.NoMemory }
+    ensures { result ≡ of_no_rule }
 {
     PlacedRefusal {
         place: 0,

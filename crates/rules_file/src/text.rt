@@ -7,7 +7,7 @@ ghost use Rattle.serde_json.specs.Read.{read};
 ghost use Rattle.serde_json.specs.Find.{as_array};
 ghost use Rattle.dnr_base.specs.Faults.{Rose};
 ghost use Rattle.json_spec.specs.ReadRule as spec;
-ghost use Rattle.rules_file.specs.Reading.{Answers, IsForm};
+ghost use Rattle.rules_file.specs.Reading.{Answers, IsCalmAnswer, IsForm};
 
 use crate::list::read_list;
 use crate::value::read_value;
@@ -26,6 +26,7 @@ pub(crate) fn read_text<H: RegexHost>(
 ) -> Result<Result<Vec<Rule>, PlacedRefusal>, Fault>
     ensures read { IfOk result (λ answer. (d : Data) × (read text.now ≡ Some d)
         × Answers kind (as_array d) (Rose (H.faults host.old) (H.faults host.new)) answer) }
+    ensures calm { IsCalmAnswer (H.faults host.old) (H.faults host.new) result }
     ensures later { H.faults host.old ≤ H.faults host.new }
     ensures bad { result ≡ Err Fault.BadJson → read text.now ≡ None }
 {
@@ -52,6 +53,7 @@ fn read_whole<H: RegexHost>(
 ) -> Result<Result<Vec<Rule>, PlacedRefusal>, Fault>
     ensures read { IfOk result (λ answer. (d : Data) × (read text.now ≡ Some d)
         × Answers kind (as_array d) (Rose (H.faults host.old) (H.faults host.new)) answer) }
+    ensures calm { IsCalmAnswer (H.faults host.old) (H.faults host.new) result }
     ensures later { H.faults host.old ≤ H.faults host.new }
     ensures bad { result ≡ Err Fault.BadJson → read text.now ≡ None }
 {
@@ -96,6 +98,7 @@ fn read_small<H: RegexHost>(
 ) -> Result<Result<Vec<Rule>, PlacedRefusal>, Fault>
     ensures read { IfOk result (λ answer. (d : Data) × (read text.now ≡ Some d)
         × Answers kind (as_array d) (Rose (H.faults host.old) (H.faults host.new)) answer) }
+    ensures calm { IsCalmAnswer (H.faults host.old) (H.faults host.new) result }
     ensures later { H.faults host.old ≤ H.faults host.new }
     ensures bad { result ≡ Err Fault.BadJson → read text.now ≡ None }
 {

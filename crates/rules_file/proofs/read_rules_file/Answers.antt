@@ -1,6 +1,9 @@
-use Rattle.std.proofs.Common.{Ok, sym, ap, ◌∙◌}
+use Rattle.std.proofs.Common.{Ok, sym, ap, ◌∙◌, subst}
 use Rattle.serde_json.specs.Read.{read}
 use Rattle.dnr_base.specs.Faults.{Rose}
+use Rattle.rule_spec.specs.declared.placed_refusal.PlacedRefusal.{PlacedRefusal}
+use Rattle.rules_file.specs.declared.FileRefusal.TheVariants.{BadRules}
+use Rattle.rules_file.specs.Answers.{MayRefuse}
 use Rattle.rules_file.proofs.Whole.{file_is_bad, file_is_read, file_is_refused}
 use Rattle.rules_file.proofs.read_rules_file.Goals as goal
 
@@ -15,5 +18,6 @@ returns-in-Ok-Ok-clause-ok g c =
 pub returns-in-Ok-Err-clause-refused : goal.returns-in-Ok-Err-clause-refused
 returns-in-Ok-Err-clause-refused g c =
     let found = rw c.in-Ok-Err.field-0-is at c.in-Ok-Err.ensures.read in
-    file_is_refused c.args.kind c.args.bytes.now found.0 (Rose (g.H.RegexHost.faults c.args.host.now) (g.H.RegexHost.faults c.read_text.new.host)) c.in-Ok-Err.refusal
-    c.in-Ok.ensures.cases.1 (ap read (sym c.in-Ok.ensures.cases.0) ∙ found.1) found.2
+    let rose = Rose (g.H.RegexHost.faults c.args.host.now) (g.H.RegexHost.faults c.read_text.new.host) in
+    subst (λ (r : PlacedRefusal). MayRefuse c.args.kind c.args.bytes.now rose (BadRules r)) (sym c.named.ensures)
+    (file_is_refused c.args.kind c.args.bytes.now found.0 rose c.in-Ok-Err.refusal c.in-Ok.ensures.cases.1 (ap read (sym c.in-Ok.ensures.cases.0) ∙ found.1) found.2)
