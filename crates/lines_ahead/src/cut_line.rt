@@ -1,12 +1,16 @@
 //! A line that stands alone, and what is known of it before its turn.
-ghost use Rattle.std.specs.Prelude.{◌≡◌, ◌≤◌, Ok, IfOk, IfErr};
+ghost use Rattle.std.specs.Prelude.{◌≡◌, ◌≤◌, Ok, IfOk, IfErr, IsTrue};
 ghost use Rattle.dnr_base.specs.Faults.{Rose};
-ghost use Rattle.line_spec.specs.IsFault.{IsCalm, IsFaultOfLine};
+ghost use Rattle.line_spec.specs.IsFault.{IsCalm, IsFaultOf, IsFaultOfLine};
 ghost use Rattle.line_spec.specs.Line as spec;
+ghost use Rattle.lines_ahead.specs.Cut.{IsPlainLine};
 ghost use Rattle.script_read.specs.Seen.{command_seen};
 
+use plain_lines::is_plain;
 use regex_host::RegexHost;
-use script_read::{Asked, Command, LineFault, Memo, ask_line, finish_line, read_line_with};
+use script_read::{
+    Asked, Command, LineFault, Memo, ask_line, finish_line, is_blank, read_line_with,
+};
 use std::alloc::Global;
 use std::marker::Model;
 
@@ -16,18 +20,21 @@ use std::marker::Model;
 pub struct CutLine {
     number: u32,
     bytes: Vec<u8>,
+    // Whether its bytes show that it asks for a request at most.
+    plain: bool,
     asked: Option<Result<Asked, LineFault>>,
 }
 
 impl Model for CutLine {
-    ghost use Rattle.std.specs.Prelude.{IfSome};
-    ghost use Rattle.lines_ahead.specs.Cut.{CutSeen, IsTold};
+    ghost use Rattle.std.specs.Prelude.{IfSome, IsTrue};
+    ghost use Rattle.lines_ahead.specs.Cut.{CutSeen, IsPlainLine, IsTold};
 
     ghost Value = { CutSeen };
 
     ghost view = { λ l. record { number = l.number; bytes = l.bytes.items } };
 
-    ghost invariant = { λ l. IfSome l.asked (IsTold l.number l.bytes.items) };
+    ghost invariant = { λ l. IfSome l.asked (IsTold l.number l.bytes.items) 
+        × (IsTrue l.plain → IsPlainLine (record { number = l.number; bytes = l.bytes.items })) };
 }
 
 impl CutLine {
@@ -36,9 +43,11 @@ impl CutLine {
         ensures number { result.number ≡ number }
         ensures bytes { result.bytes ≡ bytes.items }
     {
+        let plain = is_plain(&bytes) && !is_blank(&bytes);
         CutLine {
             number,
             bytes,
+            plain,
             asked: None,
         }
     }
@@ -55,6 +64,31 @@ impl CutLine {
         ensures { result.now ≡ self.now.bytes }
     {
         &self.bytes
+    }
+
+    /// Whether its bytes show that it asks for a request, if for anything. A blank line isn't taken for one.
+    pub fn is_plain(&self) -> bool
+        ensures { IsTrue result → IsPlainLine self.now }
+    {
+        self.plain
+    }
+
+    /// Reads a plain line, for which no pattern host is needed.
+    ///
+    /// # Errors
+    ///
+    /// Those of `read_line`, but for `RuleRefused` and `InBatch`.
+    pub fn read_plain(&self, alloc: Global, memo: &mut Memo) -> Result<Command, LineFault>
+        requires { IsPlainLine self.now }
+        ensures read { IfOk result (λ command. spec.command_of self.now.number self.now.bytes ≡ Ok (command_seen command)) }
+        ensures within_limits { IfOk result (λ command. spec.IsWithinLimits (command_seen command)) }
+        ensures refused { IfErr result (IsFaultOf (spec.command_of self.now.number self.now.bytes)) }
+    {
+        match ask_line(alloc, self.number, &self.bytes, memo)? {
+            Asked::Command(command) => Ok(command),
+            // No plain line asks for updates.
+            Asked::Update(_) | Asked::Batch => Err(LineFault::NoMemory),
+        }
     }
 
     /// Asks the line what it asks for, so that `finish` has less to do. It needs no pattern host. Where memory runs out,
@@ -90,6 +124,7 @@ impl CutLine {
         let CutLine {
             number,
             bytes,
+            plain: _,
             asked,
         } = self;
         match asked {

@@ -50,15 +50,16 @@ pub fn cut_lines<S: Source>(
         if !lines.next(source, &mut line)? {
             return Ok(false);
         }
-        going = room.take(line.len()) && !may_sync(&line);
         let place = *number + 1;
-        cut.push(CutLine::new(place, line))?;
+        let line = CutLine::new(place, line);
+        going = room.take(line.bytes().len()) && !may_sync(&line);
+        cut.push(line)?;
         *number = place;
     }
     Ok(true)
 }
 
-/// Asks the lines that were cut what they ask for, in at most so many threads.
+/// Asks the lines that were cut what they ask for, in at most so many threads. Plain lines are left to the seats.
 pub fn ask_cut<R: Threads + Sync>(rt: &R, alloc: Global, threads: usize, cut: &mut Vec<CutLine>)
     requires { 0 < threads }
     ensures { cut.new.items ≡ cut.old.items }
@@ -67,6 +68,8 @@ pub fn ask_cut<R: Threads + Sync>(rt: &R, alloc: Global, threads: usize, cut: &m
 }
 
 // Whether the line may be a sync: it has the word, or may write it by escapes.
-fn may_sync(line: &[u8]) -> bool {
-    memmem::find(line, b"\"sync\"").is_some() || memchr(b'\\', line).is_some()
+fn may_sync(line: &CutLine) -> bool {
+    let bytes = line.bytes();
+    !line.is_plain()
+        && (memmem::find(bytes, b"\"sync\"").is_some() || memchr(b'\\', bytes).is_some())
 }
