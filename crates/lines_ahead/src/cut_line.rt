@@ -33,7 +33,7 @@ impl Model for CutLine {
 
     ghost view = { λ l. record { number = l.number; bytes = l.bytes.items } };
 
-    ghost invariant = { λ l. IfSome l.asked (IsTold l.number l.bytes.items) 
+    ghost invariant = { λ l. IfSome l.asked (IsTold l.number l.bytes.items)
         × (IsTrue l.plain → IsPlainLine (record { number = l.number; bytes = l.bytes.items })) };
 }
 
