@@ -17,10 +17,10 @@ use Rattle.session_serve.specs.declared.stop.ServeStop.TheVariants as stop
 use Rattle.session_spec.specs.Rounds.{Held, holds_nothing, ends_round, with_line}
 use Rattle.update_spec.specs.Entries.{Entry}
 use Rattle.session_seats.specs.Cutting.{bytes_of, FollowOn, CutsLines, StandsBehind}
-use Rattle.session_seats.specs.Reading.{ReadRound, ReadsLine}
+use Rattle.session_seats.specs.Reading.{ReadRound, ReadsLine, nothing_read}
 use Rattle.session_seats.specs.Rounds.{WritesRound, StopsRound}
 use Rattle.session_seats.specs.Taking.{AreShort, Standing, standing, GoesOn, EndsRound, TakesLine, TakesLines, StopsBefore, StopsWith, StopsLine, StopsLines}
-use Rattle.session_seats.proofs.SoFar.{SoFar, line_more, whole_round_more, nothing_read}
+use Rattle.session_seats.proofs.SoFar.{SoFar, line_more, whole_round_more}
 use Rattle.session_seats.proofs.Cuts.{lines_gathered}
 use Rattle.session_seats.proofs.Endings.{without_memory, stops_serving}
 

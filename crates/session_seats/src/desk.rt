@@ -247,7 +247,7 @@ impl<P: Pair, H: RegexHost> ToolSeat<RoundLines, H> for Desk<P> {
 fn keep_texts(answers: &mut Vec<Answered>, texts: &mut Vec<String>)
     ensures { answers.new.items ≡ [] }
 {
-    for answered in answers.drain(..) {
+    while let Some(answered) = answers.pop() {
         let _kept = texts.push(answered.text);
     }
 }

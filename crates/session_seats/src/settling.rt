@@ -1,5 +1,5 @@
 //! What a round says, once all its parts have done their work.
-ghost use Rattle.std.specs.Prelude.{◌≡◌, ◌≤◌, ◌<◌, ◌+◌, ◌++◌, if◌then◌else◌, true, length, map, get_or, IfOk, OnOk, IsTrue, IsFalse, option_copied, string_bytes};
+ghost use Rattle.std.specs.Prelude.{◌≡◌, ◌≤◌, ◌<◌, ◌++◌, true, length, map, get_or, IfOk, OnOk, IsTrue, IsFalse, option_copied, string_bytes};
 ghost use Rattle.std.specs.List.{All};
 ghost use mathlib.Core.List.{IsPrefix};
 ghost use Rattle.line_spec.specs.Line.{command_of};
@@ -148,8 +148,9 @@ fn say_line<P: Pair, H: RegexHost>(
     ensures later { H.faults finder.old ≤ H.faults finder.new }
 {
     if let Some(said) = said {
-        if may_stand(said, *latest, office.number(), *counted, finder.faults()) {
-            say_again(line, floor, office, said, latest, counted, into)?;
+        let faults = finder.faults();
+        if may_stand(said, *latest, office.number(), *counted, faults) {
+            say_again(line, floor, office, said, faults, latest, counted, into)?;
             return Ok(true);
         }
     }
@@ -174,6 +175,7 @@ fn say_again<P: Pair>(
     _floor: &Note<P>,
     _office: &Office<P>,
     said: &Answered,
+    _faults: u64,
     latest: &mut u32,
     counted: &mut u64,
     into: &mut String,
@@ -182,12 +184,13 @@ fn say_again<P: Pair>(
     requires above { length _floor.now ≤ latest.old }
     requires later { latest.old ≤ said.now.number }
     requires below { said.now.number ≤ length _office.now.list }
-    requires room { said.now.failed ≡ true → counted.old < 18446744073709551615 }
+    requires counted { counted.old ≤ _faults }
+    requires told { said.now.failed ≡ true → counted.old < _faults }
     requires said { SaysWithin P.opening (seen_line _line.now) _office.now.list said.now }
     ensures told { OnOk result (SeatTold P.opening _floor.now _office.now.list (seen_line _line.now).number (read_seen (seen_line _line.now).read)
         latest.old latest.new (string_bytes into.old) (string_bytes into.new) counted.old counted.new) }
     ensures latest { (latest.old ≤ latest.new) × (latest.new ≤ length _office.now.list) }
-    ensures counted { counted.new ≤ (if said.now.failed then counted.old + 1 else counted.old) }
+    ensures counted { counted.new ≤ _faults }
 {
     into.push_str(&said.text)?;
     *latest = said.number;
