@@ -17,7 +17,7 @@ pub fn ask_all<R: Threads + Sync>(rt: &R, alloc: Global, threads: usize, lines: 
     requires { 0 < threads }
     ensures { lines.new ≡ lines.old }
 {
-    if 1 < threads && are_many(lines) {
+    if 1 < threads && FEW <= lines.len() && are_many(lines) {
         let size = lines.len().div_ceil(threads);
         ask_runs(rt, alloc, size, lines);
     }
