@@ -10,7 +10,6 @@ use Rattle.session_seats.proofs.Settled.{within_all, within_set, still_below, be
 use Rattle.session_seats.proofs.Telling.{seen_written, seat_told, reply_told}
 use Rattle.session_serve.proofs.Told.{turn_inside, one_asked}
 use Rattle.session_seats.proofs.settling.settle.Goals as goal
-use Rattle.session_seats.proofs.settling.settle.Goals.{then-asks, else-asks}
 
 pub loop-place-init : goal.loop-place-init
 loop-place-init g c = record {
@@ -70,23 +69,6 @@ returns-in_err-asks-clause-later g c =
 
 pub overflow_add-asked : goal.overflow_add-asked
 overflow_add-asked g c = omega (arith, c.loop-place.invariant.few, c.loop-place-test.true, c.loop-place.auto.place-end)
-
-pub loop-place-preserved : goal.loop-place-preserved
-loop-place-preserved g c =
-    let inv = c.loop-place.invariant in
-    let seat = c.loop-place.asked % length c.args.desks.now in
-    let inside = turn_inside c.loop-place.asked (length c.args.desks.now) c.requires.some in
-    let known = as_long c.loop-place.counted (map g.H.RegexHost.faults c.loop-place.finders) inv.counted in
-    let many = as_many g.P.Pair.opening c.args.floor.now c.args.round.now.lines c.args.office.now.texts c.args.office.now.list c.requires.written in
-    let told = c.in_ok-asks.ensures in
-    let least = (inv.within seat (omega (arith, inside, inv.latest))).0 in
-    let within = within_set (length c.args.floor.now) (length c.args.office.now.list) c.loop-place.latest seat c.say_line.new.latest (omega (arith, least, told.latest.0)) told.latest.1 inv.within in
-    let latest = set_long c.loop-place.latest seat c.say_line.new.latest ∙ inv.latest in
-    let turns = told_turns in
-    elim c.if-asks.branch [
-      | then-asks w ↦ todo
-      | else-asks w ↦ todo
-    ]
 
 pub returns-clause-settled : goal.returns-clause-settled
 returns-clause-settled g c =
