@@ -56,8 +56,7 @@ taken_at lines place line all inside there = All-contains IsTaken lines line all
 pub seen_there : (round : ReadRound) (lines : List RoundLine) (place : ℕ) (line : RoundLine) → lines ≡ round.lines → round.reads ≡ seen_lines round.lines → place < length lines → line ≡ get_or lines place line
     → (place < length round.reads) × (seen_line line ≡ get_or round.reads place (seen_line line))
 seen_there round lines place line same seen inside there =
-    let reads : round.reads ≡ seen_lines lines = seen ∙ ap seen_lines (sym same) in
-    (
+    let reads : round.reads ≡ seen_lines lines = seen ∙ ap seen_lines (sym same) in (
       omega (arith, inside, ap length reads, length-map lines seen_line),
       ap seen_line there ∙ sym (at_map seen_line lines place line) ∙ ap (λ (rs : List ReadLine). get_or rs place (seen_line line)) (sym reads),
     )

@@ -1,5 +1,5 @@
 -- What the writer has said to the lines of a round so far.
-use Rattle.std.proofs.Common.{◌≡◌, ℕ, zero, suc, ◌+◌, ◌<◌, ◌≤◌, List, [], ◌∷◌, ◌++◌, length, drop, get_or, Bool, Result, Ok, Err, OnOk, is_err, refl, sym, ap, ◌∙◌, subst, arith, append_assoc, append-nil, All}
+use Rattle.std.proofs.Common.{◌≡◌, ℕ, zero, suc, ◌+◌, ◌<◌, ◌≤◌, List, [], ◌∷◌, ◌++◌, length, drop, get_or, Bool, true, false, Result, Ok, Err, OnOk, is_err, refl, sym, ap, ◌∙◌, subst, arith, append_assoc, append-nil, All}
 use Rattle.std.proofs.lemmas.List.{drop_more, drop_all}
 use Rattle.std.proofs.lemmas.List.Elements.{All-head, All-rest}
 use mathlib.Core.List.{IsPrefix}
@@ -11,7 +11,7 @@ use Rattle.line_spec.specs.Line as spec
 use Rattle.line_spec.specs.Line.{command_of}
 use Rattle.plain_lines.specs.Plain.{IsRequestAtMost}
 use Rattle.published.proofs.Beginnings.{begins_itself, begins_on}
-use Rattle.session_rounds.proofs.Whole.{said_begins}
+use Rattle.session_rounds.proofs.Whole.{goes_on_begins}
 use Rattle.session_rounds.specs.Lines.{is_asked, read_seen}
 use Rattle.session_rounds.specs.Writing.{Replied, WriterLine, WriterSaid, WriterSays}
 use Rattle.session_spec.specs.Output.{bad_line}
@@ -62,7 +62,7 @@ pub all_said : (opening : Basis) (lines : List RoundLine) (first : List Entry) (
     → SaidSoFar opening lines first place list texts → WriterSaysAll opening first lines texts list
 all_said opening lines first place list texts past so_far =
     subst (λ (ts : List (List ℕ)). WriterSaysAll opening first lines ts list) (append-nil texts)
-    (so_far [] list (subst (λ (ls : List RoundLine). WriterSaysAll opening list ls [] list) (sym (drop_all lines place past)) (refl, refl)))
+    (so_far [] list (subst (λ (ls : List RoundLine). WriterSaysAll opening list ls [] list) (sym (drop_all place lines past)) (refl, refl)))
 
 -- all lines were answered, unless want of memory was noted
 pub all_answered : {T E : Type 0} (result : Result T E) (opening : Basis) (first : List Entry) (lines there : List RoundLine) (list staged : List Entry) (texts : List (List ℕ)) (was noted : Bool) (after : OfficeSeen)
@@ -124,8 +124,12 @@ with_as_many (l ∷ lines) (t ∷ texts) many = omega (arith, with_as_many lines
 
 -- ---- the entries of a round
 
+line_begins : (asked : Bool) (opening : Basis) (number : ℕ) (read : Result spec.Command LineFault) (list next : List Entry) (text : List ℕ) → WriterSaid asked opening number read list text next → IsPrefix list next
+line_begins true opening number read list next text said = subst (λ (l : List Entry). IsPrefix list l) (sym said.1) (begins_itself list)
+line_begins false opening number read list next text said = goes_on_begins list next said.goes_on
+
 one_begins : (opening : Basis) (line : RoundLine) (list next : List Entry) (text : List ℕ) → WriterSaysTo opening line list text next → IsPrefix list next
-one_begins opening (round.Read line) list next text said = said_begins (is_asked (read_seen line.read)) opening line list next text said
+one_begins opening (round.Read line) list next text said = line_begins (is_asked (read_seen line.read)) opening line.number (read_seen line.read) list next text said
 one_begins opening (round.Plain line) list next text said = subst (λ (l : List Entry). IsPrefix list l) (sym said.1) (begins_itself list)
 
 -- the entries before the lines begin those after them

@@ -1,5 +1,5 @@
 -- What is said to a line when its round has ended, as the lines of the round are seen.
-use Rattle.std.proofs.Common.{◌≡◌, ◌<◌, ◌≤◌, ◌+◌, ◌%◌, ◌++◌, ℕ, List, [], ◌∷◌, length, set, get_or, Bool, true, false, Option, Some, None, Ok, Err, Result, Bor, refl, sym, ap, ◌∙◌, subst, arith, length-map, All}
+use Rattle.std.proofs.Common.{◌≡◌, ◌<◌, ◌≤◌, ◌+◌, ◌%◌, ◌++◌, ℕ, List, [], ◌∷◌, length, set, get_or, Bool, true, false, Option, Some, None, Ok, Err, Result, Bor, refl, sym, ap, ◌∙◌, subst, arith, All}
 use Rattle.std.specs.Prelude.{IsSome, IsTrue, IfSome, option_copied, string_bytes}
 use Rattle.std.specs.List.{Contains}
 use Rattle.dnr_spec.specs.Suffixes.{SuffixRule}

@@ -85,9 +85,7 @@ impl RoundLines {
         self.updates |= line.updates();
         self.bytes += bytes;
         self.lines.push(line)?;
-        if is_dealt {
-            self.dealt.push(place)?;
-        }
+        mark(&mut self.dealt, place, is_dealt)?;
         Ok(ends(syncs, self.lines.len(), self.bytes))
     }
 
@@ -135,6 +133,14 @@ impl RoundLines {
     pub fn updates(&self) -> bool {
         self.updates
     }
+}
+
+// Keeps the place of a line that is dealt to a seat.
+fn mark(dealt: &mut Vec<usize>, place: usize, is_dealt: bool) -> Result<(), NoMemory> {
+    if is_dealt {
+        dealt.push(place)?;
+    }
+    Ok(())
 }
 
 // Whether a round of so many lines and bytes ends, of which the last line may be a `sync`.

@@ -25,12 +25,12 @@ loop-place-init g c = record {
   later = none_fell_yet (map g.H.RegexHost.faults c.args.finders.now);
 }
 
-pub said_to-requires-clause-inside : goal.said_to-requires-clause-inside
-said_to-requires-clause-inside g c =
+pub said_to-said-requires-clause-inside : goal.said_to-said-requires-clause-inside
+said_to-said-requires-clause-inside g c =
     (seen_there c.args.round.now c.lines-lines.result.now c.loop-place.place c.index-lines-place.result c.lines-lines.ensures.value c.lines-lines.ensures.reads c.loop-place-test.true c.index-lines-place.is).0
 
-pub said_to-requires-clause-there : goal.said_to-requires-clause-there
-said_to-requires-clause-there g c =
+pub said_to-said-requires-clause-there : goal.said_to-said-requires-clause-there
+said_to-said-requires-clause-there g c =
     (seen_there c.args.round.now c.lines-lines.result.now c.loop-place.place c.index-lines-place.result c.lines-lines.ensures.value c.lines-lines.ensures.reads c.loop-place-test.true c.index-lines-place.is).1
 
 pub bounds-counted-seat : goal.bounds-counted-seat
