@@ -1,5 +1,5 @@
 -- What is said to a line when its round has ended, as the lines of the round are seen.
-use Rattle.std.proofs.Common.{◌≡◌, ◌<◌, ◌≤◌, ◌+◌, ◌%◌, ◌++◌, ℕ, List, [], ◌∷◌, length, set, get_or, Bool, true, false, Option, Some, None, Ok, Err, Result, Bor, refl, sym, ap, ◌∙◌, subst, arith, All}
+use Rattle.std.proofs.Common.{◌≡◌, ◌<◌, ◌≤◌, ◌+◌, ◌%◌, ◌++◌, ℕ, zero, suc, List, [], ◌∷◌, length, set, get_or, Bool, true, false, Option, Some, None, Ok, Err, Result, Bor, refl, sym, ap, ◌∙◌, subst, arith, All}
 use Rattle.std.specs.Prelude.{IsSome, IsTrue, IfSome, option_copied, string_bytes}
 use Rattle.std.specs.List.{Contains}
 use Rattle.dnr_spec.specs.Suffixes.{SuffixRule}
@@ -62,3 +62,9 @@ reply_told opening floor end seats round lines texts lasts before was place aske
     ∙ ap (λ (ls : List RoundLine). text_with (get_or ls place line) (get_or texts place e)) (sym same) ∙ ap (λ (l : RoundLine). text_with l (get_or texts place e)) (sym there) in
     reply_settled opening floor end seats round.reads (texts_with round.lines texts) lasts before was place asked latest now grown is (seen_line line) text
     at.0 (omega (arith, within, with_as_many round.lines texts many)) at.1 asks (sym said) grows to
+
+-- a number that stays leaves all as they are
+pub set_same : (xs : List ℕ) (i n : ℕ) → n ≡ get_or xs i 0 → set xs i n ≡ xs
+set_same [] i n is = refl
+set_same (x ∷ xs) zero n is = ap (λ (m : ℕ). m ∷ xs) is
+set_same (x ∷ xs) (suc i) n is = ap (λ (l : List ℕ). x ∷ l) (set_same xs i n is)

@@ -7,9 +7,10 @@ use Rattle.session_seats.specs.Writing.{texts_with}
 use Rattle.session_seats.proofs.Desks.{taken_at, seen_there}
 use Rattle.session_seats.proofs.Offices.{as_many}
 use Rattle.session_seats.proofs.Settled.{within_all, within_set, still_below, below_at, set_long}
-use Rattle.session_seats.proofs.Telling.{seen_written, seat_told, reply_told}
+use Rattle.session_seats.proofs.Telling.{seen_written, seat_told, reply_told, set_same}
 use Rattle.session_serve.proofs.Told.{turn_inside, one_asked}
 use Rattle.session_seats.proofs.settling.settle.Goals as goal
+use Rattle.session_seats.proofs.settling.settle.Goals.{then-asks, else-asks}
 
 pub loop-place-init : goal.loop-place-init
 loop-place-init g c = record {
@@ -69,6 +70,50 @@ returns-in_err-asks-clause-later g c =
 
 pub overflow_add-asked : goal.overflow_add-asked
 overflow_add-asked g c = omega (arith, c.loop-place.invariant.few, c.loop-place-test.true, c.loop-place.auto.place-end)
+
+pub loop-place-preserved : goal.loop-place-preserved
+loop-place-preserved g c =
+    let inv = c.loop-place.invariant in
+    let seat = c.loop-place.asked % length c.args.desks.now in
+    let inside = turn_inside c.loop-place.asked (length c.args.desks.now) c.requires.some in
+    let known = as_long c.loop-place.counted (map g.H.RegexHost.faults c.loop-place.finders) inv.counted in
+    let many = as_many g.P.Pair.opening c.args.floor.now c.args.round.now.lines c.args.office.now.texts c.args.office.now.list c.requires.written in
+    let told = c.in_ok-asks.ensures in
+    let least = (inv.within seat (omega (arith, inside, inv.latest))).0 in
+    let within = within_set (length c.args.floor.now) (length c.args.office.now.list) c.loop-place.latest seat c.say_line.new.latest (omega (arith, least, told.latest.0)) told.latest.1 inv.within in
+    let later = none_fell_on (map g.H.RegexHost.faults c.args.finders.now) (map g.H.RegexHost.faults c.loop-place.finders) _ inv.later
+    (one_asked g.H.RegexHost.faults c.loop-place.finders seat c.index-finders-seat.result c.say_line.new.finder (omega (arith, inside, inv.finders)) told.later) in
+    elim c.if-asks.branch [
+      | then-asks w ↦
+        rw w.asked-is (record {
+          settled = seat_told g.P.Pair.opening c.args.floor.now c.args.office.now.list (length c.args.desks.now) c.args.round.now c.lines-lines.result.now (texts_with c.args.round.now.lines c.args.office.now.texts) c.args.latest.now (string_bytes c.args.into.now)
+              c.args.counted.now c.loop-place.place c.loop-place.asked seat c.loop-place.latest (string_bytes c.loop-place.into) (string_bytes c.say_line.new.into) c.loop-place.counted c.say_line.new.latest c.say_line.new.counted
+              c.index-lines-place.result c.lines-lines.ensures.value c.lines-lines.ensures.reads c.loop-place-test.true c.index-lines-place.is (told.asks ∙ w.if-asks.true) refl (omega (arith, inside, inv.latest))
+              (omega (arith, inside, known, length-map c.loop-place.finders g.H.RegexHost.faults, inv.finders)) (told.told w.if-asks.true) inv.settled;
+          few = omega (arith, inv.few);
+          within = within;
+          latest = set_long c.loop-place.latest seat c.say_line.new.latest ∙ inv.latest;
+          turns = c.said_to-said.ensures.turns ∙ inv.turns;
+          finders = set_long c.loop-place.finders seat c.say_line.new.finder ∙ inv.finders;
+          counted = still_below g.H.RegexHost.faults c.loop-place.counted c.loop-place.finders seat c.say_line.new.counted c.say_line.new.finder told.counted inv.counted;
+          later = later;
+        })
+      | else-asks w ↦
+        let still = told.still w.if-asks.false in
+        let settled = reply_told g.P.Pair.opening c.args.floor.now c.args.office.now.list (length c.args.desks.now) c.args.round.now c.lines-lines.result.now c.args.office.now.texts c.args.latest.now (string_bytes c.args.into.now)
+        c.args.counted.now c.loop-place.place c.loop-place.asked c.loop-place.latest (string_bytes c.loop-place.into) (string_bytes c.say_line.new.into) c.loop-place.counted (string_bytes c.loop-place.into)
+        c.index-lines-place.result c.lines-lines.ensures.value c.lines-lines.ensures.reads many c.loop-place-test.true c.index-lines-place.is (told.asks ∙ w.if-asks.false) (told.text w.if-asks.false) inv.settled in
+        rw w.asked-is (record {
+          settled = rw (set_same c.loop-place.latest seat c.say_line.new.latest still.0, set_same c.loop-place.counted seat c.say_line.new.counted still.1) settled;
+          few = omega (arith, inv.few);
+          within = within;
+          latest = set_long c.loop-place.latest seat c.say_line.new.latest ∙ inv.latest;
+          turns = c.said_to-said.ensures.turns ∙ inv.turns;
+          finders = set_long c.loop-place.finders seat c.say_line.new.finder ∙ inv.finders;
+          counted = still_below g.H.RegexHost.faults c.loop-place.counted c.loop-place.finders seat c.say_line.new.counted c.say_line.new.finder told.counted inv.counted;
+          later = later;
+        })
+    ]
 
 pub returns-clause-settled : goal.returns-clause-settled
 returns-clause-settled g c =
