@@ -3,8 +3,8 @@ use Rattle.std.proofs.Common.{◌≡◌, ◌⊎◌, ℕ, zero, suc, ◌+◌, ◌
 use Rattle.std.proofs.Math.Seq.{take-append_seam}
 use Rattle.std.specs.Prelude.{IfSome, IfErr, OnOk, IsErrAnd, IsErrOf}
 use Rattle.std.specs.Io.KnownBytes.{Appends, IsAtEnd}
-use Rattle.dnr_base.specs.Faults.{Count, Rose}
-use Rattle.dnr_io.specs.Lines.{GivesLine, IsBeyond, StopsIn}
+use Rattle.dnr_base.specs.Faults.{Count}
+use Rattle.dnr_io.specs.Lines.{IsBeyond, StopsIn}
 use Rattle.dnr_io.specs.Sink.{AppendsPart}
 use Rattle.dnr_io.specs.declared.line_refusal.LineRefusal.{LineRefusal}
 use Rattle.dnr_io.specs.declared.line_refusal.LineRefusal.TheVariants as refusal

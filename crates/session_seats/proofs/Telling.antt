@@ -1,24 +1,22 @@
 -- What is said to a line when its round has ended, as the lines of the round are seen.
-use Rattle.std.proofs.Common.{◌≡◌, ◌<◌, ◌≤◌, ◌+◌, ◌%◌, ◌++◌, ℕ, zero, suc, List, [], ◌∷◌, length, set, get_or, Bool, true, false, Option, Some, None, Ok, Err, Result, Bor, refl, sym, ap, ◌∙◌, subst, arith, All}
-use Rattle.std.specs.Prelude.{IsSome, IsTrue, IfSome, option_copied, string_bytes}
-use Rattle.std.specs.List.{Contains}
+use Rattle.std.proofs.Common.{◌≡◌, ◌<◌, ◌+◌, ◌%◌, ◌++◌, ℕ, zero, suc, List, [], ◌∷◌, length, set, get_or, true, false, Ok, Err, Result, refl, sym, ap, ◌∙◌, subst, arith, All}
 use Rattle.dnr_spec.specs.Suffixes.{SuffixRule}
 use Rattle.generation.specs.Basis.{Basis}
 use Rattle.line_spec.specs.Line as spec
 use Rattle.line_spec.specs.declared.line_fault.LineFault.{LineFault}
 use Rattle.rule_spec.specs.State.{State}
-use Rattle.session_rounds.proofs.Steps.{SettledTo, none_settled, seat_settled, reply_settled}
+use Rattle.session_rounds.proofs.Steps.{SettledTo, seat_settled, reply_settled}
 use Rattle.session_rounds.specs.Lines.{is_asked, is_asking, read_seen, Fits}
 use Rattle.session_rounds.specs.Rounds.{SeatTold}
 use Rattle.session_rounds.specs.Writing.{WriterSays}
 use Rattle.session_rounds.specs.declared.read_line.ReadLine.{ReadLine}
-use Rattle.session_spec.specs.Said.{Answer, decided, explained, failed}
+use Rattle.session_spec.specs.Said.{Answer}
 use Rattle.update_spec.specs.Entries.{Entry}
 use Rattle.session_seats.specs.Reading.{IsTaken, ReadRound, seen_line, seen_lines}
 use Rattle.session_seats.specs.Writing.{WriterSaysAll, text_with, texts_with}
 use Rattle.session_seats.specs.declared.round_line.RoundLine.{RoundLine}
 use Rattle.session_seats.proofs.Desks.{seen_there}
-use Rattle.session_seats.proofs.Offices.{all_whole, as_many, text_at, with_as_many}
+use Rattle.session_seats.proofs.Offices.{all_whole, text_at, with_as_many}
 
 -- what has an answer asks a seat
 pub fits_asks : (suffixes : List SuffixRule) (read : Result spec.Command LineFault) (state : State) (answer : Answer) → Fits suffixes read state answer → is_asked read ≡ true

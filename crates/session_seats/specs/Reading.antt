@@ -1,5 +1,5 @@
 -- The lines of a round as they read, and one line more.
-use Rattle.std.specs.Prelude.{◌≡◌, ◌⊎◌, ℕ, zero, suc, ◌+◌, List, [], ◌∷◌, ◌++◌, map, Result, Ok, Err}
+use Rattle.std.specs.Prelude.{◌≡◌, ◌⊎◌, ℕ, ◌+◌, List, [], ◌∷◌, ◌++◌, map, Result, Ok, Err}
 use Rattle.line_spec.specs.Line.{Command, blank, sync, request, explain, update, batch, command_of}
 use Rattle.line_spec.specs.Stops.{StopsInLine}
 use Rattle.line_spec.specs.declared.line_fault.LineFault.{LineFault}

@@ -4,7 +4,6 @@ use Rattle.dnr_spec.specs.Lines.{max_line}
 use Rattle.generation.specs.Basis.{Basis}
 use Rattle.lines_ahead.specs.Cut.{CutSeen}
 use Rattle.session_laws.specs.Turns.{NoneFell}
-use Rattle.session_rounds.specs.declared.read_line.ReadLine.{ReadLine}
 use Rattle.session_serve.specs.declared.stop.ServeStop.{ServeStop}
 use Rattle.session_serve.specs.declared.stop.ServeStop.TheVariants as stop
 use Rattle.session_spec.specs.Rounds.{ends_round, with_line}

@@ -1,4 +1,4 @@
-use Rattle.std.proofs.Common.{◌≡◌, ◌+◌, ◌∷◌, [], Ok, Err, refl, sym, subst, ap, ◌∙◌, List, length, length-append, arith, rules}
+use Rattle.std.proofs.Common.{◌∷◌, [], Ok, Err, refl, sym, subst, ap, ◌∙◌, List, length, length-append, arith}
 use Rattle.std.specs.Prelude.{IfSome}
 use Rattle.dnr_io.specs.Lines.{ahead, IsBeyond}
 use Rattle.lines_ahead.specs.Cut.{CutSeen}

@@ -1,6 +1,6 @@
-use Rattle.std.proofs.Common.{◌≡◌, ◌≢◌, ℕ, Ok, Err, sym, subst, rules}
+use Rattle.std.proofs.Common.{◌≢◌, ℕ, Ok, Err, sym, subst, rules}
 use Rattle.line_spec.specs.declared.line_fault.LineFault.TheVariants.{NoMemory}
-use Rattle.session_seats.specs.Reading.{HasRead, HasTaken}
+use Rattle.session_seats.specs.Reading.{HasRead}
 use Rattle.session_seats.proofs.Readings.{plain_read_so, read_well, read_faulty}
 use Rattle.session_seats.proofs.reading.take_line.Goals as goal
 

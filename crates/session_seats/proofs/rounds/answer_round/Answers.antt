@@ -1,4 +1,4 @@
-use Rattle.std.proofs.Common.{◌∙◌, List, ℕ, length, map, string_bytes, sym, subst, refl, rules}
+use Rattle.std.proofs.Common.{◌∙◌, List, ℕ, length, map, string_bytes, sym, subst, rules}
 use Rattle.session_laws.specs.Turns.{NoneFell}
 use Rattle.session_laws.proofs.Rises.{none_fell_yet, none_fell_on}
 use Rattle.session_rounds.proofs.Whole.{zip_long}

@@ -1,4 +1,4 @@
-use Rattle.std.proofs.Common.{◌≡◌, ◌+◌, ◌++◌, ap, ◌∙◌, refl, string_bytes}
+use Rattle.std.proofs.Common.{◌+◌, ◌++◌, ap, ◌∙◌, refl, string_bytes}
 use Rattle.session_seats.specs.Reading.{seen_line}
 use Rattle.session_seats.proofs.Settled.{stands_calm, stands_failed}
 use Rattle.session_seats.proofs.settling.say_again.Goals as goal

@@ -1,4 +1,4 @@
-use Rattle.std.proofs.Common.{◌≡◌, ◌≤◌, ◌<◌, ◌%◌, ◌+◌, ◌++◌, length, map, get_or, string_bytes, refl, sym, ap, ◌∙◌, subst, arith, rules}
+use Rattle.std.proofs.Common.{◌≤◌, ◌%◌, length, map, string_bytes, refl, ap, ◌∙◌, arith}
 use Rattle.std.proofs.lemmas.List.{length-map}
 use Rattle.session_laws.proofs.Rises.{as_long, none_fell_on, none_fell_yet}
 use Rattle.session_rounds.proofs.Steps.{none_settled, all_settled}
@@ -85,34 +85,34 @@ loop-place-preserved g c =
     (one_asked g.H.RegexHost.faults c.loop-place.finders seat c.index-finders-seat.result c.say_line.new.finder (omega (arith, inside, inv.finders)) told.later) in
     elim c.if-asks.branch [
       | then-asks w ↦
-        rw w.asked-is (record {
-          settled = seat_told g.P.Pair.opening c.args.floor.now c.args.office.now.list (length c.args.desks.now) c.args.round.now c.lines-lines.result.now (texts_with c.args.round.now.lines c.args.office.now.texts) c.args.latest.now (string_bytes c.args.into.now)
-              c.args.counted.now c.loop-place.place c.loop-place.asked seat c.loop-place.latest (string_bytes c.loop-place.into) (string_bytes c.say_line.new.into) c.loop-place.counted c.say_line.new.latest c.say_line.new.counted
-              c.index-lines-place.result c.lines-lines.ensures.value c.lines-lines.ensures.reads c.loop-place-test.true c.index-lines-place.is (told.asks ∙ w.if-asks.true) refl (omega (arith, inside, inv.latest))
-              (omega (arith, inside, known, length-map c.loop-place.finders g.H.RegexHost.faults, inv.finders)) (told.told w.if-asks.true) inv.settled;
-          few = omega (arith, inv.few);
-          within = within;
-          latest = set_long c.loop-place.latest seat c.say_line.new.latest ∙ inv.latest;
-          turns = c.said_to-said.ensures.turns ∙ inv.turns;
-          finders = set_long c.loop-place.finders seat c.say_line.new.finder ∙ inv.finders;
-          counted = still_below g.H.RegexHost.faults c.loop-place.counted c.loop-place.finders seat c.say_line.new.counted c.say_line.new.finder told.counted inv.counted;
-          later = later;
-        })
+          rw w.asked-is (record {
+            settled = seat_told g.P.Pair.opening c.args.floor.now c.args.office.now.list (length c.args.desks.now) c.args.round.now c.lines-lines.result.now (texts_with c.args.round.now.lines c.args.office.now.texts) c.args.latest.now (string_bytes c.args.into.now)
+                c.args.counted.now c.loop-place.place c.loop-place.asked seat c.loop-place.latest (string_bytes c.loop-place.into) (string_bytes c.say_line.new.into) c.loop-place.counted c.say_line.new.latest c.say_line.new.counted
+                c.index-lines-place.result c.lines-lines.ensures.value c.lines-lines.ensures.reads c.loop-place-test.true c.index-lines-place.is (told.asks ∙ w.if-asks.true) refl (omega (arith, inside, inv.latest))
+                (omega (arith, inside, known, length-map c.loop-place.finders g.H.RegexHost.faults, inv.finders)) (told.told w.if-asks.true) inv.settled;
+            few = omega (arith, inv.few);
+            within = within;
+            latest = set_long c.loop-place.latest seat c.say_line.new.latest ∙ inv.latest;
+            turns = c.said_to-said.ensures.turns ∙ inv.turns;
+            finders = set_long c.loop-place.finders seat c.say_line.new.finder ∙ inv.finders;
+            counted = still_below g.H.RegexHost.faults c.loop-place.counted c.loop-place.finders seat c.say_line.new.counted c.say_line.new.finder told.counted inv.counted;
+            later = later;
+          })
       | else-asks w ↦
-        let still = told.still w.if-asks.false in
-        let settled = reply_told g.P.Pair.opening c.args.floor.now c.args.office.now.list (length c.args.desks.now) c.args.round.now c.lines-lines.result.now c.args.office.now.texts c.args.latest.now (string_bytes c.args.into.now)
-        c.args.counted.now c.loop-place.place c.loop-place.asked c.loop-place.latest (string_bytes c.loop-place.into) (string_bytes c.say_line.new.into) c.loop-place.counted (string_bytes c.loop-place.into)
-        c.index-lines-place.result c.lines-lines.ensures.value c.lines-lines.ensures.reads many c.loop-place-test.true c.index-lines-place.is (told.asks ∙ w.if-asks.false) (told.text w.if-asks.false) inv.settled in
-        rw w.asked-is (record {
-          settled = rw (set_same c.loop-place.latest seat c.say_line.new.latest still.0, set_same c.loop-place.counted seat c.say_line.new.counted still.1) settled;
-          few = omega (arith, inv.few);
-          within = within;
-          latest = set_long c.loop-place.latest seat c.say_line.new.latest ∙ inv.latest;
-          turns = c.said_to-said.ensures.turns ∙ inv.turns;
-          finders = set_long c.loop-place.finders seat c.say_line.new.finder ∙ inv.finders;
-          counted = still_below g.H.RegexHost.faults c.loop-place.counted c.loop-place.finders seat c.say_line.new.counted c.say_line.new.finder told.counted inv.counted;
-          later = later;
-        })
+          let still = told.still w.if-asks.false in
+          let settled = reply_told g.P.Pair.opening c.args.floor.now c.args.office.now.list (length c.args.desks.now) c.args.round.now c.lines-lines.result.now c.args.office.now.texts c.args.latest.now (string_bytes c.args.into.now)
+          c.args.counted.now c.loop-place.place c.loop-place.asked c.loop-place.latest (string_bytes c.loop-place.into) (string_bytes c.say_line.new.into) c.loop-place.counted (string_bytes c.loop-place.into)
+          c.index-lines-place.result c.lines-lines.ensures.value c.lines-lines.ensures.reads many c.loop-place-test.true c.index-lines-place.is (told.asks ∙ w.if-asks.false) (told.text w.if-asks.false) inv.settled in
+          rw w.asked-is (record {
+            settled = rw (set_same c.loop-place.latest seat c.say_line.new.latest still.0, set_same c.loop-place.counted seat c.say_line.new.counted still.1) settled;
+            few = omega (arith, inv.few);
+            within = within;
+            latest = set_long c.loop-place.latest seat c.say_line.new.latest ∙ inv.latest;
+            turns = c.said_to-said.ensures.turns ∙ inv.turns;
+            finders = set_long c.loop-place.finders seat c.say_line.new.finder ∙ inv.finders;
+            counted = still_below g.H.RegexHost.faults c.loop-place.counted c.loop-place.finders seat c.say_line.new.counted c.say_line.new.finder told.counted inv.counted;
+            later = later;
+          })
     ]
 
 pub returns-clause-settled : goal.returns-clause-settled

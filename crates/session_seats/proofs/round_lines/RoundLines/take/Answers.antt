@@ -1,8 +1,7 @@
-use Rattle.std.proofs.Common.{◌≡◌, ◌<◌, ◌+◌, ◌++◌, ◌∷◌, [], List, length, refl, ap, ◌∙◌, subst, arith}
+use Rattle.std.proofs.Common.{◌≡◌, ◌<◌, ◌+◌, ◌++◌, ◌∷◌, [], length, refl, ap, ◌∙◌, subst, arith}
 use Rattle.std.specs.Prelude.{◌||◌}
 use Rattle.std.proofs.lemmas.List.{length_push, map_push}
 use Rattle.session_rounds.specs.Lines.{read_seen}
-use Rattle.session_rounds.specs.declared.read_line.ReadLine.{ReadLine}
 use Rattle.session_spec.specs.Rounds.{Held, is_full, is_sync}
 use Rattle.session_seats.specs.Reading.{ReadRound, asked_in, held_with, seen_line, seen_lines}
 use Rattle.session_seats.proofs.Desks.{has_room, stays_bounded, bounded_on, asked_more, holds_line, ends_line}
