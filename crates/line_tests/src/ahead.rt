@@ -28,7 +28,7 @@ fn lines_asked_ahead_are_read_as_ever(rt: HostRuntime) -> Result<(), Fail> {
         return Err("no host".into());
     };
     let mut lines = Vec::new(alloc);
-    for number in 1..=66_u32 {
+    for number in 1..=99_u32 {
         let (_, row) = ROWS[(number % 3) as usize];
         lines.push(CutLine::new(number, row.as_bytes().to_vec(alloc)?))?;
     }

@@ -3,6 +3,7 @@ use Rattle.std.specs.Prelude.{ℕ, List, Result, Ok, Err}
 use Rattle.line_spec.specs.declared.line_fault.LineFault.{LineFault}
 use Rattle.line_spec.specs.IsFault.{IsFaultOf}
 use Rattle.line_spec.specs.Line.{command_of}
+use Rattle.plain_lines.specs.Plain.{IsPlain, IsRequestAtMost}
 use Rattle.script_read.specs.declared.asked.Asked.{Asked}
 use Rattle.script_read.specs.Asked.{AsksFor}
 
@@ -15,3 +16,8 @@ pub record CutSeen : Type 0 where
 abbrev pub IsTold : ℕ → List ℕ → Result Asked LineFault → Type 0
 IsTold number bytes (Ok asked) = AsksFor number bytes asked
 IsTold number bytes (Err fault) = IsFaultOf (command_of number bytes) fault
+
+-- the bytes of the line show that it asks for a request at most
+pub record IsPlainLine (line : CutSeen) : Type 0 where
+  pub plain : IsPlain line.bytes
+  pub most : IsRequestAtMost (command_of line.number line.bytes)

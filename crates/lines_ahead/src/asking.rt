@@ -12,15 +12,20 @@ const FEW: usize = 64;
 /// Asks the lines what they ask for, in at most so many threads. They are cut into runs of lines that follow each other,
 /// one run a thread, since most requests are asked by whoever asked before.
 ///
-/// Few lines, and all lines where there is one thread, are left as they are.
+/// Plain lines, few others, and all lines where there is one thread, are left as they are.
 pub fn ask_all<R: Threads + Sync>(rt: &R, alloc: Global, threads: usize, lines: &mut [CutLine])
     requires { 0 < threads }
     ensures { lines.new ≡ lines.old }
 {
-    if 1 < threads && FEW <= lines.len() {
+    if 1 < threads && FEW <= lines.len() && are_many(lines) {
         let size = lines.len().div_ceil(threads);
         ask_runs(rt, alloc, size, lines);
     }
+}
+
+// Whether they are worth threads: whoever answers a plain line asks it.
+fn are_many(lines: &[CutLine]) -> bool {
+    FEW <= lines.iter().filter(|line| !line.is_plain()).count()
 }
 
 // Asks each run of so many lines in a thread of its own.
@@ -37,6 +42,8 @@ fn ask_run(alloc: Global, lines: &mut [CutLine])
 {
     let mut memo = Memo::new(alloc);
     for line in lines.iter_mut() {
-        line.ask(alloc, &mut memo);
+        if !line.is_plain() {
+            line.ask(alloc, &mut memo);
+        }
     }
 }

@@ -1,12 +1,16 @@
 //! A line that stands alone, and what is known of it before its turn.
-ghost use Rattle.std.specs.Prelude.{◌≡◌, ◌≤◌, Ok, IfOk, IfErr};
+ghost use Rattle.std.specs.Prelude.{◌≡◌, ◌≤◌, Ok, IfOk, IfErr, IfSome, IsTrue};
 ghost use Rattle.dnr_base.specs.Faults.{Rose};
-ghost use Rattle.line_spec.specs.IsFault.{IsCalm, IsFaultOfLine};
+ghost use Rattle.line_spec.specs.IsFault.{IsCalm, IsFaultOf, IsFaultOfLine};
 ghost use Rattle.line_spec.specs.Line as spec;
+ghost use Rattle.lines_ahead.specs.Cut.{IsPlainLine};
 ghost use Rattle.script_read.specs.Seen.{command_seen};
 
+use plain_lines::is_plain;
 use regex_host::RegexHost;
-use script_read::{Asked, Command, LineFault, Memo, ask_line, finish_line, read_line_with};
+use script_read::{
+    Asked, Command, LineFault, Memo, ask_line, finish_line, is_blank, read_line_with,
+};
 use std::alloc::Global;
 use std::marker::Model;
 
@@ -16,18 +20,22 @@ use std::marker::Model;
 pub struct CutLine {
     number: u32,
     bytes: Vec<u8>,
-    asked: Option<Result<Asked, LineFault>>,
+    // Whether its bytes show that it asks for a request at most.
+    plain: bool,
+    // Few lines are asked, so what they ask for stands apart, and a line is moved as a few words.
+    asked: Option<Box<Result<Asked, LineFault>>>,
 }
 
 impl Model for CutLine {
-    ghost use Rattle.std.specs.Prelude.{IfSome};
-    ghost use Rattle.lines_ahead.specs.Cut.{CutSeen, IsTold};
+    ghost use Rattle.std.specs.Prelude.{IfSome, IsTrue};
+    ghost use Rattle.lines_ahead.specs.Cut.{CutSeen, IsPlainLine, IsTold};
 
     ghost Value = { CutSeen };
 
     ghost view = { λ l. record { number = l.number; bytes = l.bytes.items } };
 
-    ghost invariant = { λ l. IfSome l.asked (IsTold l.number l.bytes.items) };
+    ghost invariant = { λ l. IfSome l.asked (λ asked. IsTold l.number l.bytes.items asked.value)
+        × (IsTrue l.plain → IsPlainLine (record { number = l.number; bytes = l.bytes.items })) };
 }
 
 impl CutLine {
@@ -36,9 +44,11 @@ impl CutLine {
         ensures number { result.number ≡ number }
         ensures bytes { result.bytes ≡ bytes.items }
     {
+        let plain = is_plain(&bytes) && !is_blank(&bytes);
         CutLine {
             number,
             bytes,
+            plain,
             asked: None,
         }
     }
@@ -57,15 +67,45 @@ impl CutLine {
         &self.bytes
     }
 
+    /// The memory of its bytes, for another line.
+    pub fn into_bytes(self) -> Vec<u8> {
+        self.bytes
+    }
+
+    /// Whether its bytes show that it asks for a request, if for anything. A blank line isn't taken for one.
+    pub fn is_plain(&self) -> bool
+        ensures { IsTrue result → IsPlainLine self.now }
+    {
+        self.plain
+    }
+
+    /// Reads a plain line, for which no pattern host is needed.
+    ///
+    /// # Errors
+    ///
+    /// Those of `read_line`, but for `RuleRefused` and `InBatch`.
+    pub fn read_plain(&self, alloc: Global, memo: &mut Memo) -> Result<Command, LineFault>
+        requires { IsPlainLine self.now }
+        ensures read { IfOk result (λ command. spec.command_of self.now.number self.now.bytes ≡ Ok (command_seen command)) }
+        ensures within_limits { IfOk result (λ command. spec.IsWithinLimits (command_seen command)) }
+        ensures refused { IfErr result (IsFaultOf (spec.command_of self.now.number self.now.bytes)) }
+    {
+        match ask_line(alloc, self.number, &self.bytes, memo)? {
+            Asked::Command(command) => Ok(command),
+            // No plain line asks for updates.
+            Asked::Update(_) | Asked::Batch => Err(LineFault::NoMemory),
+        }
+    }
+
     /// Asks the line what it asks for, so that `finish` has less to do. It needs no pattern host. Where memory runs out,
     /// the line is as one that was not asked.
     pub fn ask(&mut self, alloc: Global, memo: &mut Memo)
         ensures { self.new ≡ self.old }
     {
         self.asked = match ask_line(alloc, self.number, &self.bytes, memo) {
-            Ok(asked) => Some(Ok(asked)),
+            Ok(asked) => kept(alloc, Ok(asked)),
             Err(LineFault::NoMemory) => None,
-            Err(fault) => Some(Err(fault)),
+            Err(fault) => kept(alloc, Err(fault)),
         };
     }
 
@@ -90,12 +130,23 @@ impl CutLine {
         let CutLine {
             number,
             bytes,
+            plain: _,
             asked,
         } = self;
-        match asked {
-            Some(Ok(asked)) => finish_line(alloc, number, &bytes, asked, memo, host),
-            Some(Err(fault)) => Err(fault),
-            None => read_line_with(alloc, number, &bytes, memo, host),
+        let Some(asked) = asked else {
+            return read_line_with(alloc, number, &bytes, memo, host);
+        };
+        match Box::into_inner(asked) {
+            Ok(asked) => finish_line(alloc, number, &bytes, asked, memo, host),
+            Err(fault) => Err(fault),
         }
     }
+}
+
+// What a line was told to ask for, where there is memory to keep it.
+fn kept(alloc: Global, told: Result<Asked, LineFault>) -> Option<Box<Result<Asked, LineFault>>>
+    ensures { IfSome result (λ kept. kept.value ≡ told) }
+{
+    let kept: Result<_, _> = Box::new(alloc, told);
+    kept.ok()
 }

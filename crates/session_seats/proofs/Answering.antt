@@ -1,5 +1,5 @@
 -- A round, from what its parts do to what is written of it.
-use Rattle.std.proofs.Common.{◌≡◌, ◌<◌, ◌≤◌, ◌∙◌, ℕ, List, [], ◌∷◌, length, get_or, replicate, false, Option, Result, OnOk, sym, ap, subst, arith, length-append, All}
+use Rattle.std.proofs.Common.{◌≡◌, ◌<◌, ◌≤◌, ◌∙◌, ℕ, List, [], ◌∷◌, length, get_or, replicate, false, Option, Result, Ok, Err, OnOk, sym, ap, subst, arith, length-append, All}
 use Rattle.std.specs.List.{AllZip}
 use Rattle.std.specs.Io.KnownBytes.{Appends}
 use Rattle.std.proofs.lemmas.List.{get_or-replicate, length-replicate}
@@ -9,14 +9,13 @@ use Rattle.dnr_io.specs.Sink.{AppendsPart}
 use Rattle.generation.specs.Basis.{Basis}
 use Rattle.update_spec.specs.Entries.{Entry}
 use Rattle.session_laws.specs.Turns.{NoneFell}
-use Rattle.session_laws.proofs.Rises.{none_fell_yet}
 use Rattle.session_rounds.specs.Rounds.{Settled, RoundAnswered}
-use Rattle.session_rounds.specs.Writing.{WriterSays}
 use Rattle.session_rounds.specs.declared.read_line.ReadLine.{ReadLine}
-use Rattle.session_rounds.proofs.Whole.{round_answered}
+use Rattle.session_rounds.proofs.Whole.{numbers_from}
 use Rattle.session_seats.specs.Rounds.{AreWithin, WritesRound, CutsRound}
 use Rattle.session_seats.specs.Seats.{DeskSeen, AreSeats, HasBegun, HasAnswered, HasEnded, IsTrusted}
-use Rattle.session_seats.specs.Writing.{OfficeSeen, HasWritten}
+use Rattle.session_seats.specs.Writing.{OfficeSeen, HasWritten, WriterSaysAll}
+use Rattle.session_seats.specs.declared.round_line.RoundLine.{RoundLine}
 use Rattle.session_seats.proofs.Parts.{answered_to, have_begun, still_seats, all_trusted, may_begin}
 
 -- ---- the work of a round
@@ -43,30 +42,25 @@ pub seats_ended : (opening : Basis) (reads : List ReadLine) (end : List Entry) (
 seats_ended opening reads end count before now ended seats = still_seats (HasEnded opening reads end) count before now (λ b n one. one.1) ended seats
 
 -- a writer that goes on from these has written after them
-pub written_from : (opening : Basis) (first list : List Entry) (reads : List ReadLine) (office : OfficeSeen) → list ≡ first → HasWritten opening list reads office → HasWritten opening first reads office
-written_from opening first list reads office same wrote = subst (λ (l : List Entry). HasWritten opening l reads office) same wrote
+pub written_from : (opening : Basis) (first list : List Entry) (lines : List RoundLine) (office : OfficeSeen) → list ≡ first → HasWritten opening list lines office → HasWritten opening first lines office
+written_from opening first list lines office same wrote = subst (λ (l : List Entry). HasWritten opening l lines office) same wrote
 
 -- what it has said, unless memory ran out
-pub says_of : (opening : Basis) (list : List Entry) (reads : List ReadLine) (office : OfficeSeen) → HasWritten opening list reads office → office.stopped ≡ false → WriterSays opening list reads office.texts office.list
-says_of opening list reads office wrote going = (wrote going).says
+pub says_of : (opening : Basis) (list : List Entry) (lines : List RoundLine) (office : OfficeSeen) → HasWritten opening list lines office → office.stopped ≡ false → WriterSaysAll opening list lines office.texts office.list
+says_of opening list lines office wrote going = (wrote going).says
 
-pub idle_of : (opening : Basis) (list : List Entry) (reads : List ReadLine) (office : OfficeSeen) → HasWritten opening list reads office → office.stopped ≡ false → office.staged ≡ []
-idle_of opening list reads office wrote going = (wrote going).idle
+pub idle_of : (opening : Basis) (list : List Entry) (lines : List RoundLine) (office : OfficeSeen) → HasWritten opening list lines office → office.stopped ≡ false → office.staged ≡ []
+idle_of opening list lines office wrote going = (wrote going).idle
 
 -- ---- what is handed on to be said
 
-pub answered_of : (opening : Basis) (reads lines : List ReadLine) (desks : List DeskSeen) → lines ≡ reads → All (HasAnswered opening reads) desks → All (HasAnswered opening lines) desks
-answered_of opening reads lines desks same answered = subst (λ (rs : List ReadLine). All (HasAnswered opening rs) desks) (sym same) answered
-
-pub trusted_of : (opening : Basis) (reads lines : List ReadLine) (list end : List Entry) (before now : List DeskSeen) → lines ≡ reads → end ≡ list → AllZip (HasEnded opening lines end) before now
+pub trusted_of : (opening : Basis) (reads : List ReadLine) (list end : List Entry) (before now : List DeskSeen) → end ≡ list → AllZip (HasEnded opening reads end) before now
     → All (IsTrusted opening reads list) now
-trusted_of opening reads lines list end before now same is ended =
-    subst (λ (l : List Entry). All (IsTrusted opening reads l) now) is
-    (subst (λ (rs : List ReadLine). All (IsTrusted opening rs end) now) same (all_trusted opening lines end before now ended))
+trusted_of opening reads list end before now is ended =
+    subst (λ (l : List Entry). All (IsTrusted opening reads l) now) is (all_trusted opening reads end before now ended)
 
-pub says_from : (opening : Basis) (first floor end : List Entry) (reads lines : List ReadLine) (texts : List (List ℕ)) → floor ≡ first → lines ≡ reads → WriterSays opening first reads texts end → WriterSays opening floor lines texts end
-says_from opening first floor end reads lines texts from same says =
-    subst (λ (l : List Entry). WriterSays opening l lines texts end) (sym from) (subst (λ (rs : List ReadLine). WriterSays opening first rs texts end) (sym same) says)
+pub says_from : (opening : Basis) (first floor end : List Entry) (lines : List RoundLine) (texts : List (List ℕ)) → floor ≡ first → WriterSaysAll opening first lines texts end → WriterSaysAll opening floor lines texts end
+says_from opening first floor end lines texts from says = subst (λ (l : List Entry). WriterSaysAll opening l lines texts end) (sym from) says
 
 pub no_longer : (list other : List Entry) → IsPrefix list other → length list ≤ length other
 no_longer list other begins = omega (arith, ap length begins.1, length-append list begins.0)
@@ -79,18 +73,28 @@ copies_within least most number count numbers same is le = λ place inside.
 
 -- ---- what a round says
 
+told_whole : {T E : Type 0} (result : Result T E) (opening : Basis) (floor end : List Entry) (seats : ℕ) (reads : List ReadLine) (lasts before now was is : List ℕ)
+    → IsPrefix floor end → OnOk result (Settled opening floor end seats 0 floor reads end lasts before now was is) → OnOk result (RoundAnswered opening seats reads floor end before now was is)
+told_whole (Err e) opening floor end seats reads lasts before now was is begins settled = tt
+told_whole (Ok x) opening floor end seats reads lasts before now was is begins settled = record {
+  said = settled.said;
+  says = settled.says;
+  text = settled.text;
+  order = λ seat. numbers_from opening floor end seats 0 floor reads settled.said end seat (get_or lasts seat 0) begins settled.says (settled.order seat);
+  rises = settled.rises;
+}
+
 -- a round that was settled so was answered, and is so after further faults, too
-pub round_said : {T E : Type 0} (result : Result T E) (opening : Basis) (count seats : ℕ) (reads lines : List ReadLine) (first floor end : List Entry) (texts : List (List ℕ)) (lasts before now was middle is later : List ℕ)
-    → seats ≡ count → lines ≡ reads → floor ≡ first → middle ≡ was → WriterSays opening first reads texts end
-    → OnOk result (Settled opening floor end seats 0 floor lines end lasts before now middle is) → OnOk result (NoneFell is later)
+pub round_said : {T E : Type 0} (result : Result T E) (opening : Basis) (count seats : ℕ) (reads : List ReadLine) (first floor end : List Entry) (lasts before now was middle is later : List ℕ)
+    → seats ≡ count → floor ≡ first → middle ≡ was → IsPrefix floor end
+    → OnOk result (Settled opening floor end seats 0 floor reads end lasts before now middle is) → OnOk result (NoneFell is later)
     → OnOk result (RoundAnswered opening count reads first end before now was later)
-round_said result opening count seats reads lines first floor end texts lasts before now was middle is later many same from counted written settled fell =
-    let by_count = subst (λ (n : ℕ). OnOk result (Settled opening floor end n 0 floor lines end lasts before now middle is)) many settled in
-    let by_lines = subst (λ (rs : List ReadLine). OnOk result (Settled opening floor end count 0 floor rs end lasts before now middle is)) same by_count in
-    let by_floor = subst (λ (l : List Entry). OnOk result (Settled opening l end count 0 l reads end lasts before now middle is)) from by_lines in
-    let by_counts = subst (λ (cs : List ℕ). OnOk result (Settled opening first end count 0 first reads end lasts before now cs is)) counted by_floor in
-    answered_to result opening count reads first end before now was is later
-    (round_answered result opening first end count reads texts lasts before now was was is written (none_fell_yet was) by_counts) fell
+round_said result opening count seats reads first floor end lasts before now was middle is later many from counted begins settled fell =
+    let whole = told_whole result opening floor end seats reads lasts before now middle is begins settled in
+    let by_count = subst (λ (n : ℕ). OnOk result (RoundAnswered opening n reads floor end before now middle is)) many whole in
+    let by_floor = subst (λ (l : List Entry). OnOk result (RoundAnswered opening count reads l end before now middle is)) from by_count in
+    let by_counts = subst (λ (cs : List ℕ). OnOk result (RoundAnswered opening count reads first end before now cs is)) counted by_floor in
+    answered_to result opening count reads first end before now was is later by_counts fell
 
 -- ---- what is written of it
 

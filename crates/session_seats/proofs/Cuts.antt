@@ -1,7 +1,6 @@
 -- Lines that are cut from a source ahead of their turn, and the rounds that they are given to.
-use Rattle.std.proofs.Common.{◌≡◌, ℕ, ◌+◌, ◌≤◌, List, [], ◌∷◌, ◌++◌, length, Bool, true, false, Option, Some, None, Result, Ok, Err, refl, sym, ap, ◌∙◌, subst, arith, append_assoc, append-nil, take, drop, take_all, drop_of_length-le}
+use Rattle.std.proofs.Common.{◌≡◌, ℕ, ◌+◌, ◌≤◌, List, [], ◌∷◌, ◌++◌, length, Bool, Option, Result, Ok, Err, refl, sym, ap, ◌∙◌, subst, arith, append_assoc, append-nil, take, drop, take_all, drop_of_length-le}
 use Rattle.std.specs.Prelude.{IfSome, IsErrAnd}
-use Rattle.std.specs.Io.KnownBytes.{IsAtEnd}
 use Rattle.dnr_io.specs.Lines.{GivesLine, IsBeyond, StopsIn}
 use Rattle.dnr_io.specs.declared.line_refusal.LineRefusal.{LineRefusal}
 use Rattle.dnr_io.specs.declared.line_refusal.LineRefusal.TheVariants as refusal

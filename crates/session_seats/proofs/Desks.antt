@@ -1,22 +1,22 @@
 -- What a seat has answered, with one answer more, and a round, with one line more.
-use Rattle.std.proofs.Common.{◌≡◌, ◌<◌, ◌≤◌, ◌+◌, ◌-◌, ◌^◌, ℕ, List, [], ◌∷◌, ◌++◌, length, get_or, Bool, true, false, cond, nat_le, min, Option, Some, Ok, Err, Result, refl, sym, ap, ◌∙◌, subst, arith, All}
+use Rattle.std.proofs.Common.{◌≡◌, ◌<◌, ◌≤◌, ◌+◌, ◌-◌, ◌^◌, ℕ, List, [], ◌∷◌, ◌++◌, length, get_or, Bool, true, false, cond, nat_le, min, Option, Some, refl, sym, ap, ◌∙◌, subst, arith, All}
 use Rattle.std.specs.Prelude.{IsTrue, IsFalse, ◌||◌}
 use Rattle.std.proofs.lemmas.Bool.{or_parts, leb-false}
-use Rattle.std.proofs.lemmas.List.{length_push}
+use Rattle.std.proofs.lemmas.List.{length_push, length-map}
 use Rattle.std.proofs.lemmas.List.Elements.{All-nil, All-push, All-same, All-contains}
 use mathlib.Core.List.{IsPrefix}
 use Rattle.generation.specs.Basis.{Basis}
-use Rattle.line_spec.specs.Line.{Command, blank, sync, request, explain, update, batch}
-use Rattle.line_spec.specs.declared.line_fault.LineFault.{LineFault}
 use Rattle.published.proofs.Beginnings.{begins_itself}
 use Rattle.session_spec.specs.Rounds.{Held, asks, is_full, is_sync}
-use Rattle.session_rounds.specs.Lines.{IsLine, read_seen, is_asked, is_asking}
+use Rattle.session_rounds.specs.Lines.{read_seen}
 use Rattle.session_rounds.specs.declared.read_line.ReadLine.{ReadLine}
 use Rattle.update_spec.specs.Entries.{Entry}
-use Rattle.session_seats.specs.Reading.{ReadRound, held_with}
+use Rattle.session_seats.specs.Reading.{IsTaken, ReadRound, asked_in, held_with, seen_line, seen_lines}
+use Rattle.session_seats.specs.declared.round_line.RoundLine.{RoundLine}
 use Rattle.session_seats.specs.Seats.{Answers, DeskSeen, HasAnswered, seen_of}
 use Rattle.session_seats.specs.declared.answered.Answered.{Answered}
 use Rattle.session_seats.proofs.Seats.{all_further}
+use Rattle.session_seats.proofs.Settled.{at_map}
 
 -- a seat that has answered nothing
 pub none_answered : (opening : Basis) (reads : List ReadLine) (desk : DeskSeen) → desk.answers ≡ [] → HasAnswered opening reads desk
@@ -49,12 +49,16 @@ turns_on count turn step next here fits some is = omega arith
 
 -- ---- rounds
 
-pub line_at : (reads now : List ReadLine) (place : ℕ) (line : ReadLine) → now ≡ reads → All IsLine reads → place < length now → line ≡ get_or now place line → IsLine line
-line_at reads now place line same all inside there =
-    All-contains IsLine reads line all (
-      place,
-      subst (λ (list : List ReadLine). place < length list) same inside,
-      sym (subst (λ (list : List ReadLine). line ≡ get_or list place line) same there),
+pub taken_at : (lines : List RoundLine) (place : ℕ) (line : RoundLine) → All IsTaken lines → place < length lines → line ≡ get_or lines place line → IsTaken line
+taken_at lines place line all inside there = All-contains IsTaken lines line all (place, inside, sym there)
+
+-- the line at a place of a round, as it reads
+pub seen_there : (round : ReadRound) (lines : List RoundLine) (place : ℕ) (line : RoundLine) → lines ≡ round.lines → round.reads ≡ seen_lines round.lines → place < length lines → line ≡ get_or lines place line
+    → (place < length round.reads) × (seen_line line ≡ get_or round.reads place (seen_line line))
+seen_there round lines place line same seen inside there =
+    let reads : round.reads ≡ seen_lines lines = seen ∙ ap seen_lines (sym same) in (
+      omega (arith, inside, ap length reads, length-map lines seen_line),
+      ap seen_line there ∙ sym (at_map seen_line lines place line) ∙ ap (λ (rs : List ReadLine). get_or rs place (seen_line line)) (sym reads),
     )
 
 -- a round that is not full has room for one line more
@@ -66,35 +70,30 @@ pub has_room : (round view : ReadRound) → view ≡ round → is_full round.hel
 has_room round view same space = room view.held.lines view.held.bytes (subst (λ (r : ReadRound). is_full r.held ≡ false) (sym same) space)
 
 -- it keeps its bounds without the line and with it
-abbrev pub IsBounded : List ReadLine → ℕ → ℕ → Type 0
-IsBounded reads bytes asked = (length reads ≤ 1024) × (bytes ≤ 16777215) × (asked ≤ length reads) × All IsLine reads
+abbrev pub IsBounded : List RoundLine → ℕ → Type 0
+IsBounded lines bytes = (length lines ≤ 1024) × (bytes ≤ 16777215) × All IsTaken lines
 
-pub stays_bounded : (before now : List ReadLine) (bytes more asked : ℕ) → now ≡ before → (length before < 1024) × (bytes < 8388608) → more ≤ 8388608 → asked ≤ length before → All IsLine before → IsBounded now (bytes + more) asked
-stays_bounded before now bytes more asked same space short few lines =
-    subst (λ (list : List ReadLine). IsBounded list (bytes + more) asked) (sym same) (omega (arith, space.0), omega (arith, space.1, short), few, lines)
+pub stays_bounded : (before now : List RoundLine) (bytes more : ℕ) → now ≡ before → (length before < 1024) × (bytes < 8388608) → more ≤ 8388608 → All IsTaken before → IsBounded now (bytes + more)
+stays_bounded before now bytes more same space short lines =
+    subst (λ (list : List RoundLine). IsBounded list (bytes + more)) (sym same) (omega (arith, space.0), omega (arith, space.1, short), lines)
 
-pub bounded_on : (before now : List ReadLine) (line : ReadLine) (bytes more was asked : ℕ) → now ≡ before ++ line ∷ [] → (length before < 1024) × (bytes < 8388608) → more ≤ 8388608 → was ≤ length before → asked ≤ was + 1
-    → IsLine line → All IsLine before → IsBounded now (bytes + more) asked
-bounded_on before now line bytes more was asked grown space short few one within lines =
+pub bounded_on : (before now : List RoundLine) (line : RoundLine) (bytes more : ℕ) → now ≡ before ++ line ∷ [] → (length before < 1024) × (bytes < 8388608) → more ≤ 8388608
+    → IsTaken line → All IsTaken before → IsBounded now (bytes + more)
+bounded_on before now line bytes more grown space short within lines =
     let longer : length now ≡ length before + 1 = ap length grown ∙ length_push before line in
-    (omega (arith, space.0, longer), omega (arith, space.1, short), omega (arith, longer, few, one), All-same IsLine now (before ++ line ∷ []) grown (All-push IsLine before line lines within))
+    (omega (arith, space.0, longer), omega (arith, space.1, short), All-same IsTaken now (before ++ line ∷ []) grown (All-push IsTaken before line lines within))
 
-asks_one : (read : Result Command LineFault) → asks read ≡ cond (is_asked read) 1 0
-asks_one (Ok blank) = refl
-asks_one (Ok sync) = refl
-asks_one (Ok (request r)) = refl
-asks_one (Ok (explain r)) = refl
-asks_one (Ok (update one)) = refl
-asks_one (Ok (batch all)) = refl
-asks_one (Err fault) = refl
+pub asked_more : (lines : List ReadLine) (line : ReadLine) → asked_in (lines ++ line ∷ []) ≡ asked_in lines + asks (read_seen line.read)
+asked_more [] line = omega arith
+asked_more (first ∷ lines) line = omega (arith, asked_more lines line)
 
 -- what a round holds with one line more
-pub holds_line : (was now : Held) (line : ReadLine) (more : ℕ) → now.lines ≡ was.lines + 1 → now.bytes ≡ was.bytes + more → now.asked ≡ was.asked + cond (is_asking line) 1 0 → now ≡ held_with was more line
+pub holds_line : (was now : Held) (line : ReadLine) (more : ℕ) → now.lines ≡ was.lines + 1 → now.bytes ≡ was.bytes + more → now.asked ≡ was.asked + asks (read_seen line.read) → now ≡ held_with was more line
 holds_line was now line more lines bytes asked =
     let in_lines : ℕ → Held = λ (n : ℕ). record { lines = n; bytes = now.bytes; asked = now.asked } in
     let in_bytes : ℕ → Held = λ (n : ℕ). record { lines = was.lines + 1; bytes = n; asked = now.asked } in
     let in_asked : ℕ → Held = λ (n : ℕ). record { lines = was.lines + 1; bytes = was.bytes + more; asked = n } in
-    ap in_lines lines ∙ ap in_bytes bytes ∙ ap in_asked (asked ∙ ap (λ (n : ℕ). was.asked + n) (sym (asks_one (read_seen line.read))))
+    ap in_lines lines ∙ ap in_bytes bytes ∙ ap in_asked asked
 
 -- and whether it ends with it
 pub ends_line : (was : Held) (line : ReadLine) (more lines : ℕ) (ends syncs : Bool) → ends ≡ (syncs || is_full (record { lines = lines; bytes = was.bytes + more; asked = 0 }))

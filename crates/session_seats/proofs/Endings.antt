@@ -3,8 +3,8 @@ use Rattle.std.proofs.Common.{◌≡◌, ◌⊎◌, ℕ, zero, suc, ◌+◌, ◌
 use Rattle.std.proofs.Math.Seq.{take-append_seam}
 use Rattle.std.specs.Prelude.{IfSome, IfErr, OnOk, IsErrAnd, IsErrOf}
 use Rattle.std.specs.Io.KnownBytes.{Appends, IsAtEnd}
-use Rattle.dnr_base.specs.Faults.{Count, Rose}
-use Rattle.dnr_io.specs.Lines.{GivesLine, IsBeyond, StopsIn}
+use Rattle.dnr_base.specs.Faults.{Count}
+use Rattle.dnr_io.specs.Lines.{IsBeyond, StopsIn}
 use Rattle.dnr_io.specs.Sink.{AppendsPart}
 use Rattle.dnr_io.specs.declared.line_refusal.LineRefusal.{LineRefusal}
 use Rattle.dnr_io.specs.declared.line_refusal.LineRefusal.TheVariants as refusal
@@ -26,9 +26,9 @@ use Rattle.session_serve.specs.declared.stop.ServeStop.TheVariants as stop
 use Rattle.session_spec.specs.Answers.{Setting, Serves}
 use Rattle.session_spec.specs.Rounds.{Held, holds_nothing, ends_round, rounds_of, whole_rounds_of, short_lines, ended_lines}
 use Rattle.update_spec.specs.Entries.{Entry, replay}
-use Rattle.session_seats.specs.Reading.{ReadRound, ReadsLine}
+use Rattle.session_seats.specs.Reading.{ReadRound, ReadsLine, nothing_read}
 use Rattle.session_seats.specs.Rounds.{WritesRound, CutsRound, StopsRound}
-use Rattle.session_seats.proofs.SoFar.{IsServedSoFar, SoFar, line_taken, served_on, appends_append, nothing_read, start}
+use Rattle.session_seats.proofs.SoFar.{IsServedSoFar, SoFar, line_taken, served_on, appends_append, start}
 
 -- what was allowed is allowed after further faults
 serves_later : (was at is : List ℕ) (setting : Setting) (first : State) (rounds : List (List (List ℕ))) (written : List ℕ) → NoneFell was at → NoneFell at is

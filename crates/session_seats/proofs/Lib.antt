@@ -12,3 +12,4 @@ pub mod Offices
 pub mod Cuts
 pub mod Taken
 pub mod Answering
+pub mod Telling

@@ -1,5 +1,5 @@
 -- Lines that are read one after another.
-use Rattle.std.proofs.Common.{◌≡◌, ◌⊎◌, ℕ, zero, suc, ◌+◌, List, [], ◌∷◌, ◌++◌, length, Result, Ok, Err, refl, sym, ap, ◌∙◌, inl, inr, subst, arith}
+use Rattle.std.proofs.Common.{◌≡◌, ℕ, suc, ◌+◌, List, [], ◌∷◌, ◌++◌, length, Result, Ok, Err, refl, ◌∙◌, inl, inr, subst, arith}
 use Rattle.line_spec.specs.Line.{Command}
 use Rattle.line_spec.specs.declared.line_fault.LineFault.{LineFault}
 use Rattle.session_rounds.specs.Lines.{read_seen}

@@ -1,5 +1,5 @@
 -- The parts of a round, put together.
-use Rattle.std.proofs.Common.{◌≡◌, ◌<◌, ◌≤◌, ℕ, zero, suc, List, [], ◌∷◌, length, map, Option, Result, Ok, Err, OnOk, refl, ◌∙◌, arith, All}
+use Rattle.std.proofs.Common.{◌≡◌, ◌<◌, ℕ, suc, List, [], ◌∷◌, Result, Ok, Err, OnOk, refl, ◌∙◌, arith, All}
 use Rattle.std.specs.List.{AllZip}
 use Rattle.std.proofs.lemmas.List.Elements.{All-nil, All-cons, All-head, All-rest}
 use Rattle.generation.specs.Basis.{Basis}
@@ -8,7 +8,7 @@ use Rattle.session_laws.specs.Turns.{RiseBy, NoneFell}
 use Rattle.session_rounds.specs.Rounds.{RoundAnswered}
 use Rattle.session_rounds.specs.declared.read_line.ReadLine.{ReadLine}
 use Rattle.session_spec.specs.Said.{count_failed}
-use Rattle.session_seats.specs.Seats.{DeskSeen, AreSeats, HasBegun, HasAnswered, HasEnded, IsTrusted}
+use Rattle.session_seats.specs.Seats.{DeskSeen, AreSeats, HasBegun, HasEnded, IsTrusted}
 
 -- counts that rose so until then rose so until later
 pub risen_to : (times : ℕ → ℕ) (before now later : List ℕ) → RiseBy times before now → NoneFell now later → RiseBy times before later

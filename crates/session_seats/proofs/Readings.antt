@@ -1,29 +1,33 @@
 -- A line that was read.
-use Rattle.std.proofs.Common.{◌≡◌, ◌≢◌, ◌⊎◌, ◌≤◌, ◌+◌, ℕ, List, Bool, true, false, Result, Ok, Err, refl, sym, ap, ◌∙◌, inl, inr, arith, length}
+use Rattle.std.proofs.Common.{◌≡◌, ◌≢◌, ◌⊎◌, ◌≤◌, ◌+◌, ℕ, List, Bool, Result, Ok, Err, refl, sym, ap, ◌∙◌, subst, inl, inr, arith, length}
 use Rattle.std.specs.Prelude.{◌||◌}
 use Rattle.dnr_base.specs.Faults.{Rose}
 use Rattle.line_spec.specs.IsFault.{IsFaultOfLine}
-use Rattle.line_spec.specs.Line.{command_of, IsWithinLimits}
+use Rattle.dnr_base.specs.declared.request.Request.{Request}
+use Rattle.line_spec.specs.Line.{Command, blank, sync, request, explain, update, batch, command_of, IsWithinLimits}
 use Rattle.line_spec.specs.Stops.{StopsInLine}
 use Rattle.line_spec.specs.declared.line_fault.LineFault.{LineFault}
 use Rattle.line_spec.specs.declared.line_fault.LineFault.TheVariants.{NoMemory}
+use Rattle.lines_ahead.specs.Cut.{CutSeen, IsPlainLine}
+use Rattle.plain_lines.specs.Plain.{IsRequestAtMost}
 use Rattle.script_read.specs.Seen.{command_seen}
-use Rattle.script_read.specs.declared.command.Command.{Command}
+use Rattle.script_read.specs.declared.command.Command as code
+use Rattle.script_read.specs.declared.command.Command.TheVariants as command
 use Rattle.session_rounds.specs.declared.read_line.ReadLine.{ReadLine}
 use Rattle.session_rounds.specs.Lines.{read_seen}
 use Rattle.session_serve.proofs.AtFault.{stopped_other}
 use Rattle.session_serve.proofs.Told.{line_faulty}
 use Rattle.session_spec.specs.Rounds.{Held, is_sync, asks, is_full, with_line, ends_round}
-use Rattle.session_seats.specs.Reading.{HasRead, held_with}
+use Rattle.session_seats.specs.Reading.{HasRead, LineReads, PlainReads, held_with, plain_read, seen_line}
+use Rattle.session_seats.specs.declared.round_line.RoundLine.TheVariants as round
 
-pub read_well : (number : ℕ) (line : List ℕ) (was is : ℕ) (command : Command) → command_of number line ≡ Ok (command_seen command) → IsWithinLimits (command_seen command) → is ≡ was
+pub read_well : (number : ℕ) (line : List ℕ) (was is : ℕ) (command : code.Command) → command_of number line ≡ Ok (command_seen command) → is ≡ was
     → HasRead number line was is (record { number = number; read = Ok command })
-read_well number line was is command reads within calm = record {
+read_well number line was is command reads calm = record {
   stops = 0;
   numbered = refl;
   reads = (reads, refl);
   rises = omega (arith, calm);
-  within = within;
   syncs = ap is_sync reads;
   asks = ap asks reads;
 }
@@ -37,7 +41,6 @@ faulty number line was is fault named later (inl stops) =
       numbered = refl;
       reads = inr (stops.1, kind.1, refl);
       rises = stops.0;
-      within = named;
       syncs = kind.0;
       asks = kind.1;
     }
@@ -46,7 +49,6 @@ faulty number line was is fault named later (inr reads) = record {
   numbered = refl;
   reads = inl (reads, refl);
   rises = omega (arith, later);
-  within = named;
   syncs = ap is_sync reads;
   asks = ap asks reads;
 }
@@ -54,6 +56,47 @@ faulty number line was is fault named later (inr reads) = record {
 pub read_faulty : (number : ℕ) (line : List ℕ) (was is : ℕ) (fault : LineFault) → fault ≢ NoMemory → was ≤ is → IsFaultOfLine number line (Rose was is) fault
     → HasRead number line was is (record { number = number; read = Err fault })
 read_faulty number line was is fault named later why = faulty number line was is fault named later (line_faulty number line (Rose was is) fault named why)
+
+-- ---- a plain line
+
+-- it is seen as what it reads as
+pub plain_reads : (read : Result Command LineFault) → IsRequestAtMost read → read_seen (plain_read read) ≡ read
+plain_reads (Ok blank) most = refl
+plain_reads (Ok sync) most = absurd most
+plain_reads (Ok (request r)) most = refl
+plain_reads (Ok (explain r)) most = absurd most
+plain_reads (Ok (update one)) most = absurd most
+plain_reads (Ok (batch all)) most = absurd most
+plain_reads (Err fault) most = refl
+
+exactly : (number : ℕ) (line : List ℕ) (read : Result Command LineFault) → command_of number line ≡ read → LineReads number line read 0
+exactly number line (Ok command) is = (is, refl)
+exactly number line (Err fault) is = inl (is, refl)
+
+pub plain_read_so : (line : CutSeen) (was is : ℕ) → IsPlainLine line → is ≡ was → HasRead line.number line.bytes was is (seen_line (round.Plain line))
+plain_read_so line was is plain calm =
+    let same = sym (plain_reads (command_of line.number line.bytes) plain.most) in
+    record {
+      stops = 0;
+      numbered = refl;
+      reads = exactly line.number line.bytes (read_seen (plain_read (command_of line.number line.bytes))) same;
+      rises = omega (arith, calm);
+      syncs = ap is_sync same;
+      asks = ap asks same;
+    }
+
+-- a request is read from it as it is seen
+pub plain_reads_as : (line : CutSeen) (number : ℕ) (asked : code.Command) (r : Request) → number ≡ line.number → asked ≡ command.Request r → command_of line.number line.bytes ≡ Ok (command_seen asked)
+    → IsWithinLimits (command_seen asked) → PlainReads line (record { number = number; read = Ok (command.Request r) })
+plain_reads_as line number asked r same is reads within =
+    let as_read : Result Command LineFault → ReadLine = λ (read : Result Command LineFault). record { number = line.number; read = plain_read read } in
+    let numbered : ℕ → ReadLine = λ (n : ℕ). record { number = n; read = Ok (command.Request r) } in
+    record {
+      within = subst (λ (a : code.Command). IsWithinLimits (command_seen a)) is within;
+      same = ap as_read reads ∙ ap (λ (a : code.Command). as_read (Ok (command_seen a))) is ∙ ap numbered (sym same);
+    }
+
+-- ---- a round
 
 -- what a round holds with the line
 pub held_so : (held : Held) (number : ℕ) (line : List ℕ) (was is : ℕ) (read : ReadLine) → HasRead number line was is read → held_with held (length line) read ≡ with_line held number line

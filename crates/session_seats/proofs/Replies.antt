@@ -1,5 +1,5 @@
 -- What the writer says to a line, apart from updates that it accepts.
-use Rattle.std.proofs.Common.{◌≡◌, ℕ, List, [], ◌∷◌, ◌++◌, Result, Ok, Err, OnOk, refl, sym, inl, append-nil}
+use Rattle.std.proofs.Common.{◌≡◌, ℕ, List, ◌++◌, Result, Ok, Err, OnOk, refl, sym, inl, append-nil}
 use Rattle.generation.specs.Basis.{Basis}
 use Rattle.line_spec.specs.Line.{blank, update, batch}
 use Rattle.line_spec.specs.declared.line_fault.LineFault.{LineFault}

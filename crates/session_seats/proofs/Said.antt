@@ -1,7 +1,6 @@
 -- What a pass says to a request.
-use Rattle.std.proofs.Common.{◌≡◌, ℕ, List, [], length, true, false, Ok, refl, sym, ap, ◌∙◌}
+use Rattle.std.proofs.Common.{◌≡◌, ℕ, List, length, true, false, Ok, sym, ap, ◌∙◌}
 use Rattle.std.specs.Prelude.{string_bytes}
-use mathlib.Core.List.{IsPrefix}
 use Rattle.dnr_base.specs.declared.request.Request.{Request}
 use Rattle.dnr_base.specs.declared.rule_name.RuleName.{RuleName}
 use Rattle.explain_spec.specs.Explanation.{Explanation, explanation_of}

@@ -1,5 +1,5 @@
 -- Answers of a seat, as it sees more, and when the round has ended.
-use Rattle.std.proofs.Common.{◌≡◌, ◌<◌, ◌≤◌, ℕ, zero, suc, List, [], ◌∷◌, length, get_or, Bool, true, false, Option, Some, None, refl, sym, ap, ◌∙◌, subst, arith, All, Bor}
+use Rattle.std.proofs.Common.{◌≡◌, ◌<◌, ℕ, zero, suc, List, [], ◌∷◌, length, get_or, Bool, Option, Some, None, refl, sym, ap, ◌∙◌, subst, arith, All, Bor}
 use Rattle.std.specs.Prelude.{IsTrue, IsSome, IfSome, option_copied, string_bytes}
 use Rattle.std.specs.List.{Contains}
 use Rattle.std.proofs.lemmas.List.Elements.{All-contains}

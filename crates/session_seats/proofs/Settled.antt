@@ -1,6 +1,6 @@
 -- One line that asks a seat, when the round has ended, and how that goes on.
-use Rattle.std.proofs.Common.{◌≡◌, ◌<◌, ◌≤◌, ◌+◌, ℕ, zero, suc, List, [], ◌∷◌, ◌++◌, length, map, set, get_or, replicate, Bool, true, false, refl, sym, ap, ◌∙◌, subst, arith, length-append}
-use Rattle.std.specs.Prelude.{cond, string_bytes, IsTrue}
+use Rattle.std.proofs.Common.{◌≡◌, ◌<◌, ◌≤◌, ◌+◌, ℕ, zero, suc, List, [], ◌∷◌, ◌++◌, length, map, set, get_or, Bool, true, false, refl, sym, ap, ◌∙◌, subst, arith}
+use Rattle.std.specs.Prelude.{cond, string_bytes}
 use mathlib.Core.List.{IsPrefix}
 use Rattle.generation.specs.Basis.{Basis}
 use Rattle.history.proofs.Beginnings.{shorter_begins}
@@ -8,12 +8,11 @@ use Rattle.published.proofs.Beginnings.{begins_itself}
 use Rattle.published.proofs.Counted.{entries_are_counted}
 use Rattle.update_spec.specs.Entries.{Entry, replay}
 use Rattle.session_laws.specs.Turns.{NoneFell}
-use Rattle.session_rounds.specs.Lines.{read_seen, is_asking, Fits}
+use Rattle.session_rounds.specs.Lines.{read_seen, is_asking}
 use Rattle.session_rounds.specs.Rounds.{SeatTold}
 use Rattle.session_rounds.specs.declared.read_line.ReadLine.{ReadLine}
-use Rattle.session_serve.specs.Told.{times_in, AnswerTold}
 use Rattle.session_spec.specs.Answers.{RisesBy}
-use Rattle.session_spec.specs.Said.{is_failed, answer_line}
+use Rattle.session_spec.specs.Said.{answer_line}
 use Rattle.session_seats.specs.Rounds.{AnsweredAnew, AreWithin}
 use Rattle.session_seats.specs.Seats.{SaysWithin}
 use Rattle.session_seats.specs.declared.answered.Answered.{Answered}

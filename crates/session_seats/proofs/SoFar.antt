@@ -19,7 +19,7 @@ use Rattle.session_rounds.specs.declared.read_line.ReadLine.{ReadLine}
 use Rattle.session_spec.specs.Answers.{RisesBy}
 use Rattle.session_spec.specs.Rounds.{Held, holds_nothing, with_line, ends_round, is_sync, is_full}
 use Rattle.update_spec.specs.Entries.{Entry, replay}
-use Rattle.session_seats.specs.Reading.{ReadRound, ReadsLine, HasRead, held_with}
+use Rattle.session_seats.specs.Reading.{ReadRound, ReadsLine, HasRead, held_with, nothing_read}
 use Rattle.session_seats.specs.Rounds.{WritesRound}
 use Rattle.session_seats.proofs.Lines as lines
 use Rattle.session_seats.proofs.Readings.{held_so, ends_so}
@@ -60,9 +60,6 @@ appends_append (Some a) (Some b) (Some c) xs ys p q = q ∙ ap (λ l. l ++ ys) p
 appends_nothing : (a : Option (List ℕ)) → Appends a a []
 appends_nothing None = tt
 appends_nothing (Some a) = sym (append-nil a)
-
-abbrev pub nothing_read : ReadRound
-nothing_read = record { reads = []; held = holds_nothing }
 
 -- ---- the beginning
 

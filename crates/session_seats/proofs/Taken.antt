@@ -1,6 +1,6 @@
 -- Lines that were cut, taken into their rounds one after another.
-use Rattle.std.proofs.Common.{◌≡◌, ◌⊎◌, ℕ, suc, ◌+◌, ◌≤◌, List, [], ◌∷◌, length, Bool, true, false, Option, Some, None, Result, Ok, Err, refl, sym, ap, ◌∙◌, inl, inr, subst, arith}
-use Rattle.std.specs.Prelude.{IfSome, IfOk, OnOk, IfErr, IsErrAnd, IsErrOf}
+use Rattle.std.proofs.Common.{◌≡◌, ℕ, suc, ◌+◌, ◌≤◌, List, [], ◌∷◌, length, true, false, Option, Result, Ok, Err, refl, sym, ap, ◌∙◌, inl, inr, subst, arith}
+use Rattle.std.specs.Prelude.{IfSome, IfErr, IsErrAnd, IsErrOf}
 use Rattle.dnr_io.specs.Lines.{IsBeyond, StopsIn}
 use Rattle.dnr_io.specs.declared.line_refusal.LineRefusal.{LineRefusal}
 use Rattle.dnr_io.specs.declared.line_refusal.LineRefusal.TheVariants as refusal
@@ -10,17 +10,16 @@ use Rattle.lines_ahead.specs.Cut.{CutSeen}
 use Rattle.session_laws.proofs.Rises.{none_fell_yet}
 use Rattle.session_laws.specs.Turns.{NoneFell, counts_between}
 use Rattle.session_rounds.specs.Read.{serving}
-use Rattle.session_rounds.specs.declared.read_line.ReadLine.{ReadLine}
 use Rattle.session_serve.specs.Serving.{EndsServing}
 use Rattle.session_serve.specs.declared.stop.ServeStop.{ServeStop}
 use Rattle.session_serve.specs.declared.stop.ServeStop.TheVariants as stop
-use Rattle.session_spec.specs.Rounds.{Held, holds_nothing, ends_round, with_line}
+use Rattle.session_spec.specs.Rounds.{ends_round, with_line}
 use Rattle.update_spec.specs.Entries.{Entry}
 use Rattle.session_seats.specs.Cutting.{bytes_of, FollowOn, CutsLines, StandsBehind}
-use Rattle.session_seats.specs.Reading.{ReadRound, ReadsLine}
+use Rattle.session_seats.specs.Reading.{ReadRound, ReadsLine, nothing_read}
 use Rattle.session_seats.specs.Rounds.{WritesRound, StopsRound}
-use Rattle.session_seats.specs.Taking.{AreShort, Standing, standing, GoesOn, EndsRound, TakesLine, TakesLines, StopsBefore, StopsWith, StopsLine, StopsLines}
-use Rattle.session_seats.proofs.SoFar.{SoFar, line_more, whole_round_more, nothing_read}
+use Rattle.session_seats.specs.Taking.{AreShort, Standing, standing, GoesOn, EndsRound, TakesLine, TakesLines, StopsLine, StopsLines}
+use Rattle.session_seats.proofs.SoFar.{SoFar, line_more, whole_round_more}
 use Rattle.session_seats.proofs.Cuts.{lines_gathered}
 use Rattle.session_seats.proofs.Endings.{without_memory, stops_serving}
 

@@ -1,17 +1,67 @@
--- The lines of a round as they were read, and one line more.
-use Rattle.std.specs.Prelude.{◌≡◌, ◌⊎◌, ℕ, zero, suc, ◌+◌, List, [], ◌∷◌, ◌++◌, Result, Ok, Err}
-use Rattle.line_spec.specs.Line.{Command, command_of}
+-- The lines of a round as they read, and one line more.
+use Rattle.std.specs.Prelude.{◌≡◌, ◌⊎◌, ℕ, ◌+◌, List, [], ◌∷◌, ◌++◌, map, Result, Ok, Err}
+use Rattle.line_spec.specs.Line.{Command, blank, sync, request, explain, update, batch, command_of}
 use Rattle.line_spec.specs.Stops.{StopsInLine}
 use Rattle.line_spec.specs.declared.line_fault.LineFault.{LineFault}
 use Rattle.session_spec.specs.Answers.{RisesBy}
-use Rattle.session_spec.specs.Rounds.{Held, is_sync, asks}
+use Rattle.lines_ahead.specs.Cut.{CutSeen, IsPlainLine}
+use Rattle.script_read.specs.declared.command.Command as code
+use Rattle.script_read.specs.declared.command.Command.TheVariants as command
+use Rattle.session_spec.specs.Rounds.{Held, holds_nothing, is_sync, asks}
 use Rattle.session_rounds.specs.Lines.{read_seen, IsLine}
 use Rattle.session_rounds.specs.declared.read_line.ReadLine.{ReadLine}
+use Rattle.session_seats.specs.declared.round_line.RoundLine.{RoundLine}
+use Rattle.session_seats.specs.declared.round_line.RoundLine.TheVariants as round
 
--- the lines of a round so far, and how much it holds
+-- ---- a line
+
+-- The command that a plain line reads as, as a value of the program's. It is a request, if it is any; nothing stands for
+-- the others.
+abbrev pub command_read : Command → code.Command
+command_read blank = command.Blank
+command_read sync = command.Sync
+command_read (request r) = command.Request r
+command_read (explain r) = command.Explain r
+command_read (update one) = command.Blank
+command_read (batch all) = command.Blank
+
+abbrev pub plain_read : Result Command LineFault → Result code.Command LineFault
+plain_read (Ok asked) = Ok (command_read asked)
+plain_read (Err fault) = Err fault
+
+-- a line of a round as it reads, whether it was read or not
+abbrev pub seen_line : RoundLine → ReadLine
+seen_line (round.Read line) = line
+seen_line (round.Plain line) = record { number = line.number; read = plain_read (command_of line.number line.bytes) }
+
+abbrev pub seen_lines : List RoundLine → List ReadLine
+seen_lines lines = map seen_line lines
+
+-- what was read keeps the limits of lines, and what was not is plain
+abbrev pub IsTaken : RoundLine → Type 0
+IsTaken (round.Read line) = IsLine line
+IsTaken (round.Plain line) = IsPlainLine line
+
+-- the plain line was read as this
+pub record PlainReads (line : CutSeen) (read : ReadLine) : Type 0 where
+  pub within : IsLine read
+  pub same : seen_line (round.Plain line) ≡ read
+
+-- ---- a round
+
+-- the lines of a round so far, what they read as, and how much it holds
 pub record ReadRound : Type 0 where
+  pub lines : List RoundLine
   pub reads : List ReadLine
   pub held : Held
+
+abbrev pub nothing_read : ReadRound
+nothing_read = record { lines = []; reads = []; held = holds_nothing }
+
+-- how many of the lines ask a seat
+abbrev pub asked_in : List ReadLine → ℕ
+asked_in [] = 0
+asked_in (line ∷ lines) = asks (read_seen line.read) + asked_in lines
 
 -- the line reads as this, and the host failed so often at its patterns, which is once at most
 abbrev pub LineReads : ℕ → List ℕ → Result Command LineFault → ℕ → Type 0
@@ -26,7 +76,6 @@ pub record HasRead (number : ℕ) (line : List ℕ) (was is : ℕ) (read : ReadL
   pub numbered : read.number ≡ number
   pub reads : LineReads number line (read_seen read.read) stops
   pub rises : RisesBy stops (record { before = was; now = is })
-  pub within : IsLine read
   pub syncs : is_sync (command_of number line) ≡ is_sync (read_seen read.read)
   pub asks : asks (command_of number line) ≡ asks (read_seen read.read)
 
@@ -37,6 +86,11 @@ held_with held bytes read = record {
   bytes = held.bytes + bytes;
   asked = held.asked + asks (read_seen read.read);
 }
+
+-- the line may be taken in so
+pub record HasTaken (number : ℕ) (line : List ℕ) (was is : ℕ) (taken : RoundLine) : Type 0 where
+  pub has : HasRead number line was is (seen_line taken)
+  pub within : IsTaken taken
 
 -- the line was read so, and taken in
 pub record ReadsLine (number : ℕ) (line : List ℕ) (was is : ℕ) (before now : List ReadLine) : Type 0 where

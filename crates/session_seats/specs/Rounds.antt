@@ -1,16 +1,12 @@
 -- A round from its parts to what is written of it.
-use Rattle.std.specs.Prelude.{◌≡◌, ◌<◌, ◌≤◌, ℕ, List, [], length, get_or, true, Option, Result, Ok, Err}
+use Rattle.std.specs.Prelude.{◌≡◌, ◌<◌, ◌≤◌, ℕ, List, [], length, get_or, true, Option}
 use Rattle.std.specs.Io.KnownBytes.{Appends}
 use Rattle.dnr_io.specs.Sink.{AppendsPart}
 use Rattle.generation.specs.Basis.{Basis}
-use Rattle.line_spec.specs.Line.{Command}
-use Rattle.line_spec.specs.declared.line_fault.LineFault.{LineFault}
-use Rattle.rule_spec.specs.State.{State}
 use Rattle.update_spec.specs.Entries.{Entry, replay}
 use Rattle.session_serve.specs.Told.{AnswerTold}
 use Rattle.session_serve.specs.declared.stop.ServeStop.{ServeStop}
 use Rattle.session_serve.specs.declared.stop.ServeStop.TheVariants as stop
-use Rattle.session_spec.specs.Said.{Answer}
 use Rattle.session_rounds.specs.Lines.{read_seen, is_asking, Fits}
 use Rattle.session_rounds.specs.Rounds.{RoundAnswered}
 use Rattle.session_rounds.specs.declared.read_line.ReadLine.{ReadLine}

@@ -4,12 +4,11 @@ use Rattle.dnr_spec.specs.Lines.{max_line}
 use Rattle.generation.specs.Basis.{Basis}
 use Rattle.lines_ahead.specs.Cut.{CutSeen}
 use Rattle.session_laws.specs.Turns.{NoneFell}
-use Rattle.session_rounds.specs.declared.read_line.ReadLine.{ReadLine}
 use Rattle.session_serve.specs.declared.stop.ServeStop.{ServeStop}
 use Rattle.session_serve.specs.declared.stop.ServeStop.TheVariants as stop
-use Rattle.session_spec.specs.Rounds.{holds_nothing, ends_round, with_line}
+use Rattle.session_spec.specs.Rounds.{ends_round, with_line}
 use Rattle.update_spec.specs.Entries.{Entry}
-use Rattle.session_seats.specs.Reading.{ReadRound, ReadsLine}
+use Rattle.session_seats.specs.Reading.{ReadRound, ReadsLine, nothing_read}
 use Rattle.session_seats.specs.Rounds.{WritesRound, StopsRound}
 
 -- the line is within the limit
@@ -49,7 +48,7 @@ pub record EndsRound (opening : Basis) (seats : ℕ) (line : CutSeen) (from to :
   pub later : from.checker ≤ to.checker
   pub fell : NoneFell from.finders to.finders
   pub writes : WritesRound opening seats whole.reads from.list to.list from.taken to.taken from.finders to.finders
-  pub next : to.round ≡ record { reads = []; held = holds_nothing }
+  pub next : to.round ≡ nothing_read
 
 -- the line was taken into its round
 abbrev pub TakesLine : Basis → ℕ → CutSeen → Standing → Standing → Type 0

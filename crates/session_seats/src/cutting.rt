@@ -5,14 +5,14 @@ ghost use Rattle.dnr_io.specs.Lines.{ahead};
 ghost use Rattle.dnr_spec.specs.Lines.{max_lines};
 ghost use Rattle.session_seats.specs.Cutting.{CutsLines, StandsBehind};
 
-use crate::round_lines::Room;
+use crate::round_lines::RoundLines;
 use dnr_io::{LineRefusal, Lines, Source};
 use lines_ahead::{CutLine, ask_all};
 use memchr::{memchr, memmem};
 use std::alloc::Global;
 use std::thread::Threads;
 
-/// Cuts the lines that may be the rest of a round with this room: to the end of the script, to one that may be a sync, or
+/// Cuts the lines that may be the rest of the round: to the end of the script, to one that may be a sync, or
 /// until there is no more room. `Ok(false)` is the end of the script, before which lines may have been cut, and `Ok(true)`
 /// has cut one at least.
 ///
@@ -26,12 +26,13 @@ pub fn cut_lines<S: Source>(
     number: &mut u32,
     lines: &mut Lines,
     source: &mut S,
-    mut room: Room,
+    round: &mut RoundLines,
     cut: &mut Vec<CutLine>,
 ) -> Result<bool, LineRefusal>
     requires live { IsTrue lines.old.live }
     requires here { number.old ≡ lines.old.count }
     requires none { cut.old.items ≡ [] }
+    ensures round { round.new ≡ round.old }
     ensures cut { CutsLines (ahead lines.old (S.left source.old)) number.old cut.new.items
         (StandsBehind number.new (ahead lines.new (S.left source.new)) (S.left source.new) result) }
     ensures number { number.new ≡ number.old + length cut.new.items }
@@ -44,21 +45,23 @@ pub fn cut_lines<S: Source>(
     ensures starts { S.starts source.new ≡ S.starts source.old }
     ensures cause { HasCauseOf LineRefusal.ReadFault (S.faults source.old) (S.faults source.new) result }
 {
+    let mut room = round.room();
     let mut going = true;
     while going {
-        let mut line = Vec::new(alloc);
+        let mut line = round.buffer(alloc);
         if !lines.next(source, &mut line)? {
             return Ok(false);
         }
-        going = room.take(line.len()) && !may_sync(&line);
         let place = *number + 1;
-        cut.push(CutLine::new(place, line))?;
+        let line = CutLine::new(place, line);
+        going = room.take(line.bytes().len()) && !may_sync(&line);
+        cut.push(line)?;
         *number = place;
     }
     Ok(true)
 }
 
-/// Asks the lines that were cut what they ask for, in at most so many threads.
+/// Asks the lines that were cut what they ask for, in at most so many threads. Plain lines are left to the seats.
 pub fn ask_cut<R: Threads + Sync>(rt: &R, alloc: Global, threads: usize, cut: &mut Vec<CutLine>)
     requires { 0 < threads }
     ensures { cut.new.items ≡ cut.old.items }
@@ -67,6 +70,8 @@ pub fn ask_cut<R: Threads + Sync>(rt: &R, alloc: Global, threads: usize, cut: &m
 }
 
 // Whether the line may be a sync: it has the word, or may write it by escapes.
-fn may_sync(line: &[u8]) -> bool {
-    memmem::find(line, b"\"sync\"").is_some() || memchr(b'\\', line).is_some()
+fn may_sync(line: &CutLine) -> bool {
+    let bytes = line.bytes();
+    !line.is_plain()
+        && (memmem::find(bytes, b"\"sync\"").is_some() || memchr(b'\\', bytes).is_some())
 }

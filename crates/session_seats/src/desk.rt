@@ -1,25 +1,33 @@
 //! A seat: what it answers in a round.
-ghost use Rattle.std.specs.Prelude.{◌≡◌, ◌≤◌, ◌<◌, [], length, get_or, IfOk, IfSome, IsSome, IsTrue};
+ghost use Rattle.std.specs.Prelude.{◌≡◌, ◌≤◌, ◌<◌, [], length, get_or, IfOk, IfSome, IsSome, IsTrue, string_bytes};
 ghost use Rattle.std.specs.List.{Contains};
 ghost use mathlib.Core.List.{IsPrefix};
 ghost use Rattle.session_rounds.specs.Lines.{IsLine, read_seen};
+ghost use Rattle.session_seats.specs.Reading.{PlainReads};
+ghost use Rattle.lines_ahead.specs.Cut.{IsPlainLine};
 ghost use Rattle.session_seats.specs.Seats.{Answers, HasAnswered, IsTrusted, SaysAt};
 
 use crate::answered::Answered;
 use crate::gathering::{decided, explained};
+use crate::round_line::RoundLine;
 use crate::round_lines::RoundLines;
+use crossbeam_utils::CachePadded;
 use dnr_base::NoMemory;
+use lines_ahead::CutLine;
 use lookup_pool::{Gate, ToolSeat};
 use published::{Note, Pair, ReaderPass};
 use regex_host::RegexHost;
-use script_read::Command;
+use script_read::{Command, LineFault, Memo};
 use session_rounds::ReadLine;
 use std::alloc::Global;
 use std::marker::Model;
 
 /// A seat between two rounds, or after one.
 #[derive(Drop)]
+#[repr(C)]
 pub struct Desk<P: Pair> {
+    // A seat changes itself at each request, so no cache line has parts of two seats.
+    apart: CachePadded<()>,
     // Which seat it is, and of how many.
     seat: usize,
     seats: usize,
@@ -29,6 +37,9 @@ pub struct Desk<P: Pair> {
     // round, whether it has learnt what the round ended with.
     ready: bool,
     answers: Vec<Answered>,
+    // The texts of earlier rounds, whose memory is used again.
+    texts: Vec<String>,
+    memo: Memo,
     // Memory ran out.
     stopped: bool,
     alloc: Global,
@@ -54,11 +65,14 @@ impl<P: Pair> Desk<P> {
         ensures { result.seats ≡ seats }
     {
         Desk {
+            apart: CachePadded::new(()),
             seat,
             seats,
             pass,
             ready: false,
             answers: Vec::new(alloc),
+            texts: Vec::new(alloc),
+            memo: Memo::new(alloc),
             stopped: false,
             alloc,
         }
@@ -69,15 +83,15 @@ impl<P: Pair> Desk<P> {
         ensures fresh { self.new.answers ≡ [] }
         ensures seats { self.new.seats ≡ self.old.seats }
     {
-        self.answers.clear();
+        keep_texts(&mut self.answers, &mut self.texts);
         self.stopped = false;
         self.ready = self.learn(note);
     }
 
     /// Ends a round: the seat takes in what was published by then. Its answers count where it did.
-    pub fn end(&mut self, note: Note<P>, _reads: &[ReadLine])
-        requires { HasAnswered P.opening _reads.now self.old }
-        ensures trusted { IsTrusted P.opening _reads.now note self.new }
+    pub fn end(&mut self, note: Note<P>, _round: &RoundLines)
+        requires { HasAnswered P.opening _round.now.reads self.old }
+        ensures trusted { IsTrusted P.opening _round.now.reads note self.new }
         ensures seats { self.new.seats ≡ self.old.seats }
     {
         self.ready = self.learn(note);
@@ -100,8 +114,7 @@ impl<P: Pair> Desk<P> {
         self.stopped
     }
 
-    /// What the seat answers to the line at this place, which is the one of this turn among its own, unless it left the
-    /// line to the writer.
+    /// What the seat answers to the line at this place, if it is its answer of this turn.
     pub fn answer_to(&self, turn: usize, place: usize) -> Option<&Answered>
         ensures ready { IsSome result → IsTrue self.now.ready }
         ensures there { IfSome result (λ said. Contains self.now.answers said.now × (said.now.place ≡ place)) }
@@ -117,7 +130,7 @@ impl<P: Pair> Desk<P> {
         }
     }
 
-    // Serves the line at this place, of which the gate is told before.
+    // Serves the line at this place.
     fn serve<H: RegexHost, G: Gate>(
         &mut self,
         place: usize,
@@ -130,12 +143,37 @@ impl<P: Pair> Desk<P> {
         ensures seats { self.new.seats ≡ self.old.seats }
         ensures host { H.faults host.old ≤ H.faults host.new }
     {
-        let reads = round.reads();
-        let Some(line) = reads.get(place) else {
+        let lines = round.lines();
+        if place >= lines.len() {
             return;
-        };
-        gate.before(self.number(), line.number);
-        self.answer(place, line, host, reads);
+        }
+        match &lines[place] {
+            RoundLine::Read(line) => self.answer(place, line, host, gate, round),
+            RoundLine::Plain(line) => {
+                if let Some(line) = self.read(line) {
+                    self.answer(place, &line, host, gate, round);
+                }
+            }
+        }
+    }
+
+    // Reads a plain line. There is nothing to answer where it asks for no request, or memory runs out.
+    fn read(&mut self, line: &CutLine) -> Option<ReadLine>
+        requires { IsPlainLine line.now }
+        ensures read { IfSome result (PlainReads line.now) }
+        ensures kept { self.new ≡ self.old }
+    {
+        match line.read_plain(self.alloc, &mut self.memo) {
+            Ok(Command::Request(request)) => Some(ReadLine {
+                number: line.number(),
+                read: Ok(Command::Request(request)),
+            }),
+            Err(LineFault::NoMemory) => {
+                self.stopped = true;
+                None
+            }
+            Ok(_) | Err(_) => None,
+        }
     }
 
     // Which seat it is, as the gate is told.
@@ -143,39 +181,42 @@ impl<P: Pair> Desk<P> {
         u32::try_from(self.seat).unwrap_or(u32::MAX)
     }
 
-    // Answers the line at this place.
-    fn answer<H: RegexHost>(
+    // Answers the line at this place, of which the gate is told before.
+    fn answer<H: RegexHost, G: Gate>(
         &mut self,
         place: usize,
         line: &ReadLine,
         host: &mut H,
-        reads: &[ReadLine],
+        gate: &G,
+        round: &RoundLines,
     )
         requires line { IsLine line.now }
-        requires there { (place < length reads.now) × (line.now ≡ get_or reads.now place line.now) }
-        requires so_far { HasAnswered P.opening reads.now self.old }
-        ensures answers { HasAnswered P.opening reads.now self.new }
+        requires there { (place < length round.now.reads) × (line.now ≡ get_or round.now.reads place line.now) }
+        requires so_far { HasAnswered P.opening round.now.reads self.old }
+        ensures answers { HasAnswered P.opening round.now.reads self.new }
         ensures seats { self.new.seats ≡ self.old.seats }
         ensures host { H.faults host.old ≤ H.faults host.new }
     {
+        gate.before(self.number(), line.number);
         if self.stopped || !self.ready {
             return;
         }
         let Some(pass) = &mut self.pass else {
             return;
         };
-        match answer_by(self.alloc, pass, place, line, host) {
-            Ok(Some(answered)) => self.keep(answered, reads),
+        let text = empty_text(self.alloc, &mut self.texts);
+        match answer_by(self.alloc, text, pass, place, line, host) {
+            Ok(Some(answered)) => self.keep(answered, round),
             Ok(None) => self.ready = false,
             Err(NoMemory) => self.stopped = true,
         }
     }
 
     // Keeps one answer more, if there is memory for it.
-    fn keep(&mut self, answered: Answered, _reads: &[ReadLine])
-        requires answer { Answers P.opening _reads.now self.old.seen answered }
-        requires so_far { HasAnswered P.opening _reads.now self.old }
-        ensures answers { HasAnswered P.opening _reads.now self.new }
+    fn keep(&mut self, answered: Answered, _round: &RoundLines)
+        requires answer { Answers P.opening _round.now.reads self.old.seen answered }
+        requires so_far { HasAnswered P.opening _round.now.reads self.old }
+        ensures answers { HasAnswered P.opening _round.now.reads self.new }
         ensures seats { self.new.seats ≡ self.old.seats }
     {
         self.stopped = self.answers.push(answered).is_err();
@@ -193,36 +234,76 @@ impl<P: Pair, H: RegexHost> ToolSeat<RoundLines, H> for Desk<P> {
     ghost used = { λ before now. H.faults before ≤ H.faults now };
 
     fn is_idle(&self, round: &RoundLines) -> bool {
-        round.asking().len() <= self.seat
+        round.dealt().len() <= self.seat
     }
 
     fn work<G: Gate>(&mut self, round: &RoundLines, host: &mut H, gate: &G) {
-        let asking = round.asking();
+        let dealt = round.dealt();
         let seats = self.seats;
         let mut turn = self.seat;
-        while turn < asking.len() {
-            self.serve(asking[turn], round, host, gate);
+        while turn < dealt.len() {
+            self.serve(dealt[turn], round, host, gate);
             turn = turn.saturating_add(seats);
         }
     }
 }
 
-// What a pass answers to a line, unless there is no copy to enter.
+// Takes the answers away, and keeps the memory of their texts where there is room.
+fn keep_texts(answers: &mut Vec<Answered>, texts: &mut Vec<String>)
+    ensures { answers.new.items ≡ [] }
+{
+    while let Some(answered) = answers.pop() {
+        let _kept = texts.push(answered.text);
+    }
+}
+
+// An empty text, in the memory of an earlier one if there is any.
+fn empty_text(alloc: Global, texts: &mut Vec<String>) -> String
+    ensures { string_bytes result ≡ [] }
+{
+    match texts.pop() {
+        Some(mut text) => {
+            text.clear();
+            text
+        }
+        None => String::new(alloc),
+    }
+}
+
+// What a pass answers to a line, unless there is no copy to enter. The empty text is used for it.
 fn answer_by<P: Pair, H: RegexHost>(
     alloc: Global,
+    text: String,
     pass: &mut ReaderPass<P>,
     place: usize,
     line: &ReadLine,
     host: &mut H,
 ) -> Result<Option<Answered>, NoMemory>
-    requires { IsLine line.now }
+    requires line { IsLine line.now }
+    requires empty { string_bytes text ≡ [] }
     ensures later { IsPrefix pass.old pass.new }
     ensures says { IfOk result (λ found. IfSome found (SaysAt P.opening place line.now.number (read_seen line.now.read) pass.new)) }
     ensures host { H.faults host.old ≤ H.faults host.new }
 {
     match &line.read {
-        Ok(Command::Request(request)) => decided(alloc, pass, place, line.number, request, host),
-        Ok(Command::Explain(request)) => explained(alloc, pass, place, line.number, request, host),
+        Ok(Command::Request(request)) => decided(
+            alloc,
+            text,
+            pass,
+            place,
+            line.number,
+            request,
+            host,
+        ),
+        Ok(Command::Explain(request)) => explained(
+            alloc,
+            text,
+            pass,
+            place,
+            line.number,
+            request,
+            host,
+        ),
         Ok(Command::Blank | Command::Sync | Command::Update(_) | Command::Batch(_)) | Err(_) => Ok(
             None,
         ),

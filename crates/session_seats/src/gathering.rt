@@ -1,5 +1,5 @@
 //! What a pass answers to a request, as the line that is printed.
-ghost use Rattle.std.specs.Prelude.{◌≡◌, ◌≤◌, length, IfOk, IfSome};
+ghost use Rattle.std.specs.Prelude.{◌≡◌, ◌≤◌, [], length, IfOk, IfSome, string_bytes};
 ghost use mathlib.Core.List.{IsPrefix};
 ghost use Rattle.dnr_base.specs.Request.{max_frames};
 ghost use Rattle.explain_spec.specs.Explanation.{explanation_of};
@@ -18,16 +18,18 @@ use std::alloc::Global;
 use std::marker::Brand;
 use std::sync::ledger::{Blank, Ledger};
 
-/// What the pass answers to a request, unless there is no copy to enter.
+/// What the pass answers to a request, unless there is no copy to enter. The empty text is used for it.
 pub fn decided<P: Pair, H: RegexHost>(
     alloc: Global,
+    mut text: String,
     pass: &mut ReaderPass<P>,
     place: usize,
     line: u32,
     request: &Request,
     host: &mut H,
 ) -> Result<Option<Answered>, NoMemory>
-    requires { length request.now.frames ≤ max_frames }
+    requires frames { length request.now.frames ≤ max_frames }
+    requires empty { string_bytes text ≡ [] }
     ensures later { IsPrefix pass.old pass.new }
     ensures says { IfOk result (λ found. IfSome found (SaysAt P.opening place line (Ok (spec.request request.now)) pass.new)) }
     ensures host { H.faults host.old ≤ H.faults host.new }
@@ -36,7 +38,6 @@ pub fn decided<P: Pair, H: RegexHost>(
     let _failed = host.faults();
     match verdict_by(alloc, pass, request, host) {
         Ok(answer) => {
-            let mut text = String::new(alloc);
             write_verdict(alloc, line, answer.number, &answer.verdict, &mut text)?;
             Ok(Some(Answered {
                 place,
@@ -46,7 +47,6 @@ pub fn decided<P: Pair, H: RegexHost>(
             }))
         }
         Err(ReadRefusal::HostFault(number, rule)) => {
-            let mut text = String::new(alloc);
             write_fault(alloc, line, number, &rule, &mut text)?;
             Ok(Some(Answered {
                 place,
@@ -60,16 +60,19 @@ pub fn decided<P: Pair, H: RegexHost>(
     }
 }
 
-/// What the pass answers to a request that is to be explained, unless there is no copy to enter.
+/// What the pass answers to a request that is to be explained, unless there is no copy to enter. The empty text is used
+/// for it.
 pub fn explained<P: Pair, H: RegexHost>(
     alloc: Global,
+    mut text: String,
     pass: &mut ReaderPass<P>,
     place: usize,
     line: u32,
     request: &Request,
     host: &mut H,
 ) -> Result<Option<Answered>, NoMemory>
-    requires { length request.now.frames ≤ max_frames }
+    requires frames { length request.now.frames ≤ max_frames }
+    requires empty { string_bytes text ≡ [] }
     ensures later { IsPrefix pass.old pass.new }
     ensures says { IfOk result (λ found. IfSome found (SaysAt P.opening place line (Ok (spec.explain request.now)) pass.new)) }
     ensures host { H.faults host.old ≤ H.faults host.new }
@@ -78,7 +81,6 @@ pub fn explained<P: Pair, H: RegexHost>(
     let _failed = host.faults();
     match explanation_by(alloc, pass, request, host) {
         Ok(answer) => {
-            let mut text = String::new(alloc);
             write_explain(alloc, line, answer.number, &answer.explanation, &mut text)?;
             Ok(Some(Answered {
                 place,
@@ -88,7 +90,6 @@ pub fn explained<P: Pair, H: RegexHost>(
             }))
         }
         Err(ReadRefusal::HostFault(number, rule)) => {
-            let mut text = String::new(alloc);
             write_fault(alloc, line, number, &rule, &mut text)?;
             Ok(Some(Answered {
                 place,

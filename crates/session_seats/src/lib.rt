@@ -1,10 +1,14 @@
 //! A session whose requests are answered by seats, each in a thread of its own, beside the one writer of its updates.
 //!
-//! A round goes so. Its lines are cut from the script, asked in several threads what they ask for, and then read one
-//! after another. Each seat learns what was published before, and answers its share of the requests by what is published
-//! when it comes to each; the writer answers the other lines meanwhile, and publishes each update that it accepts. When
-//! all have ended, the answers are put in the order of the lines. A request that no seat answered, or whose answer is
-//! ahead of the writer, is decided on the writer's generation.
+//! A round goes so. Its lines are cut from the script. A line whose bytes show that it asks for a request at most is plain,
+//! and is left unread; the others are asked in several threads what they ask for, and then read one after another. Each
+//! seat learns what was published before, reads its share of the plain lines, and answers its share of the requests by
+//! what is published when it comes to each; the writer answers the other lines meanwhile, and publishes each update that
+//! it accepts. When all have ended, the answers are put in the order of the lines.
+//!
+//! The lines are dealt to the seats as if each plain line were a request. Where one before was none, a request may have
+//! been dealt to another seat than the one whose turn it is. Such a request, one that no seat answered, and one whose
+//! answer is ahead of the writer, is decided on the writer's generation.
 //!
 //! What a round may say stands in `session_spec`, `specs/Answers.antt`; that what seats and writer say is such a round is
 //! the law of `session_rounds`.
@@ -16,6 +20,7 @@ mod desk;
 mod gathering;
 mod office;
 mod reading;
+mod round_line;
 mod round_lines;
 mod rounds;
 mod serving;

@@ -6,11 +6,13 @@ ghost use Rattle.published.specs.Shared.{basis_after};
 ghost use Rattle.ruleset_store.specs.Seen.{update_seen, updates_seen};
 ghost use Rattle.session_rounds.specs.Lines.{IsLine, read_seen, is_asking};
 ghost use Rattle.session_rounds.specs.Writing.{Replied, WriterLine};
-ghost use Rattle.session_seats.specs.Writing.{WroteAll};
+ghost use Rattle.session_seats.specs.Reading.{IsTaken};
+ghost use Rattle.session_seats.specs.Writing.{WriterSaysTo, WroteAll};
 ghost use Rattle.session_serve.specs.Told.{IsNamed};
 ghost use Rattle.session_spec.specs.Output.{accepted_line, refused_line, refused_batch_line};
 ghost use Rattle.update_spec.specs.Entries.{replay};
 
+use crate::round_line::RoundLine;
 use crate::round_lines::RoundLines;
 use dnr_base::{Items, NoMemory};
 use explain_report::{Reply, write_bad, write_reply};
@@ -27,7 +29,7 @@ use std::sync::Wait;
 /// The writer between two rounds, or after one. It is not `Drop`: `close` ends it.
 pub struct Office<P: Pair> {
     writer: Writer<P>,
-    // What the writer says to the lines of the round, nothing to those that ask a seat.
+    // What the writer says to the lines of the round, nothing to those that are dealt to seats.
     texts: Vec<String>,
     // Memory ran out.
     stopped: bool,
@@ -124,22 +126,46 @@ impl<P: Pair> Office<P> {
     fn write_all<R: Wait, G: Gate>(
         &mut self,
         rt: &R,
-        lines: &[ReadLine],
+        lines: &[RoundLine],
         gate: &G,
     ) -> Result<(), NoMemory>
-        requires lines { All IsLine lines.now }
+        requires lines { All IsTaken lines.now }
         requires idle { self.old.staged ≡ [] }
         requires texts { self.old.texts ≡ [] }
         ensures { OnOk result (WroteAll P.opening self.old.list lines.now self.new) }
     {
         for line in lines {
-            let text = self.say(rt, line)?;
+            let text = self.say_to(rt, line, gate)?;
             self.keep(text)?;
-            if line.updates() {
-                gate.after_update(line.number);
-            }
         }
         Ok(())
+    }
+
+    // What the writer says to a line, which is nothing where it is left to a seat to read. The gate is told of an update
+    // after it was served.
+    fn say_to<R: Wait, G: Gate>(
+        &mut self,
+        rt: &R,
+        line: &RoundLine,
+        gate: &G,
+    ) -> Result<String, NoMemory>
+        requires line { IsTaken line.now }
+        requires idle { self.old.staged ≡ [] }
+        ensures said { IfOk result (λ text. WriterSaysTo P.opening line.now self.old.list (string_bytes text) self.new.list) }
+        ensures idle { OnOk result (self.new.staged ≡ []) }
+        ensures texts { self.new.texts ≡ self.old.texts }
+        ensures stopped { self.new.stopped ≡ self.old.stopped }
+    {
+        match line {
+            RoundLine::Read(line) => {
+                let text = self.say(rt, line)?;
+                if line.updates() {
+                    gate.after_update(line.number);
+                }
+                Ok(text)
+            }
+            RoundLine::Plain(_) => Ok(String::new(self.alloc)),
+        }
     }
 
     // Takes in what the writer says to one more line.
@@ -153,7 +179,7 @@ impl<P: Pair> Office<P> {
         Ok(())
     }
 
-    // What the writer says to a line.
+    // What the writer says to a line that was read.
     fn say<R: Wait>(&mut self, rt: &R, line: &ReadLine) -> Result<String, NoMemory>
         requires line { IsLine line.now }
         requires idle { self.old.staged ≡ [] }
@@ -263,14 +289,14 @@ impl<P: Pair> SharedWriter<RoundLines> for Office<P> {
 
     ghost can_write = { λ round o. (o.staged ≡ []) × (o.texts ≡ []) × (o.stopped ≡ false) };
 
-    ghost wrote = { λ round o p. HasWritten P.opening o.list round.reads p };
+    ghost wrote = { λ round o p. HasWritten P.opening o.list round.lines p };
 
     fn is_quick(&self, round: &RoundLines) -> bool {
         !round.updates()
     }
 
     fn write<R: Wait, G: Gate>(&mut self, rt: &R, round: &RoundLines, gate: &G) {
-        self.stopped = self.write_all(rt, round.reads(), gate).is_err();
+        self.stopped = self.write_all(rt, round.lines(), gate).is_err();
     }
 }
 

@@ -1,7 +1,8 @@
-//! A line of a script, as a seat or the writer is to answer it.
-ghost use Rattle.std.specs.Prelude.{◌≤◌, IfOk};
-ghost use Rattle.session_seats.specs.Reading.{HasRead};
+//! A line of a script, as it is taken into its round.
+ghost use Rattle.std.specs.Prelude.{◌≡◌, ◌≤◌, IfOk};
+ghost use Rattle.session_seats.specs.Reading.{HasTaken};
 
+use crate::round_line::RoundLine;
 use dnr_base::NoMemory;
 use lines_ahead::CutLine;
 use regex_host::RegexHost;
@@ -9,26 +10,29 @@ use script_read::{LineFault, Memo};
 use session_rounds::ReadLine;
 use std::alloc::Global;
 
-/// Reads a line that was cut. The checker is asked for the patterns of updates.
-pub fn read_cut<H: RegexHost>(
+/// Reads a line that was cut, unless it is plain. The checker is asked for the patterns of updates.
+pub fn take_line<H: RegexHost>(
     alloc: Global,
     line: CutLine,
     memo: &mut Memo,
     checker: &mut H,
-) -> Result<ReadLine, NoMemory>
-    ensures read { IfOk result (HasRead line.number line.bytes (H.faults checker.old) (H.faults checker.new)) }
+) -> Result<RoundLine, NoMemory>
+    ensures taken { IfOk result (HasTaken line.number line.bytes (H.faults checker.old) (H.faults checker.new)) }
     ensures later { H.faults checker.old ≤ H.faults checker.new }
 {
+    if line.is_plain() {
+        return Ok(RoundLine::Plain(line));
+    }
     let number = line.number();
     match line.finish(alloc, memo, checker) {
-        Ok(command) => Ok(ReadLine {
+        Ok(command) => Ok(RoundLine::Read(ReadLine {
             number,
             read: Ok(command),
-        }),
+        })),
         Err(LineFault::NoMemory) => Err(NoMemory),
-        Err(fault) => Ok(ReadLine {
+        Err(fault) => Ok(RoundLine::Read(ReadLine {
             number,
             read: Err(fault),
-        }),
+        })),
     }
 }

@@ -1,12 +1,12 @@
-//! The lines of a round, as they were read.
-ghost use Rattle.std.specs.Prelude.{◌≡◌, ◌≢◌, ◌≤◌, ◌+◌, ◌++◌, ◌∷◌, ◌||◌, [], false, length, if◌then◌else◌, All, IfOk, OnOk, IsTrue, IsFalse};
+//! The lines of a round.
+ghost use Rattle.std.specs.Prelude.{◌≡◌, ◌≢◌, ◌≤◌, ◌++◌, ◌∷◌, ◌||◌, [], false, All, IfOk, OnOk, IsTrue, IsFalse};
 ghost use Rattle.dnr_spec.specs.Lines.{max_line};
-ghost use Rattle.session_rounds.specs.Lines.{IsLine, read_seen};
-ghost use Rattle.session_spec.specs.Rounds.{holds_nothing, is_full, is_sync};
-ghost use Rattle.session_seats.specs.Reading.{held_with};
+ghost use Rattle.session_rounds.specs.Lines.{read_seen};
+ghost use Rattle.session_spec.specs.Rounds.{is_full, is_sync};
+ghost use Rattle.session_seats.specs.Reading.{IsTaken, held_with, nothing_read, seen_line, seen_lines};
 
+use crate::round_line::RoundLine;
 use dnr_base::NoMemory;
-use session_rounds::ReadLine;
 use std::alloc::Global;
 use std::marker::Model;
 
@@ -34,60 +34,72 @@ impl Room {
 /// The lines of a round so far, and how much it holds.
 #[derive(Drop)]
 pub struct RoundLines {
-    reads: Vec<ReadLine>,
-    // The places of the lines that ask a seat.
-    asking: Vec<usize>,
+    lines: Vec<RoundLine>,
+    // The places of the lines that are dealt to seats.
+    dealt: Vec<usize>,
     bytes: usize,
     updates: bool,
+    // The memory of earlier lines, which is used again.
+    buffers: Vec<Vec<u8>>,
 }
 
 impl Model for RoundLines {
-    ghost use Rattle.std.specs.Prelude.{◌≡◌, ◌≤◌, length};
+    ghost use Rattle.std.specs.Prelude.{◌≤◌, length};
     ghost use Rattle.std.specs.List.{All};
-    ghost use Rattle.session_rounds.specs.Lines.{IsLine};
-    ghost use Rattle.session_seats.specs.Reading.{ReadRound};
+    ghost use Rattle.session_seats.specs.Reading.{IsTaken, ReadRound, asked_in, seen_lines};
 
     ghost Value = { ReadRound };
 
     ghost view = { λ round. record {
-      reads = round.reads.items;
-      held = record { lines = length round.reads.items; bytes = round.bytes; asked = length round.asking.items };
+      lines = round.lines.items;
+      reads = seen_lines round.lines.items;
+      held = record { lines = length round.lines.items; bytes = round.bytes; asked = asked_in (seen_lines round.lines.items) };
     } };
 
-    ghost invariant = { λ round. (length round.reads.items ≤ 1024) × (round.bytes ≤ 16777215)
-        × (length round.asking.items ≤ length round.reads.items) × All IsLine round.reads.items };
+    ghost invariant = { λ round. (length round.lines.items ≤ 1024) × (round.bytes ≤ 16777215) × All IsTaken round.lines.items };
 }
 
 impl RoundLines {
     /// Before the first line.
     pub fn new(alloc: Global) -> RoundLines
-        ensures { result ≡ record { reads = []; held = holds_nothing } }
+        ensures { result ≡ nothing_read }
     {
         RoundLines {
-            reads: Vec::new(alloc),
-            asking: Vec::new(alloc),
+            lines: Vec::new(alloc),
+            dealt: Vec::new(alloc),
             bytes: 0,
             updates: false,
+            buffers: Vec::new(alloc),
+        }
+    }
+
+    /// A vector for the bytes of a line, in the memory of an earlier one if there is any.
+    pub fn buffer(&mut self, alloc: Global) -> Vec<u8>
+        ensures { self.new ≡ self.old }
+    {
+        match self.buffers.pop() {
+            Some(buffer) => buffer,
+            None => Vec::new(alloc),
         }
     }
 
     /// Takes in one more line, of so many bytes, and says whether the round ends with it.
-    pub fn take(&mut self, line: ReadLine, bytes: usize) -> Result<bool, NoMemory>
+    pub fn take(&mut self, line: RoundLine, bytes: usize) -> Result<bool, NoMemory>
         requires short { bytes ≤ max_line }
         requires open { is_full self.old.held ≡ false }
-        requires within { IsLine line }
-        ensures ends { IfOk result (λ ends. ends ≡ (is_sync (read_seen line.read) || is_full (held_with self.old.held bytes line))) }
-        ensures held { OnOk result (self.new.held ≡ held_with self.old.held bytes line) }
-        ensures appended { OnOk result (self.new.reads ≡ self.old.reads ++ line ∷ []) }
+        requires within { IsTaken line }
+        ensures ends { IfOk result (λ ends. ends ≡ (is_sync (read_seen (seen_line line).read) || is_full (held_with self.old.held bytes (seen_line line)))) }
+        ensures held { OnOk result (self.new.held ≡ held_with self.old.held bytes (seen_line line)) }
+        ensures appended { OnOk result (self.new.reads ≡ self.old.reads ++ seen_line line ∷ []) }
     {
-        let place = self.reads.len();
+        let place = self.lines.len();
         let syncs = line.syncs();
-        let asks = line.asks();
+        let is_dealt = line.is_dealt();
         self.updates |= line.updates();
         self.bytes += bytes;
-        self.reads.push(line)?;
-        mark(&mut self.asking, place, asks)?;
-        Ok(ends(syncs, self.reads.len(), self.bytes))
+        self.lines.push(line)?;
+        mark(&mut self.dealt, place, is_dealt)?;
+        Ok(ends(syncs, self.lines.len(), self.bytes))
     }
 
     /// Whether there is no line.
@@ -95,15 +107,15 @@ impl RoundLines {
         ensures none { IsTrue result → self.now.reads ≡ [] }
         ensures some { IsFalse result → self.now.reads ≢ [] }
     {
-        self.reads.is_empty()
+        self.lines.is_empty()
     }
 
     /// Before the first line of another round.
     pub fn clear(&mut self)
-        ensures { self.new ≡ record { reads = []; held = holds_nothing } }
+        ensures { self.new ≡ nothing_read }
     {
-        self.reads.clear();
-        self.asking.clear();
+        keep_buffers(&mut self.lines, &mut self.buffers);
+        self.dealt.clear();
         self.bytes = 0;
         self.updates = false;
     }
@@ -111,22 +123,23 @@ impl RoundLines {
     /// What it still takes.
     pub fn room(&self) -> Room {
         Room {
-            lines: MAX_LINES.saturating_sub(self.reads.len()),
+            lines: MAX_LINES.saturating_sub(self.lines.len()),
             bytes: FULL_BYTES.saturating_sub(self.bytes),
         }
     }
 
     /// The lines.
-    pub fn reads(&self) -> &[ReadLine]
-        ensures value { result.now ≡ self.now.reads }
-        ensures lines { All IsLine self.now.reads }
+    pub fn lines(&self) -> &[RoundLine]
+        ensures value { result.now ≡ self.now.lines }
+        ensures reads { self.now.reads ≡ seen_lines self.now.lines }
+        ensures taken { All IsTaken self.now.lines }
     {
-        &self.reads
+        &self.lines
     }
 
-    /// The places of the lines that ask a seat, in order.
-    pub fn asking(&self) -> &[usize] {
-        &self.asking
+    /// The places of the lines that are dealt to seats, in order.
+    pub fn dealt(&self) -> &[usize] {
+        &self.dealt
     }
 
     /// Whether a line asks for an update.
@@ -135,15 +148,22 @@ impl RoundLines {
     }
 }
 
-// Keeps the place of a line that asks a seat.
-fn mark(asking: &mut Vec<usize>, place: usize, asks: bool) -> Result<(), NoMemory>
-    ensures marked { OnOk result (length asking.new.items ≡ length asking.old.items + (if asks then 1 else 0)) }
-    ensures most { length asking.new.items ≤ length asking.old.items + 1 }
+// Takes the lines away, and keeps the memory of those that were left to seats where there is room.
+fn keep_buffers(lines: &mut Vec<RoundLine>, buffers: &mut Vec<Vec<u8>>)
+    ensures { lines.new.items ≡ [] }
 {
-    if !asks {
-        return Ok(());
+    while let Some(line) = lines.pop() {
+        if let RoundLine::Plain(line) = line {
+            let _kept = buffers.push(line.into_bytes());
+        }
     }
-    asking.push(place)?;
+}
+
+// Keeps the place of a line that is dealt to a seat.
+fn mark(dealt: &mut Vec<usize>, place: usize, is_dealt: bool) -> Result<(), NoMemory> {
+    if is_dealt {
+        dealt.push(place)?;
+    }
     Ok(())
 }
 

@@ -17,7 +17,6 @@ use dnr_io::{Sink, write_all};
 use lookup_pool::{Gate, round_with_tools};
 use published::{Note, Pair};
 use regex_host::RegexHost;
-use session_rounds::ReadLine;
 use session_serve::ServeStop;
 use std::alloc::Global;
 use std::sync::Wait;
@@ -98,20 +97,22 @@ fn answer_round<
 {
     let floor = office.note();
     let mut latest = vec![in alloc; floor.number(); desks.len()]?;
+    let mut turns = vec![in alloc; 0_usize; desks.len()]?;
     let mut counted = counts_of(alloc, finders)?;
     work_round(rt, gate, lines, &floor, office, desks, finders);
     if have_stopped(office, desks) {
         return Err(NoMemory);
     }
     let end = office.note();
-    end_all(desks, &end, lines.reads());
+    end_all(desks, &end, lines);
     settle(
         alloc,
         &floor,
-        lines.reads(),
+        lines,
         office,
         desks,
         finders,
+        &mut turns,
         &mut latest,
         &mut counted,
         into,
@@ -132,7 +133,7 @@ fn work_round<R: Threads + Wait + Sync, P: Pair + Send + Sync, H: RegexHost + Se
     requires finders { length finders.old ≡ length desks.old }
     requires seats { AreSeats (length desks.old) desks.old }
     requires idle { office.old.staged ≡ [] }
-    ensures wrote { HasWritten P.opening office.old.list lines.now.reads office.new }
+    ensures wrote { HasWritten P.opening office.old.list lines.now.lines office.new }
     ensures answered { All (HasAnswered P.opening lines.now.reads) desks.new }
     ensures count { length desks.new ≡ length desks.old }
     ensures seats { AreSeats (length desks.old) desks.new }
@@ -169,15 +170,15 @@ fn begin_all<P: Pair>(desks: &mut [Desk<P>], floor: &Note<P>)
 
 // Each seat takes in what was published by the end of the round.
 #[cycle(ending)]
-fn end_all<P: Pair>(desks: &mut [Desk<P>], end: &Note<P>, reads: &[ReadLine])
-    requires answered { All (HasAnswered P.opening reads.now) desks.old }
-    ensures { AllZip (HasEnded P.opening reads.now end.now) desks.old desks.new }
+fn end_all<P: Pair>(desks: &mut [Desk<P>], end: &Note<P>, lines: &RoundLines)
+    requires answered { All (HasAnswered P.opening lines.now.reads) desks.old }
+    ensures { AllZip (HasEnded P.opening lines.now.reads end.now) desks.old desks.new }
 {
     let Some((first, rest)) = desks.split_first_mut() else {
         return;
     };
-    first.end(end.again(), reads);
-    end_all(rest, end, reads);
+    first.end(end.again(), lines);
+    end_all(rest, end, lines);
 }
 
 // Whether memory ran out for the writer or for a seat.

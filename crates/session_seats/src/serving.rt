@@ -222,8 +222,7 @@ fn serve_lines<
     let mut number = 0;
     'rounds: loop {
         let mut cut = Vec::new(alloc);
-        let room = round.room();
-        let more = cut_lines(alloc, &mut number, &mut lines, source, room, &mut cut);
+        let more = cut_lines(alloc, &mut number, &mut lines, source, &mut round, &mut cut);
         ask_cut(rt, alloc, desks.len(), &mut cut);
         serve_cut(
             rt, alloc, gate, cut, office, desks, &mut memo, &mut round, out, checker, finders,

@@ -9,7 +9,7 @@ ghost use Rattle.session_seats.specs.Taking.{AreShort, IsShort, StopsLine, Stops
 
 use crate::desk::Desk;
 use crate::office::Office;
-use crate::reading::read_cut;
+use crate::reading::take_line;
 use crate::round_lines::RoundLines;
 use crate::rounds::serve_round;
 use dnr_base::NoMemory;
@@ -146,6 +146,6 @@ fn take_cut<H: RegexHost>(
     ensures later { H.faults checker.old ≤ H.faults checker.new }
 {
     let count = line.bytes().len();
-    let read = read_cut(alloc, line, memo, checker)?;
-    round.take(read, count)
+    let taken = take_line(alloc, line, memo, checker)?;
+    round.take(taken, count)
 }

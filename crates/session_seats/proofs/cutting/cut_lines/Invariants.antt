@@ -17,6 +17,7 @@ invariant-loop-going g l = record {
   told : is_some (g.S.Source.left l.source) ≡ is_some (g.S.Source.left l.fn.source);
   files : g.S.Source.files l.source ≡ g.S.Source.files l.fn.source;
   starts : g.S.Source.starts l.source ≡ g.S.Source.starts l.fn.source;
+  round : l.round ≡ l.fn.round;
   read : g.S.Source.faults l.fn.source ≤ g.S.Source.faults l.source;
 }
 

@@ -6,11 +6,11 @@ use Rattle.session_seats.proofs.rounds.+ending.Goals as goal
 pub end-requires : goal.end-requires
 end-requires g t c =
     let is : c.args.desks.now ≡ c.in-Some.first.now ∷ c.in-Some.rest.now = search rules in
-    All-head (HasAnswered g.P.Pair.opening c.args.reads.now) c.in-Some.first.now c.in-Some.rest.now (subst (All (HasAnswered g.P.Pair.opening c.args.reads.now)) is c.requires.answered)
+    All-head (HasAnswered g.P.Pair.opening c.args.lines.now.reads) c.in-Some.first.now c.in-Some.rest.now (subst (All (HasAnswered g.P.Pair.opening c.args.lines.now.reads)) is c.requires.answered)
 
 pub end_all-requires : goal.end_all-requires
 end_all-requires g t c κs within =
     let is : c.args.desks.now ≡ c.in-Some.first.now ∷ c.in-Some.rest.now = search rules in
-    let rest : All (HasAnswered g.P.Pair.opening c.args.reads.now) c.in-Some.rest.now =
-    All-rest (HasAnswered g.P.Pair.opening c.args.reads.now) c.in-Some.first.now c.in-Some.rest.now c.args.desks.now is c.requires.answered in
+    let rest : All (HasAnswered g.P.Pair.opening c.args.lines.now.reads) c.in-Some.rest.now =
+    All-rest (HasAnswered g.P.Pair.opening c.args.lines.now.reads) c.in-Some.first.now c.in-Some.rest.now c.args.desks.now is c.requires.answered in
     search rules

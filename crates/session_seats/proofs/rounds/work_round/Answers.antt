@@ -9,7 +9,7 @@ round_with_tools-requires-clause-seats g c κs within =
 
 pub returns-clause-wrote : goal.returns-clause-wrote
 returns-clause-wrote g c =
-    written_from g.P.Pair.opening c.args.office.now.list c.begin.new.self.list c.args.lines.now.reads c.round_with_tools.new.writer c.begin.ensures.list c.round_with_tools.ensures.wrote
+    written_from g.P.Pair.opening c.args.office.now.list c.begin.new.self.list c.args.lines.now.lines c.round_with_tools.new.writer c.begin.ensures.list c.round_with_tools.ensures.wrote
 
 pub returns-clause-answered : goal.returns-clause-answered
 returns-clause-answered g c =

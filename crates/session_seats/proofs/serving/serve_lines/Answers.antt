@@ -1,4 +1,4 @@
-use Rattle.std.proofs.Common.{◌≡◌, [], Ok, Err, Bool, true, ℕ, ◌∷◌, ◌+◌, List, Option, length, map, ap, sym, ◌∙◌, rules, arith, refl, subst, false}
+use Rattle.std.proofs.Common.{◌≡◌, [], Ok, Err, ℕ, ◌∷◌, List, Option, length, map, ap, sym, ◌∙◌, rules, arith, refl, subst, false}
 use Rattle.std.specs.Io.KnownBytes.{IsAtEnd}
 use Rattle.dnr_io.specs.Lines.{Reading, ahead}
 use Rattle.lines_ahead.specs.Cut.{CutSeen}

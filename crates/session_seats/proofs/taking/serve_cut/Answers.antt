@@ -1,4 +1,4 @@
-use Rattle.std.proofs.Common.{◌≡◌, ◌+◌, ◌∷◌, ℕ, List, length, map, refl, sym, subst, ap, ◌∙◌, arith, rules}
+use Rattle.std.proofs.Common.{List, length, map, refl, sym, subst, ap, ◌∙◌, arith, rules}
 use Rattle.std.specs.Vec.Iter.{into_iter_items}
 use Rattle.lines_ahead.specs.Cut.{CutSeen}
 use Rattle.session_laws.proofs.Rises.{none_fell_yet, none_fell_on}

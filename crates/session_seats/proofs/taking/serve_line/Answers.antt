@@ -1,4 +1,4 @@
-use Rattle.std.proofs.Common.{◌≡◌, Bool, false, refl, sym, subst, length, map, ◌∙◌}
+use Rattle.std.proofs.Common.{◌≡◌, false, refl, sym, subst, length, map, ◌∙◌}
 use Rattle.session_laws.proofs.Rises.{none_fell_yet}
 use Rattle.session_spec.specs.Rounds.{is_full}
 use Rattle.session_seats.specs.Reading.{ReadRound}

@@ -8,17 +8,17 @@ pub returns-then-self-clause-answers : goal.returns-then-self-clause-answers
 returns-then-self-clause-answers g c = c.requires.so_far
 
 pub returns-in_default-clause-answers : goal.returns-in_default-clause-answers
-returns-in_default-clause-answers g c = subst (λ (desk : DeskSeen). HasAnswered g.P.Pair.opening c.args.reads.now desk) (sym c.self.view_is) c.requires.so_far
+returns-in_default-clause-answers g c = subst (λ (desk : DeskSeen). HasAnswered g.P.Pair.opening c.args.round.now.reads desk) (sym c.self.view_is) c.requires.so_far
 
 pub keep-requires-clause-answer : goal.keep-requires-clause-answer
 keep-requires-clause-answer g c =
     let says = rw c.in-Ok-Some.field-0-is at c.in-Ok-Some.ensures.says in
-    answers_line g.P.Pair.opening c.args.reads.now c.answer_by.new.pass c.args.place c.args.line.now c.in-Ok-Some.answered c.requires.there.0 c.requires.there.1 says
+    answers_line g.P.Pair.opening c.args.round.now.reads c.answer_by.new.pass c.args.place c.args.line.now c.in-Ok-Some.answered c.requires.there.0 c.requires.there.1 says
 
 pub keep-requires-clause-so_far : goal.keep-requires-clause-so_far
 keep-requires-clause-so_far g c =
-    kept_on g.P.Pair.opening c.args.reads.now c.self.inside.pass _ c.answer_by.new.pass c.self.inside.answers.items c.in-Some.is c.answer_by.ensures.later
-    (subst (λ (desk : DeskSeen). HasAnswered g.P.Pair.opening c.args.reads.now desk) (sym c.self.view_is) c.requires.so_far)
+    kept_on g.P.Pair.opening c.args.round.now.reads c.self.inside.pass _ c.answer_by.new.pass c.self.inside.answers.items c.in-Some.is c.answer_by.ensures.later
+    (subst (λ (desk : DeskSeen). HasAnswered g.P.Pair.opening c.args.round.now.reads desk) (sym c.self.view_is) c.requires.so_far)
 
 pub returns-in-Ok-Some-clause-answers : goal.returns-in-Ok-Some-clause-answers
 returns-in-Ok-Some-clause-answers g c = c.keep.ensures.answers
@@ -28,10 +28,10 @@ returns-in-Ok-Some-clause-seats g c = c.keep.ensures.seats ∙ ap (λ (desk : De
 
 pub returns-in-Ok-None-clause-answers : goal.returns-in-Ok-None-clause-answers
 returns-in-Ok-None-clause-answers g c =
-    kept_on g.P.Pair.opening c.args.reads.now c.self.inside.pass _ c.answer_by.new.pass c.self.inside.answers.items c.in-Some.is c.answer_by.ensures.later
-    (subst (λ (desk : DeskSeen). HasAnswered g.P.Pair.opening c.args.reads.now desk) (sym c.self.view_is) c.requires.so_far)
+    kept_on g.P.Pair.opening c.args.round.now.reads c.self.inside.pass _ c.answer_by.new.pass c.self.inside.answers.items c.in-Some.is c.answer_by.ensures.later
+    (subst (λ (desk : DeskSeen). HasAnswered g.P.Pair.opening c.args.round.now.reads desk) (sym c.self.view_is) c.requires.so_far)
 
 pub returns-in-Err-clause-answers : goal.returns-in-Err-clause-answers
 returns-in-Err-clause-answers g c =
-    kept_on g.P.Pair.opening c.args.reads.now c.self.inside.pass _ c.answer_by.new.pass c.self.inside.answers.items c.in-Some.is c.answer_by.ensures.later
-    (subst (λ (desk : DeskSeen). HasAnswered g.P.Pair.opening c.args.reads.now desk) (sym c.self.view_is) c.requires.so_far)
+    kept_on g.P.Pair.opening c.args.round.now.reads c.self.inside.pass _ c.answer_by.new.pass c.self.inside.answers.items c.in-Some.is c.answer_by.ensures.later
+    (subst (λ (desk : DeskSeen). HasAnswered g.P.Pair.opening c.args.round.now.reads desk) (sym c.self.view_is) c.requires.so_far)

@@ -11,15 +11,15 @@ loop-turn-init g c = record {
   host = omega arith;
 }
 
-pub bounds-asking-turn : goal.bounds-asking-turn
-bounds-asking-turn g c = c.loop-turn-test.true
+pub bounds-dealt-turn : goal.bounds-dealt-turn
+bounds-dealt-turn g c = c.loop-turn-test.true
 
 pub serve-requires : goal.serve-requires
 serve-requires g c = c.loop-turn.invariant.answers
 
 pub loop-turn-smaller : goal.loop-turn-smaller
 loop-turn-smaller g c =
-    turns_on (length c.asking-asking.result.now) c.loop-turn.turn c.self.inside.seats c.saturating_add-turn.result c.loop-turn-test.true c.asking-asking.type_inv.0 c.loop-turn.invariant.some c.saturating_add-turn.ensures
+    turns_on (length c.dealt-dealt.result.now) c.loop-turn.turn c.self.inside.seats c.saturating_add-turn.result c.loop-turn-test.true c.dealt-dealt.type_inv.0 c.loop-turn.invariant.some c.saturating_add-turn.ensures
 
 pub loop-turn-preserved : goal.loop-turn-preserved
 loop-turn-preserved g c = record {

@@ -11,4 +11,4 @@ invariant-loop-turn g l = record {
 }
 
 abbrev pub decreases-loop-turn : goal.decreases-loop-turn
-decreases-loop-turn g l = length l.asking - l.turn
+decreases-loop-turn g l = length l.dealt - l.turn

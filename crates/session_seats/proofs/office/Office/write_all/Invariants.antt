@@ -1,9 +1,9 @@
 use Rattle.std.proofs.Common.{◌≡◌, []}
-use Rattle.session_rounds.proofs.Written.{WrittenSoFar}
+use Rattle.session_seats.proofs.Offices.{SaidSoFar}
 use Rattle.session_seats.proofs.office.Office.write_all.Given as goal
 
 abbrev pub invariant-loop-line : goal.invariant-loop-line
 invariant-loop-line g l = record {
-  so_far : WrittenSoFar g.P.Pair.opening l.lines l.fn.self.list l.line-index l.self.list l.self.texts;
+  so_far : SaidSoFar g.P.Pair.opening l.lines l.fn.self.list l.line-index l.self.list l.self.texts;
   idle : l.self.staged ≡ [];
 }
