@@ -35,9 +35,16 @@ pub fn update(alloc: Global, line: &str) -> Option<Update> {
 pub fn request(alloc: Global) -> Option<Request>
     ensures { IfSome result (λ request. length request.frames ≤ max_frames) }
 {
+    request_to(alloc, "http://a.com/")
+}
+
+/// A script of this URL, if it is one.
+pub fn request_to(alloc: Global, url: &str) -> Option<Request>
+    ensures { IfSome result (λ request. length request.frames ≤ max_frames) }
+{
     Some(Request {
         line: 1,
-        view: parse(alloc, "http://a.com/").ok()?,
+        view: parse(alloc, url).ok()?,
         initiator: None,
         kind: Kind::Script,
         method: Method::Get,

@@ -1,11 +1,14 @@
-//! Tests of `published` over its public calls: what passes answer as a writer swaps, on one thread and on several. A
-//! crate with tests is proved twice, so they stand here and not beside what they call.
+//! Tests of `published` and of `generation` over their public calls: what passes answer as a writer swaps, on one thread
+//! and on several, and what updates of many rules leave. A crate with tests is proved twice, so they stand here and not
+//! beside what they call.
 #![tactic(auto)]
 
 #[cfg(test)]
 mod answers;
 #[cfg(test)]
 mod fixtures;
+#[cfg(test)]
+mod generations;
 #[cfg(test)]
 mod passes;
 #[cfg(test)]
