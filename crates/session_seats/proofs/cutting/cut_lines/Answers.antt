@@ -20,6 +20,7 @@ loop-going-init g c =
       told = refl;
       files = refl;
       starts = refl;
+      round = refl;
       read = omega arith;
     }
 
@@ -65,13 +66,13 @@ loop-going-preserved g c =
     let next = c.in_ok-next.ensures in
     let given = next.line c.if-not-branch.false in
     let counted = next.counted c.if-not-branch.false in
-    let made = c.new-line-in-loop-going.ensures in
+    let made = c.new-line.ensures in
     let longer = c.in_ok-push.ensures.items in
     record {
       gives = gives_one_more (ahead c.args.lines.now (g.S.Source.left c.args.source.now)) (ahead c.loop-going.lines (g.S.Source.left c.loop-going.source)) (ahead c.next.new.self (g.S.Source.left c.next.new.source))
-          c.loop-going.cut.items c.push.new.self.items c.new-line-in-loop-going.result c.next.new.line.items longer made.bytes given inv.gives;
-      follow = follows_one_more c.args.number.now c.loop-going.number c.loop-going.cut.items c.push.new.self.items c.new-line-in-loop-going.result c.next.new.line.items longer made.bytes inv.more made.number (next.within c.if-not-branch.false) inv.follow;
-      more = omega (arith, inv.more, ap length longer, length-append c.loop-going.cut.items (c.new-line-in-loop-going.result ∷ []));
+          c.loop-going.cut.items c.push.new.self.items c.new-line.result c.next.new.line.items longer made.bytes given inv.gives;
+      follow = follows_one_more c.args.number.now c.loop-going.number c.loop-going.cut.items c.push.new.self.items c.new-line.result c.next.new.line.items longer made.bytes inv.more made.number (next.within c.if-not-branch.false) inv.follow;
+      more = omega (arith, inv.more, ap length longer, length-append c.loop-going.cut.items (c.new-line.result ∷ []));
       here = omega (arith, inv.here, counted.1);
       live = next.live.1 (ap Ok c.if-not-branch.false);
       few = λ before. omega (arith, inv.here, counted.0, counted.1);
@@ -79,6 +80,7 @@ loop-going-preserved g c =
       told = next.told ∙ inv.told;
       files = next.files ∙ inv.files;
       starts = next.starts ∙ inv.starts;
+      round = c.buffer-line.ensures ∙ inv.round;
       read = omega (arith, inv.read, next.cause.later);
     }
 

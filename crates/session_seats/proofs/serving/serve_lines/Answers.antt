@@ -57,12 +57,15 @@ returns-in_err-serve_cut-clause-served g c =
     let at = c.rounds in
     let inv = at.invariant in
     let cut = c.cut_lines-more.ensures in
+    let so = subst (λ (r : ReadRound). SoFar g.P.Pair.opening (length c.args.finders.now) (g.O.Sink.taken c.args.out.now) (g.O.Sink.taken at.out)
+          (g.H.RegexHost.faults c.args.checker.now ∷ map g.H.RegexHost.faults c.args.finders.now) (g.H.RegexHost.faults at.checker) (map g.H.RegexHost.faults at.finders)
+          (g.S.Source.left c.args.source.now) (ahead at.lines (g.S.Source.left at.source)) at.number [] r at.office.list) (sym cut.round) inv.so_far in
     stop_said _ _ _ _ _ _ _ _ _ c.from_residual-in_err-serve_cut.ensures.1 (λ e same. cut_stopped g.P.Pair.opening (length c.args.finders.now) (length at.desks) (g.O.Sink.taken c.args.out.now) (g.O.Sink.taken c.serve_cut.new.out)
     (g.H.RegexHost.faults c.args.checker.now ∷ map g.H.RegexHost.faults c.args.finders.now) (g.H.RegexHost.faults c.serve_cut.new.checker) (map g.H.RegexHost.faults c.serve_cut.new.finders) (g.S.Source.left c.args.source.now)
     (ahead at.lines (g.S.Source.left at.source)) (g.S.Source.left c.cut_lines-more.new.source) at.number c.cut_lines-more.new.number c.cut_lines-more.new.cut.items c.ask_cut.new.cut.items
     (StandsBehind c.cut_lines-more.new.number (ahead c.cut_lines-more.new.lines (g.S.Source.left c.cut_lines-more.new.source)) (g.S.Source.left c.cut_lines-more.new.source) c.cut_lines-more.result)
-    (standing (g.O.Sink.taken at.out) (g.H.RegexHost.faults at.checker) (map g.H.RegexHost.faults at.finders) at.round at.office.list) c.in_err-serve_cut.field-0.0 e same
-    c.requires.fresh (inv.count ∙ sym c.requires.finders) c.ask_cut.ensures cut.number (cut.few inv.few) cut.cut inv.so_far c.in_err-serve_cut.ensures.stops)
+    (standing (g.O.Sink.taken at.out) (g.H.RegexHost.faults at.checker) (map g.H.RegexHost.faults at.finders) c.cut_lines-more.new.round at.office.list) c.in_err-serve_cut.field-0.0 e same
+    c.requires.fresh (inv.count ∙ sym c.requires.finders) c.ask_cut.ensures cut.number (cut.few inv.few) cut.cut so c.in_err-serve_cut.ensures.stops)
 
 pub returns-in_err-serve_cut-clause-later : goal.returns-in_err-serve_cut-clause-later
 returns-in_err-serve_cut-clause-later g c = (
@@ -75,6 +78,9 @@ returns-in_err-more-clause-served g c =
     let at = c.rounds in
     let inv = at.invariant in
     let cut = c.in_err-more.ensures in
+    let so = subst (λ (r : ReadRound). SoFar g.P.Pair.opening (length c.args.finders.now) (g.O.Sink.taken c.args.out.now) (g.O.Sink.taken at.out)
+          (g.H.RegexHost.faults c.args.checker.now ∷ map g.H.RegexHost.faults c.args.finders.now) (g.H.RegexHost.faults at.checker) (map g.H.RegexHost.faults at.finders)
+          (g.S.Source.left c.args.source.now) (ahead at.lines (g.S.Source.left at.source)) at.number [] r at.office.list) (sym cut.round) inv.so_far in
     let served = c.in_ok-serve_cut.ensures in
     let left = g.S.Source.left c.cut_lines-more.new.source in
     let now = ahead c.cut_lines-more.new.lines left in
@@ -85,9 +91,9 @@ returns-in_err-more-clause-served g c =
     cut.cut.behind left c.cut_lines-more.new.number c.serve_cut.new.round c.serve_cut.new.office.list why e same (cut.few inv.few) (behind_long c.cut_lines-more.new.number now left cut.cut.behind why cut.cut.holds) (behind_fault c.cut_lines-more.new.number now left cut.cut.behind why cut.cut.holds)
     (cut_taken g.P.Pair.opening (length c.args.finders.now) (length at.desks) (g.O.Sink.taken c.args.out.now) (g.H.RegexHost.faults c.args.checker.now ∷ map g.H.RegexHost.faults c.args.finders.now) (g.S.Source.left c.args.source.now)
     (ahead at.lines (g.S.Source.left at.source)) at.number c.cut_lines-more.new.number c.cut_lines-more.new.cut.items c.ask_cut.new.cut.items Holds
-    (standing (g.O.Sink.taken at.out) (g.H.RegexHost.faults at.checker) (map g.H.RegexHost.faults at.finders) at.round at.office.list)
+    (standing (g.O.Sink.taken at.out) (g.H.RegexHost.faults at.checker) (map g.H.RegexHost.faults at.finders) c.cut_lines-more.new.round at.office.list)
     (standing (g.O.Sink.taken c.serve_cut.new.out) (g.H.RegexHost.faults c.serve_cut.new.checker) (map g.H.RegexHost.faults c.serve_cut.new.finders) c.serve_cut.new.round c.serve_cut.new.office.list)
-    c.requires.fresh (inv.count ∙ sym c.requires.finders) c.ask_cut.ensures cut.number cut.cut inv.so_far served.takes))
+    c.requires.fresh (inv.count ∙ sym c.requires.finders) c.ask_cut.ensures cut.number cut.cut so served.takes))
 
 pub returns-in_err-more-clause-later : goal.returns-in_err-more-clause-later
 returns-in_err-more-clause-later g c = (
@@ -100,6 +106,9 @@ rounds-preserved g c =
     let at = c.rounds in
     let inv = at.invariant in
     let cut = c.in_ok-more.ensures in
+    let so = subst (λ (r : ReadRound). SoFar g.P.Pair.opening (length c.args.finders.now) (g.O.Sink.taken c.args.out.now) (g.O.Sink.taken at.out)
+          (g.H.RegexHost.faults c.args.checker.now ∷ map g.H.RegexHost.faults c.args.finders.now) (g.H.RegexHost.faults at.checker) (map g.H.RegexHost.faults at.finders)
+          (g.S.Source.left c.args.source.now) (ahead at.lines (g.S.Source.left at.source)) at.number [] r at.office.list) (sym cut.round) inv.so_far in
     let served = c.in_ok-serve_cut.ensures in
     let left = g.S.Source.left c.cut_lines-more.new.source in
     let now = ahead c.cut_lines-more.new.lines left in
@@ -113,9 +122,9 @@ rounds-preserved g c =
           (g.S.Source.left c.args.source.now) rest c.cut_lines-more.new.number [] c.serve_cut.new.round c.serve_cut.new.office.list) (sym stands)
           (cut_taken g.P.Pair.opening (length c.args.finders.now) (length at.desks) (g.O.Sink.taken c.args.out.now) (g.H.RegexHost.faults c.args.checker.now ∷ map g.H.RegexHost.faults c.args.finders.now) (g.S.Source.left c.args.source.now)
           (ahead at.lines (g.S.Source.left at.source)) at.number c.cut_lines-more.new.number c.cut_lines-more.new.cut.items c.ask_cut.new.cut.items Holds
-          (standing (g.O.Sink.taken at.out) (g.H.RegexHost.faults at.checker) (map g.H.RegexHost.faults at.finders) at.round at.office.list)
+          (standing (g.O.Sink.taken at.out) (g.H.RegexHost.faults at.checker) (map g.H.RegexHost.faults at.finders) c.cut_lines-more.new.round at.office.list)
           (standing (g.O.Sink.taken c.serve_cut.new.out) (g.H.RegexHost.faults c.serve_cut.new.checker) (map g.H.RegexHost.faults c.serve_cut.new.finders) c.serve_cut.new.round c.serve_cut.new.office.list)
-          c.requires.fresh (inv.count ∙ sym c.requires.finders) c.ask_cut.ensures cut.number cut.cut inv.so_far served.takes);
+          c.requires.fresh (inv.count ∙ sym c.requires.finders) c.ask_cut.ensures cut.number cut.cut so served.takes);
       room = served.room;
       count = served.count ∙ inv.count;
       seats = subst (λ n. AreSeats n c.serve_cut.new.desks) inv.count served.seats;
@@ -137,6 +146,9 @@ returns-then-is_empty-clause-served g c =
     let at = c.rounds in
     let inv = at.invariant in
     let cut = c.in_ok-more.ensures in
+    let so = subst (λ (r : ReadRound). SoFar g.P.Pair.opening (length c.args.finders.now) (g.O.Sink.taken c.args.out.now) (g.O.Sink.taken at.out)
+          (g.H.RegexHost.faults c.args.checker.now ∷ map g.H.RegexHost.faults c.args.finders.now) (g.H.RegexHost.faults at.checker) (map g.H.RegexHost.faults at.finders)
+          (g.S.Source.left c.args.source.now) (ahead at.lines (g.S.Source.left at.source)) at.number [] r at.office.list) (sym cut.round) inv.so_far in
     let served = c.in_ok-serve_cut.ensures in
     let left = g.S.Source.left c.cut_lines-more.new.source in
     let now = ahead c.cut_lines-more.new.lines left in
@@ -148,9 +160,9 @@ returns-then-is_empty-clause-served g c =
     cut.cut.behind left c.cut_lines-more.new.number c.serve_cut.new.round c.serve_cut.new.office.list (cut.few inv.few) stands (c.if-is_empty.ensures.none refl)
     (cut_taken g.P.Pair.opening (length c.args.finders.now) (length at.desks) (g.O.Sink.taken c.args.out.now) (g.H.RegexHost.faults c.args.checker.now ∷ map g.H.RegexHost.faults c.args.finders.now) (g.S.Source.left c.args.source.now)
     (ahead at.lines (g.S.Source.left at.source)) at.number c.cut_lines-more.new.number c.cut_lines-more.new.cut.items c.ask_cut.new.cut.items Holds
-    (standing (g.O.Sink.taken at.out) (g.H.RegexHost.faults at.checker) (map g.H.RegexHost.faults at.finders) at.round at.office.list)
+    (standing (g.O.Sink.taken at.out) (g.H.RegexHost.faults at.checker) (map g.H.RegexHost.faults at.finders) c.cut_lines-more.new.round at.office.list)
     (standing (g.O.Sink.taken c.serve_cut.new.out) (g.H.RegexHost.faults c.serve_cut.new.checker) (map g.H.RegexHost.faults c.serve_cut.new.finders) c.serve_cut.new.round c.serve_cut.new.office.list)
-    c.requires.fresh (inv.count ∙ sym c.requires.finders) c.ask_cut.ensures cut.number cut.cut inv.so_far served.takes)
+    c.requires.fresh (inv.count ∙ sym c.requires.finders) c.ask_cut.ensures cut.number cut.cut so served.takes)
 
 pub returns-then-is_empty-clause-later : goal.returns-then-is_empty-clause-later
 returns-then-is_empty-clause-later g c = (
@@ -168,6 +180,9 @@ returns-clause-served g c =
     let at = c.rounds in
     let inv = at.invariant in
     let cut = c.in_ok-more.ensures in
+    let so = subst (λ (r : ReadRound). SoFar g.P.Pair.opening (length c.args.finders.now) (g.O.Sink.taken c.args.out.now) (g.O.Sink.taken at.out)
+          (g.H.RegexHost.faults c.args.checker.now ∷ map g.H.RegexHost.faults c.args.finders.now) (g.H.RegexHost.faults at.checker) (map g.H.RegexHost.faults at.finders)
+          (g.S.Source.left c.args.source.now) (ahead at.lines (g.S.Source.left at.source)) at.number [] r at.office.list) (sym cut.round) inv.so_far in
     let served = c.in_ok-serve_cut.ensures in
     let round = c.serve_round.ensures in
     let left = g.S.Source.left c.cut_lines-more.new.source in
@@ -181,9 +196,9 @@ returns-clause-served g c =
     c.serve_round.result c.requires.fresh (served.count ∙ inv.count ∙ sym c.requires.finders) (cut.few inv.few) stands (c.if-is_empty.ensures.some refl) round.later
     (cut_taken g.P.Pair.opening (length c.args.finders.now) (length at.desks) (g.O.Sink.taken c.args.out.now) (g.H.RegexHost.faults c.args.checker.now ∷ map g.H.RegexHost.faults c.args.finders.now) (g.S.Source.left c.args.source.now)
     (ahead at.lines (g.S.Source.left at.source)) at.number c.cut_lines-more.new.number c.cut_lines-more.new.cut.items c.ask_cut.new.cut.items Holds
-    (standing (g.O.Sink.taken at.out) (g.H.RegexHost.faults at.checker) (map g.H.RegexHost.faults at.finders) at.round at.office.list)
+    (standing (g.O.Sink.taken at.out) (g.H.RegexHost.faults at.checker) (map g.H.RegexHost.faults at.finders) c.cut_lines-more.new.round at.office.list)
     (standing (g.O.Sink.taken c.serve_cut.new.out) (g.H.RegexHost.faults c.serve_cut.new.checker) (map g.H.RegexHost.faults c.serve_cut.new.finders) c.serve_cut.new.round c.serve_cut.new.office.list)
-    c.requires.fresh (inv.count ∙ sym c.requires.finders) c.ask_cut.ensures cut.number cut.cut inv.so_far served.takes)
+    c.requires.fresh (inv.count ∙ sym c.requires.finders) c.ask_cut.ensures cut.number cut.cut so served.takes)
     round.written round.stops
 
 pub returns-clause-later : goal.returns-clause-later
@@ -208,7 +223,7 @@ returns-in_err-serve_cut-clause-read_fault g c =
     let at = c.rounds in
     record {
       later = omega (arith, at.invariant.read, c.cut_lines-more.ensures.cause.later);
-      failed = λ is. absurd (not_of_cut g.P.Pair.opening (length at.desks) (standing (g.O.Sink.taken at.out) (g.H.RegexHost.faults at.checker) (map g.H.RegexHost.faults at.finders) at.round at.office.list)
+      failed = λ is. absurd (not_of_cut g.P.Pair.opening (length at.desks) (standing (g.O.Sink.taken at.out) (g.H.RegexHost.faults at.checker) (map g.H.RegexHost.faults at.finders) c.cut_lines-more.new.round at.office.list)
           (g.O.Sink.taken c.serve_cut.new.out) (g.H.RegexHost.faults c.serve_cut.new.checker) (map g.H.RegexHost.faults c.serve_cut.new.finders) c.in_err-serve_cut.field-0.0 c.ask_cut.new.cut.items _ c.from_residual-in_err-serve_cut.ensures.1
           c.in_err-serve_cut.ensures.stops is);
     }
