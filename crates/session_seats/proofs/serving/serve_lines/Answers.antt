@@ -58,8 +58,8 @@ returns-in_err-serve_cut-clause-served g c =
     let inv = at.invariant in
     let cut = c.cut_lines-more.ensures in
     let so = subst (λ (r : ReadRound). SoFar g.P.Pair.opening (length c.args.finders.now) (g.O.Sink.taken c.args.out.now) (g.O.Sink.taken at.out)
-          (g.H.RegexHost.faults c.args.checker.now ∷ map g.H.RegexHost.faults c.args.finders.now) (g.H.RegexHost.faults at.checker) (map g.H.RegexHost.faults at.finders)
-          (g.S.Source.left c.args.source.now) (ahead at.lines (g.S.Source.left at.source)) at.number [] r at.office.list) (sym cut.round) inv.so_far in
+    (g.H.RegexHost.faults c.args.checker.now ∷ map g.H.RegexHost.faults c.args.finders.now) (g.H.RegexHost.faults at.checker) (map g.H.RegexHost.faults at.finders)
+    (g.S.Source.left c.args.source.now) (ahead at.lines (g.S.Source.left at.source)) at.number [] r at.office.list) (sym cut.round) inv.so_far in
     stop_said _ _ _ _ _ _ _ _ _ c.from_residual-in_err-serve_cut.ensures.1 (λ e same. cut_stopped g.P.Pair.opening (length c.args.finders.now) (length at.desks) (g.O.Sink.taken c.args.out.now) (g.O.Sink.taken c.serve_cut.new.out)
     (g.H.RegexHost.faults c.args.checker.now ∷ map g.H.RegexHost.faults c.args.finders.now) (g.H.RegexHost.faults c.serve_cut.new.checker) (map g.H.RegexHost.faults c.serve_cut.new.finders) (g.S.Source.left c.args.source.now)
     (ahead at.lines (g.S.Source.left at.source)) (g.S.Source.left c.cut_lines-more.new.source) at.number c.cut_lines-more.new.number c.cut_lines-more.new.cut.items c.ask_cut.new.cut.items
@@ -79,8 +79,8 @@ returns-in_err-more-clause-served g c =
     let inv = at.invariant in
     let cut = c.in_err-more.ensures in
     let so = subst (λ (r : ReadRound). SoFar g.P.Pair.opening (length c.args.finders.now) (g.O.Sink.taken c.args.out.now) (g.O.Sink.taken at.out)
-          (g.H.RegexHost.faults c.args.checker.now ∷ map g.H.RegexHost.faults c.args.finders.now) (g.H.RegexHost.faults at.checker) (map g.H.RegexHost.faults at.finders)
-          (g.S.Source.left c.args.source.now) (ahead at.lines (g.S.Source.left at.source)) at.number [] r at.office.list) (sym cut.round) inv.so_far in
+    (g.H.RegexHost.faults c.args.checker.now ∷ map g.H.RegexHost.faults c.args.finders.now) (g.H.RegexHost.faults at.checker) (map g.H.RegexHost.faults at.finders)
+    (g.S.Source.left c.args.source.now) (ahead at.lines (g.S.Source.left at.source)) at.number [] r at.office.list) (sym cut.round) inv.so_far in
     let served = c.in_ok-serve_cut.ensures in
     let left = g.S.Source.left c.cut_lines-more.new.source in
     let now = ahead c.cut_lines-more.new.lines left in
@@ -107,8 +107,8 @@ rounds-preserved g c =
     let inv = at.invariant in
     let cut = c.in_ok-more.ensures in
     let so = subst (λ (r : ReadRound). SoFar g.P.Pair.opening (length c.args.finders.now) (g.O.Sink.taken c.args.out.now) (g.O.Sink.taken at.out)
-          (g.H.RegexHost.faults c.args.checker.now ∷ map g.H.RegexHost.faults c.args.finders.now) (g.H.RegexHost.faults at.checker) (map g.H.RegexHost.faults at.finders)
-          (g.S.Source.left c.args.source.now) (ahead at.lines (g.S.Source.left at.source)) at.number [] r at.office.list) (sym cut.round) inv.so_far in
+    (g.H.RegexHost.faults c.args.checker.now ∷ map g.H.RegexHost.faults c.args.finders.now) (g.H.RegexHost.faults at.checker) (map g.H.RegexHost.faults at.finders)
+    (g.S.Source.left c.args.source.now) (ahead at.lines (g.S.Source.left at.source)) at.number [] r at.office.list) (sym cut.round) inv.so_far in
     let served = c.in_ok-serve_cut.ensures in
     let left = g.S.Source.left c.cut_lines-more.new.source in
     let now = ahead c.cut_lines-more.new.lines left in
@@ -147,8 +147,8 @@ returns-then-is_empty-clause-served g c =
     let inv = at.invariant in
     let cut = c.in_ok-more.ensures in
     let so = subst (λ (r : ReadRound). SoFar g.P.Pair.opening (length c.args.finders.now) (g.O.Sink.taken c.args.out.now) (g.O.Sink.taken at.out)
-          (g.H.RegexHost.faults c.args.checker.now ∷ map g.H.RegexHost.faults c.args.finders.now) (g.H.RegexHost.faults at.checker) (map g.H.RegexHost.faults at.finders)
-          (g.S.Source.left c.args.source.now) (ahead at.lines (g.S.Source.left at.source)) at.number [] r at.office.list) (sym cut.round) inv.so_far in
+    (g.H.RegexHost.faults c.args.checker.now ∷ map g.H.RegexHost.faults c.args.finders.now) (g.H.RegexHost.faults at.checker) (map g.H.RegexHost.faults at.finders)
+    (g.S.Source.left c.args.source.now) (ahead at.lines (g.S.Source.left at.source)) at.number [] r at.office.list) (sym cut.round) inv.so_far in
     let served = c.in_ok-serve_cut.ensures in
     let left = g.S.Source.left c.cut_lines-more.new.source in
     let now = ahead c.cut_lines-more.new.lines left in
@@ -181,8 +181,8 @@ returns-clause-served g c =
     let inv = at.invariant in
     let cut = c.in_ok-more.ensures in
     let so = subst (λ (r : ReadRound). SoFar g.P.Pair.opening (length c.args.finders.now) (g.O.Sink.taken c.args.out.now) (g.O.Sink.taken at.out)
-          (g.H.RegexHost.faults c.args.checker.now ∷ map g.H.RegexHost.faults c.args.finders.now) (g.H.RegexHost.faults at.checker) (map g.H.RegexHost.faults at.finders)
-          (g.S.Source.left c.args.source.now) (ahead at.lines (g.S.Source.left at.source)) at.number [] r at.office.list) (sym cut.round) inv.so_far in
+    (g.H.RegexHost.faults c.args.checker.now ∷ map g.H.RegexHost.faults c.args.finders.now) (g.H.RegexHost.faults at.checker) (map g.H.RegexHost.faults at.finders)
+    (g.S.Source.left c.args.source.now) (ahead at.lines (g.S.Source.left at.source)) at.number [] r at.office.list) (sym cut.round) inv.so_far in
     let served = c.in_ok-serve_cut.ensures in
     let round = c.serve_round.ensures in
     let left = g.S.Source.left c.cut_lines-more.new.source in
