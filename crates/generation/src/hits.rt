@@ -11,10 +11,21 @@ ghost use Rattle.generation.specs.Hits as spec;
 use dnr_base::{NoMemory, Request};
 use rule_index::{ListIndex, Walk, shown_by};
 use ruleset_store::IndexedRules;
+use std::alloc::Global;
 
 // The place of a rule in its list, and the part by which it may reach the request: 0 for the request itself, and one more
 // than its place for a frame.
 pub(crate) type Hit = (u32, u32);
+
+// How many hits a request has at most, but for few requests.
+const ROOM: usize = 64;
+
+// No hits, with room for those of most requests, if there is memory for it: a vector that grows takes a lock of the
+// allocator, which threads share.
+pub(crate) fn no_hits(alloc: Global) -> Option<Vec<Hit>> {
+    let hits: Result<_, _> = Vec::with_capacity(alloc, ROOM);
+    hits.ok()
+}
 
 // Puts a hit for each of the places behind the others.
 fn push_all(hits: &mut Vec<Hit>, places: Walk<'_>, part: u32) -> Result<(), NoMemory>

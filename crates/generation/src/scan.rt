@@ -14,7 +14,7 @@ ghost use Rattle.dnr_base.specs.Request.{max_frames};
 use crate::DecideRefusal;
 use crate::access::has_access;
 use crate::block::Block;
-use crate::hits::{Hit, find, shown};
+use crate::hits::{Hit, find, no_hits, shown};
 use crate::kept::Kept;
 use crate::live::Live;
 use crate::targets::may_act;
@@ -358,7 +358,9 @@ impl<'r> Scan<'r> {
         ensures bound { steps.new ≤ steps.old + pairs_in extensions.now self.now.request }
         ensures ends { Ends (IsPatternOf extensions.now) (H.faults host.old) (H.faults host.new) result }
     {
-        let mut hits = Vec::new(self.alloc);
+        let Some(mut hits) = no_hits(self.alloc) else {
+            return Err(DecideRefusal::NoMemory);
+        };
         let mut kepts = Vec::new(self.alloc);
         for (age, extension) in extensions.iter().enumerate() {
             match self.take_extension(age, extension, &mut hits, host, steps) {
