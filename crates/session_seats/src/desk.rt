@@ -248,12 +248,17 @@ impl<P: Pair, H: RegexHost> ToolSeat<RoundLines, H> for Desk<P> {
     }
 }
 
-// Takes the answers away, and keeps the memory of their texts where there is room.
+// The memory of a longer text is let go: a session may last, and each of its texts may once be long.
+const KEPT_BYTES: usize = 4_096;
+
+// Takes the answers away, and keeps the memory of their texts, but for long ones, where there is room.
 fn keep_texts(answers: &mut Vec<Answered>, texts: &mut Vec<String>)
     ensures { answers.new.items ≡ [] }
 {
     while let Some(answered) = answers.pop() {
-        let _kept = texts.push(answered.text);
+        if answered.text.len() <= KEPT_BYTES {
+            let _kept = texts.push(answered.text);
+        }
     }
 }
 

@@ -15,6 +15,9 @@ const MAX_LINES: usize = 1_024;
 
 const FULL_BYTES: usize = 8_388_608;
 
+// The memory of a longer line is let go: a session may last, and each of its buffers may meet a long line.
+const KEPT_BYTES: usize = 4_096;
+
 /// How many lines and bytes a round still takes.
 #[derive(Clone, Copy)]
 pub struct Room {
@@ -148,13 +151,15 @@ impl RoundLines {
     }
 }
 
-// Takes the lines away, and keeps the memory of those that were left to seats where there is room.
+// Takes the lines away, and keeps the memory of those that were left to seats, but for long ones, where there is room.
 fn keep_buffers(lines: &mut Vec<RoundLine>, buffers: &mut Vec<Vec<u8>>)
     ensures { lines.new.items ≡ [] }
 {
     while let Some(line) = lines.pop() {
         if let RoundLine::Plain(line) = line {
-            let _kept = buffers.push(line.into_bytes());
+            if line.bytes().len() <= KEPT_BYTES {
+                let _kept = buffers.push(line.into_bytes());
+            }
         }
     }
 }
