@@ -1,5 +1,7 @@
-ghost use Rattle.std.specs.Prelude.{◌≡◌, None, IfOk, IsSome, IsErrOf, IsTrue};
-ghost use Rattle.dnr_spec.specs.Patterns.{found, pattern_in};
+ghost use Rattle.std.specs.Prelude.{◌≡◌, true, Some, None, IfOk, IsSome, IsErrOf, IsTrue, if◌then◌else◌};
+ghost use Rattle.dnr_base.specs.Faults.{HasCauseOf};
+ghost use Rattle.dnr_spec.specs.Patterns.{ArePlacesIn, found, pattern_in};
+ghost use Rattle.regex_host.specs.Answers.{IsCalm, KeepsPlaces};
 ghost use Rattle.regex_host.specs.PackHost.{IsRefusedAs};
 
 use crate::built::Built;
@@ -23,7 +25,7 @@ const PREFILTERS: usize = 4_096;
 #[derive(Drop)]
 pub struct PackHost {
     alloc: Global,
-    cache: LruCache<String, Built>,
+    cache: LruCache<String, Box<Built>>,
     prefilters: LruCache<String, Prefilter>,
     faults: u64,
 }
@@ -59,15 +61,15 @@ impl PackHost {
     }
 
     // The built pattern, out of the cache if it is there.
-    fn take(&mut self, key: &str, pattern: &str, fold: bool) -> Result<Built, BuildRefusal>
-        ensures of { IfOk result (λ built. built ≡ record { pattern = pattern.now; fold = fold }) }
+    fn take(&mut self, key: &str, pattern: &str, fold: bool) -> Result<Box<Built>, BuildRefusal>
+        ensures of { IfOk result (λ built. built.value ≡ record { pattern = pattern.now; fold = fold }) }
         ensures no_pattern { IsErrOf result BuildRefusal.NoPattern → pattern_in pattern.now fold ≡ None }
         ensures too_big { IsErrOf result BuildRefusal.TooBig → IsSome (pattern_in pattern.now fold) }
         ensures same { self.new.faults ≡ self.old.faults }
     {
         match self.cache.pop(key) {
             Some(built) if built.is_of(pattern, fold) => Ok(built),
-            _ => Built::build(self.alloc, pattern, fold),
+            _ => built_apart(self.alloc, pattern, fold),
         }
     }
 
@@ -98,10 +100,40 @@ impl PackHost {
     }
 
     // Puts a built pattern into the cache. It is let go where there is no memory for it.
-    fn keep(&mut self, key: String, built: Built)
+    fn keep(&mut self, key: String, built: Box<Built>)
         ensures { self.new.faults ≡ self.old.faults }
     {
         let _ = self.cache.put(key, built);
+    }
+
+    // The first match of a pattern by what is built of it, as `find` promises it. Most calls of `find` end before they come
+    // here, so what is large stands here alone.
+    fn search(
+        &mut self,
+        pattern: &str,
+        fold: bool,
+        text: &str,
+        spans: &mut [Option<Span>; 10],
+    ) -> Result<bool, HostRefusal>
+        ensures found { IfOk result (λ is_found. found pattern.now fold text.now ≡ (if is_found then Some spans.new else None)) }
+        ensures within { IfOk result (λ is_found. is_found ≡ true → ArePlacesIn text.now spans.new) }
+        ensures kept { KeepsPlaces result spans.old spans.new }
+        ensures pattern { IsErrOf result HostRefusal.NoPattern → ⊥ }
+        ensures cause { HasCauseOf HostRefusal.HostFault self.old.faults self.new.faults result }
+        ensures calm { IsCalm self.old.faults self.new.faults result }
+    {
+        let Ok(key) = key_of(self.alloc, pattern, fold) else {
+            return Err(HostRefusal::NoMemory);
+        };
+        let mut built = match self.take(key.as_str(), pattern, fold) {
+            Ok(built) => built,
+            Err(BuildRefusal::NoPattern) => return Ok(false),
+            Err(why) => return Err(self.refusal(why)),
+        };
+        self.learn(pattern, fold);
+        let answer = built.find(self.alloc, text, spans);
+        self.keep(key, built);
+        answer.map_err(|_| HostRefusal::NoMemory)
     }
 
     // What the host says of a pattern that is not built. A pattern that is too big is a fault.
@@ -117,6 +149,17 @@ impl PackHost {
             }
         }
     }
+}
+
+// A pattern that is built, behind a box: it is large, and goes in and out of the cache.
+fn built_apart(alloc: Global, pattern: &str, fold: bool) -> Result<Box<Built>, BuildRefusal>
+    ensures of { IfOk result (λ built. built.value ≡ record { pattern = pattern.now; fold = fold }) }
+    ensures no_pattern { IsErrOf result BuildRefusal.NoPattern → pattern_in pattern.now fold ≡ None }
+    ensures too_big { IsErrOf result BuildRefusal.TooBig → IsSome (pattern_in pattern.now fold) }
+{
+    let built = Built::build(alloc, pattern, fold)?;
+    let apart: Result<_, _> = Box::new(alloc, built);
+    apart.map_err(|_| BuildRefusal::NoMemory)
 }
 
 // What a built pattern has as its key: the pattern behind a letter for `fold`.
@@ -163,17 +206,6 @@ impl RegexHost for PackHost {
         if self.refuses(pattern, fold, text) {
             return Ok(false);
         }
-        let Ok(key) = key_of(self.alloc, pattern, fold) else {
-            return Err(HostRefusal::NoMemory);
-        };
-        let mut built = match self.take(key.as_str(), pattern, fold) {
-            Ok(built) => built,
-            Err(BuildRefusal::NoPattern) => return Ok(false),
-            Err(why) => return Err(self.refusal(why)),
-        };
-        self.learn(pattern, fold);
-        let answer = built.find(self.alloc, text, spans);
-        self.keep(key, built);
-        answer.map_err(|_| HostRefusal::NoMemory)
+        self.search(pattern, fold, text, spans)
     }
 }
