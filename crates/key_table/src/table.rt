@@ -167,6 +167,14 @@ impl Table {
         ensures { result ≡ near_of asked.entry shown self.now }
     {
         let tag = asked.tag();
+        self.tagged(asked, tag, shown)
+    }
+
+    /// The same where the tag of the key is known. It takes no memory.
+    pub fn tagged<'a>(&'a self, asked: Asked<'a>, tag: u32, shown: Option<u64>) -> Places<'a>
+        requires { tag ≡ tag_of asked }
+        ensures { result ≡ near_of asked.entry shown self.now }
+    {
         let entries = marked(
             &self.texts,
             &self.entries,

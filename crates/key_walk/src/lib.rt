@@ -4,6 +4,8 @@
 
 mod domain_walk;
 mod domains;
+mod tagged_walk;
+mod tagged_word;
 #[cfg(test)]
 mod tests;
 mod word_walk;
@@ -11,5 +13,7 @@ mod words;
 
 pub use domain_walk::DomainWalk;
 pub use domains::Domains;
+pub use tagged_walk::TaggedWalk;
+pub use tagged_word::{TaggedWord, tagged_words};
 pub use word_walk::WordWalk;
 pub use words::Words;

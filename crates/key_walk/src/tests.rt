@@ -1,5 +1,5 @@
 //! Which places share a word with a text, and which have a domain over a host.
-use crate::{DomainWalk, WordWalk, Words};
+use crate::{DomainWalk, TaggedWalk, WordWalk, Words, tagged_words};
 use key_table::{Draft, Table};
 use std::alloc::{AllocError, Global};
 use std::test::Fail;
@@ -50,5 +50,19 @@ fn a_host_lies_in_its_rests(rt: HostRuntime) -> Result<(), Fail> {
     assert!(rt; walk.next() == None);
     assert!(rt; DomainWalk::asked(&table, "x.b.com", Some(1)).next() == Some(1));
     assert!(rt; DomainWalk::new(&table, "B.COM").next() == None);
+    Ok(())
+}
+
+#[test]
+fn a_listed_word_is_asked_once(rt: HostRuntime) -> Result<(), Fail> {
+    let table = table_of(rt.alloc(), [("ads", 1), ("x1", 2), ("track", 4)].as_slice())?;
+    let words = tagged_words(rt.alloc(), b"http://ads.com/Ads/x1?ADS=xx1")?;
+    let mut walk = TaggedWalk::near(&table, &words, 7);
+    assert!(rt; walk.next() == Some(1));
+    assert!(rt; walk.next() == Some(2));
+    assert!(rt; walk.next() == None);
+    let mut walk = TaggedWalk::near(&table, &words, 6);
+    assert!(rt; walk.next() == Some(2));
+    assert!(rt; walk.next() == None);
     Ok(())
 }

@@ -1,8 +1,10 @@
 ghost use Rattle.std.specs.Prelude.{◌≡◌, Some, IfOk};
 ghost use Rattle.rule_index.specs.Index as spec;
 ghost use Rattle.rule_index.specs.Lists.{placed};
+ghost use Rattle.rule_index.specs.Needs.{shown_by};
 
 use crate::drafts::IndexDraft;
+use crate::prepared_part::PreparedPart;
 use crate::walk::Walk;
 use dnr_base::{NoMemory, Part};
 use dnr_rules::Rule;
@@ -70,6 +72,19 @@ impl Index {
         ensures { result ≡ spec.near self.now (Some shown) part.now }
     {
         self.walk(part, Some(shown))
+    }
+
+    /// The same of a part that is prepared.
+    pub fn near_prepared<'a>(&'a self, own: &'a PreparedPart<'a>) -> Walk<'a>
+        ensures { result ≡ spec.near self.now (Some (shown_by own.now)) own.now }
+    {
+        Walk::prepared(
+            &self.others,
+            &self.hosts,
+            &self.words,
+            &self.initiators,
+            own,
+        )
     }
 
     fn walk<'a>(&'a self, part: &'a Part<'a>, shown: Option<u64>) -> Walk<'a>

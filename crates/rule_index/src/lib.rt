@@ -12,6 +12,7 @@ mod list_draft;
 mod list_index;
 mod needs;
 mod pieces;
+mod prepared_part;
 #[cfg(test)]
 mod tests;
 mod token;
@@ -29,4 +30,5 @@ pub use laws::{
 pub use list_draft::ListDraft;
 pub use list_index::{LendsRule, ListIndex};
 pub use needs::shown_by;
+pub use prepared_part::PreparedPart;
 pub use walk::Walk;

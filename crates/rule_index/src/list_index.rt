@@ -2,9 +2,11 @@ ghost use Rattle.std.specs.Prelude.{◌≡◌, map, Some, IfOk};
 ghost use Rattle.rule_spec.specs.Rule as rule;
 ghost use Rattle.rule_index.specs.Index.{candidates, near};
 ghost use Rattle.rule_index.specs.Lists as spec;
+ghost use Rattle.rule_index.specs.Needs.{shown_by};
 
 use crate::index::Index;
 use crate::list_draft::ListDraft;
+use crate::prepared_part::PreparedPart;
 use crate::walk::Walk;
 use dnr_base::{NoMemory, Part};
 use dnr_rules::Rule;
@@ -38,6 +40,7 @@ pub struct ListIndex {
 
 impl Model for ListIndex {
     ghost use Rattle.rule_index.specs.Lists as spec;
+    ghost use Rattle.rule_index.specs.Needs.{shown_by};
 
     ghost Value = { spec.ListIndex };
 
@@ -80,6 +83,13 @@ impl ListIndex {
         ensures { result ≡ near self.now.whole (Some shown) part.now }
     {
         self.whole.near(part, shown)
+    }
+
+    /// The same of a part that is prepared.
+    pub fn near_prepared<'a>(&'a self, own: &'a PreparedPart<'a>) -> Walk<'a>
+        ensures { result ≡ near self.now.whole (Some (shown_by own.now)) own.now }
+    {
+        self.whole.near_prepared(own)
     }
 
     /// The places of the candidates that reach a request through its frames.

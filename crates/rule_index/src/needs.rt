@@ -2,6 +2,7 @@
 ghost use Rattle.std.specs.Prelude.{◌≡◌, ◌<◌, [], ◌∷◌, fold, if◌then◌else◌, ◌&&◌};
 ghost use Rattle.dnr_base.specs.Kind.{all_kinds};
 ghost use Rattle.dnr_base.specs.KindSet.{kinds_of};
+ghost use Rattle.dnr_base.specs.View.{text_of};
 ghost use Rattle.index_spec.specs.Words as words;
 ghost use Rattle.rule_index.specs.Needs as spec;
 
@@ -10,7 +11,7 @@ use crate::token::{ends_firmly, is_firm, word_at};
 use dnr_base::{Kind, KindSet, Part};
 use dnr_rules::Condition;
 use key_table::{Asked, bucket_of};
-use key_walk::Words;
+use key_walk::{TaggedWord, Words};
 
 // How many bits words have, before those of types.
 const WORDS: u32 = 48;
@@ -84,6 +85,17 @@ fn words_shown(text: &[u8]) -> u64
     bits
 }
 
+// The same of words whose tags are known.
+fn tagged_shown(words: &[TaggedWord<'_>]) -> u64
+    ensures { result ≡ spec.with_bits 0 (spec.places_of_words words.now) }
+{
+    let mut bits = 0;
+    for word in words {
+        bits = with_bit(bits, bucket_of(WORDS, word.tag()) as u32);
+    }
+    bits
+}
+
 // The bits of the words that a condition's filter needs.
 fn words_needed(condition: &Condition) -> u64
     ensures { result ≡ spec.with_bits 0 (spec.places_of_words (spec.words_needed condition.now.url_filter)) }
@@ -120,4 +132,13 @@ pub fn shown_by(part: &Part<'_>) -> u64
     ensures { result ≡ spec.shown_by part.now }
 {
     with_others_than(words_shown(part.view.text().as_bytes()), part.kind)
+}
+
+/// What a part that has these words shows.
+#[tactic(auto, unfolding(crate::specs::Needs::shown_by))]
+pub(crate) fn shown_with(part: &Part<'_>, tagged: &[TaggedWord<'_>]) -> u64
+    requires { tagged.now ≡ words.words_of (text_of part.now.view) }
+    ensures { result ≡ spec.shown_by part.now }
+{
+    with_others_than(tagged_shown(tagged), part.kind)
 }

@@ -1,4 +1,4 @@
-ghost use Rattle.std.specs.Prelude.{◌≡◌, ◌++◌, []};
+ghost use Rattle.std.specs.Prelude.{◌≡◌, ◌++◌, [], Some};
 ghost use Rattle.std.specs.Option.{option_copied};
 ghost use Rattle.std.specs.Iterator.{YieldsFirst, item_count};
 ghost use Rattle.dnr_base.specs.View.{text_of, host_of};
@@ -6,11 +6,13 @@ ghost use Rattle.key_table.specs.Pairs.{near_of};
 ghost use Rattle.key_walk.specs.Met.{near_text};
 ghost use Rattle.key_walk.specs.Over.{near_host};
 ghost use Rattle.rule_index.specs.Index.{near_initiator};
+ghost use Rattle.rule_index.specs.Needs.{shown_by};
 ghost use Rattle.rule_index.specs.Walk.{places_left};
 
+use crate::prepared_part::PreparedPart;
 use dnr_base::{Part, Text};
 use key_table::{Asked, Places, Table};
-use key_walk::{DomainWalk, WordWalk};
+use key_walk::{DomainWalk, TaggedWalk, WordWalk};
 use std::marker::Model;
 
 /// The places of rules that share a key with a part. A clause sees those that are left. It takes no memory.
@@ -19,6 +21,8 @@ pub struct Walk<'a> {
     others: Places<'a>,
     hosts: DomainWalk<'a>,
     words: WordWalk<'a>,
+    // The words of a part that is prepared stand here, and no others are asked.
+    tagged: Option<TaggedWalk<'a>>,
     initiators: Option<DomainWalk<'a>>,
 }
 
@@ -28,7 +32,7 @@ impl<'a> Model for Walk<'a> {
 
     ghost Value = { List ℕ };
 
-    ghost view = { λ w. w.others ++ w.hosts ++ w.words ++ places_left w.initiators };
+    ghost view = { λ w. w.others ++ w.hosts ++ w.words ++ places_left w.tagged ++ places_left w.initiators };
 }
 
 // The places that have a domain over the initiator, if there is one.
@@ -59,7 +63,32 @@ impl<'a> Walk<'a> {
             others: others.asked(Asked::exactly(&[]), shown),
             hosts: DomainWalk::asked(hosts, part.view.host(), shown),
             words: WordWalk::asked(words, part.view.text().as_bytes(), shown),
+            tagged: None,
             initiators: from_initiator(initiators, part.initiator, shown),
+        }
+    }
+
+    // The same of a part that is prepared, as far as it shows what they need.
+    pub(crate) fn prepared(
+        others: &'a Table,
+        hosts: &'a Table,
+        words: &'a Table,
+        initiators: &'a Table,
+        own: &'a PreparedPart<'a>,
+    ) -> Walk<'a>
+        ensures { result ≡ near_of [] (Some (shown_by own.now)) others.now
+            ++ near_host hosts.now (Some (shown_by own.now)) (host_of own.now.view)
+            ++ near_text words.now (Some (shown_by own.now)) (text_of own.now.view)
+            ++ near_initiator initiators.now (Some (shown_by own.now)) own.now.initiator }
+    {
+        let part = own.part();
+        let shown = own.shown();
+        Walk {
+            others: others.asked(Asked::exactly(&[]), Some(shown)),
+            hosts: DomainWalk::asked(hosts, part.view.host(), Some(shown)),
+            words: WordWalk::asked(words, &[], Some(shown)),
+            tagged: Some(TaggedWalk::near(words, own.words(), shown)),
+            initiators: from_initiator(initiators, part.initiator, Some(shown)),
         }
     }
 }
@@ -80,6 +109,11 @@ impl<'a> Iterator for Walk<'a> {
         }
         if let Some(place) = self.words.next() {
             return Some(place);
+        }
+        if let Some(tagged) = &mut self.tagged {
+            if let Some(place) = tagged.next() {
+                return Some(place);
+            }
         }
         self.initiators.as_mut()?.next()
     }

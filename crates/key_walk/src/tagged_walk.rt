@@ -1,0 +1,85 @@
+ghost use Rattle.std.specs.Prelude.{◌≡◌, [], Some};
+ghost use Rattle.std.specs.Iterator.{YieldsFirst, item_count};
+ghost use Rattle.index_spec.specs.Words.{has_word};
+ghost use Rattle.key_walk.specs.Met.{places_behind};
+
+use crate::tagged_word::TaggedWord;
+use key_table::{Asked, Places, Table};
+use std::marker::Model;
+
+/// The places of a table that share one of the words, in whatever case, each once for each pair and word that it shares. A
+/// clause sees those that are left. It takes no memory, and hashes no word.
+#[derive(Debug, Drop)]
+pub struct TaggedWalk<'a> {
+    table: &'a Table,
+    words: &'a [TaggedWord<'a>],
+    shown: Option<u64>,
+    // How many of the words were asked.
+    passed: usize,
+    places: Places<'a>,
+}
+
+impl<'a> Model for TaggedWalk<'a> {
+    ghost use Rattle.std.specs.Prelude.{◌<◌, ◌^◌, ◌++◌, length, take, drop, List, ℕ};
+    ghost use Rattle.key_walk.specs.Met.{places_behind};
+
+    ghost Value = { List ℕ };
+
+    ghost view = { λ w. w.places
+        ++ places_behind w.table.now w.shown (take w.passed w.words.now) (drop w.passed w.words.now) };
+
+    ghost invariant = { λ w. length w.words.now < 2 ^ 63 };
+}
+
+// Whether the word is one of these, in whatever case. Few words are asked, those that have places.
+fn is_met(words: &[TaggedWord<'_>], word: &[u8]) -> bool
+    ensures { result ≡ has_word words.now word.now }
+{
+    words
+        .iter()
+        .any(|other| other.text().eq_ignore_ascii_case(word))
+}
+
+impl<'a> TaggedWalk<'a> {
+    /// The places that share one of the words and need no more than is shown.
+    pub fn near(table: &'a Table, words: &'a [TaggedWord<'a>], shown: u64) -> TaggedWalk<'a>
+        ensures { result ≡ places_behind table.now (Some shown) [] words.now }
+    {
+        TaggedWalk {
+            table,
+            words,
+            shown: Some(shown),
+            passed: 0,
+            places: table.no_places(),
+        }
+    }
+}
+
+impl<'a> Iterator for TaggedWalk<'a> {
+    type Item = u32;
+
+    ghost next_gives = { YieldsFirst (λ places. places) };
+
+    ghost remaining = { item_count (λ places. places) };
+
+    fn next(&mut self) -> Option<u32> {
+        if let Some(place) = self.places.next() {
+            return Some(place);
+        }
+        while let Some(word) = self.words.get(self.passed) {
+            let passed = self.passed;
+            self.passed += 1;
+            let text = word.text();
+            let mut places = self
+                .table
+                .tagged(Asked::in_lower_case(text), word.tag(), self.shown);
+            if let Some(place) = places.next() {
+                if !is_met(&self.words[..passed], text) {
+                    self.places = places;
+                    return Some(place);
+                }
+            }
+        }
+        None
+    }
+}

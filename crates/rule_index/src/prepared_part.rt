@@ -1,0 +1,66 @@
+ghost use Rattle.std.specs.Prelude.{◌≡◌, IfOk};
+ghost use Rattle.dnr_base.specs.View.{text_of};
+ghost use Rattle.index_spec.specs.Words.{words_of};
+ghost use Rattle.rule_index.specs.Needs as needs;
+
+use crate::needs::shown_with;
+use dnr_base::{NoMemory, Part};
+use key_walk::{TaggedWord, tagged_words};
+use std::alloc::Global;
+use std::marker::Model;
+
+/// A part of a request that several indexes are asked about. Its words are listed, and hashed once. A clause sees the part.
+#[derive(Debug, Drop)]
+pub struct PreparedPart<'a> {
+    part: Part<'a>,
+    words: Vec<TaggedWord<'a>>,
+    shown: u64,
+}
+
+impl<'a> Model for PreparedPart<'a> {
+    ghost use Rattle.std.specs.Prelude.{◌≡◌};
+    ghost use Rattle.dnr_base.specs.Request.{Part};
+    ghost use Rattle.dnr_base.specs.View.{text_of};
+    ghost use Rattle.index_spec.specs.Words.{words_of};
+    ghost use Rattle.rule_index.specs.Needs.{shown_by};
+
+    ghost Value = { Part };
+
+    ghost view = { λ p. p.part };
+
+    ghost invariant = { λ p. (p.words.items ≡ words_of (text_of p.part.view)) × (p.shown ≡ shown_by p.part) };
+}
+
+impl<'a> PreparedPart<'a> {
+    /// Lists the words of a part.
+    ///
+    /// `NoMemory`: no memory is left for them.
+    pub fn new(alloc: Global, part: Part<'a>) -> Result<PreparedPart<'a>, NoMemory>
+        ensures { IfOk result (λ prepared. prepared ≡ part.entry) }
+    {
+        let words = tagged_words(alloc, part.view.text().as_bytes())?;
+        let shown = shown_with(&part, &words);
+        Ok(PreparedPart { part, words, shown })
+    }
+
+    /// The part.
+    pub fn part(&self) -> &Part<'a>
+        ensures { result.now ≡ self.now }
+    {
+        &self.part
+    }
+
+    /// Its words, in order.
+    pub(crate) fn words(&self) -> &[TaggedWord<'a>]
+        ensures { result.now ≡ words_of (text_of self.now.view) }
+    {
+        &self.words
+    }
+
+    /// What it shows of what rules need, as bits.
+    pub fn shown(&self) -> u64
+        ensures { result ≡ needs.shown_by self.now }
+    {
+        self.shown
+    }
+}
