@@ -154,7 +154,9 @@ impl Generation {
         ensures bound { steps.new ≤ steps.old + pairs_of self.now.state request.now }
         ensures ends { Ends (NamesPattern self.now.state) (H.faults host.old) (H.faults host.new) result }
     {
-        let scan = Scan::new(alloc, request, self.list());
+        let Ok(scan) = Scan::new(alloc, request, self.list()) else {
+            return Err(DecideRefusal::NoMemory);
+        };
         match scan.take_all(self.extensions(), host, steps) {
             Ok(kepts) => self.concluded(alloc, request, kepts.as_slice(), host),
             Err(refusal) => Err(refusal),
@@ -179,7 +181,9 @@ impl Generation {
         ensures bound { steps.new ≤ steps.old + pairs_of self.now.state request.now }
         ensures ends { Ends (NamesPattern self.now.state) (H.faults host.old) (H.faults host.new) result }
     {
-        let scan = Scan::new(alloc, request, self.list());
+        let Ok(scan) = Scan::new(alloc, request, self.list()) else {
+            return Err(DecideRefusal::NoMemory);
+        };
         match scan.take_all(self.extensions(), host, steps) {
             Ok(kepts) => self.explained(alloc, request, kepts.as_slice(), host),
             Err(refusal) => Err(refusal),

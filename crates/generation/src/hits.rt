@@ -9,7 +9,7 @@ ghost use Rattle.rule_index.specs.Needs as needs;
 ghost use Rattle.generation.specs.Hits as spec;
 
 use dnr_base::{NoMemory, Request};
-use rule_index::{ListIndex, Walk, shown_by};
+use rule_index::{ListIndex, ListedPart, Walk, shown_by};
 use ruleset_store::IndexedRules;
 use std::alloc::Global;
 
@@ -76,15 +76,15 @@ fn push_own(
     hits: &mut Vec<Hit>,
     index: &ListIndex,
     request: &Request,
-    shown: u64,
+    own: &ListedPart<'_>,
 ) -> Result<(), NoMemory>
+    requires { own.now ≡ own_part request.now }
     ensures hits { OnOk result (hits.new.items
-        ≡ hits.old.items ++ spec.hits_by (near index.now.whole (Some shown) (own_part request.now)) 0) }
+        ≡ hits.old.items ++ spec.hits_by (near index.now.whole (Some (needs.shown_by own.now)) (own_part request.now)) 0) }
     ensures view { IsView request.now.view }
 {
     let _text = request.view.text();
-    let part = request.own_part();
-    push_all(hits, index.near(&part, shown), 0)
+    push_all(hits, index.near_listed(own), 0)
 }
 
 // Puts the hits in order, each once.
@@ -97,20 +97,20 @@ fn sort_once(hits: &mut Vec<Hit>)
     hits.dedup();
 }
 
-// The rules that may reach the request, of which this is shown, in place of what was there.
+// The rules that may reach the request, of which this is the own part, in place of what was there.
 pub(crate) fn find(
     hits: &mut Vec<Hit>,
     rules: &IndexedRules,
     request: &Request,
-    shown: u64,
+    own: &ListedPart<'_>,
 ) -> Result<(), NoMemory>
     requires frames { length request.now.frames ≤ max_frames }
-    requires shown { shown ≡ needs.shown_by (own_part request.now) }
+    requires own { own.now ≡ own_part request.now }
     ensures { OnOk result (spec.AreHits rules.now request.now hits.new.items) }
 {
     let index = rules.index();
     hits.clear();
-    push_own(hits, index, request, shown)?;
+    push_own(hits, index, request, own)?;
     push_frames(hits, index, request)?;
     sort_once(hits);
     Ok(())

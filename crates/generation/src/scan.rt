@@ -14,13 +14,14 @@ ghost use Rattle.dnr_base.specs.Request.{max_frames};
 use crate::DecideRefusal;
 use crate::access::has_access;
 use crate::block::Block;
-use crate::hits::{Hit, find, no_hits, shown};
+use crate::hits::{Hit, find, no_hits};
 use crate::kept::Kept;
 use crate::live::Live;
 use crate::targets::may_act;
-use dnr_base::{Rank, Request, Steps};
+use dnr_base::{NoMemory, Rank, Request, Steps};
 use dnr_rules::Rule;
 use regex_host::RegexHost;
+use rule_index::ListedPart;
 use rule_match::{MatchRefusal, PreparedRequest, Reach};
 use ruleset_store::{InstalledExtension, InstalledSet, Segment};
 use std::alloc::Global;
@@ -28,19 +29,18 @@ use std::marker::Model;
 use std::sync::ledger::Ledger;
 use suffix_list::SuffixList;
 
-// A request that is scanned for, and what it shows of what rules need. A clause sees the request and the suffix rules.
+// A request that is scanned for, prepared for the tests of rules and for look-ups. A clause sees the request and the suffix rules.
 #[derive(Drop)]
 pub(crate) struct Scan<'r> {
     pub alloc: Global,
     pub request: &'r Request,
     prepared: PreparedRequest<'r>,
-    shown: u64,
+    own: ListedPart<'r>,
 }
 
 impl<'r> Model for Scan<'r> {
     ghost use Rattle.std.specs.Prelude.{◌≡◌, ◌≤◌, length};
     ghost use Rattle.dnr_base.specs.Request.{max_frames, own_part};
-    ghost use Rattle.rule_index.specs.Needs.{shown_by};
     ghost use Rattle.rule_match.specs.Prepared.{PreparedRequest};
 
     ghost Value = { PreparedRequest };
@@ -49,7 +49,7 @@ impl<'r> Model for Scan<'r> {
 
     ghost invariant = { λ s. (s.prepared.request ≡ s.request.now)
         × (length s.request.now.frames ≤ max_frames)
-        × (s.shown ≡ shown_by (own_part s.request.now)) };
+        × (s.own ≡ own_part s.request.now) };
 }
 
 // The number, if it fits.
@@ -99,16 +99,16 @@ pub(crate) fn part_at(part: u32) -> Reach
 }
 
 impl<'r> Scan<'r> {
-    pub(crate) fn new(alloc: Global, request: &'r Request, list: &'r SuffixList) -> Scan<'r>
+    pub(crate) fn new(alloc: Global, request: &'r Request, list: &'r SuffixList) -> Result<Scan<'r>, NoMemory>
         requires { length request.now.frames ≤ max_frames }
-        ensures { result ≡ record { suffixes = list.now; request = request.now } }
+        ensures { IfOk result (λ scan. scan ≡ record { suffixes = list.now; request = request.now }) }
     {
-        Scan {
+        Ok(Scan {
             alloc,
             request,
             prepared: PreparedRequest::new(request, list),
-            shown: shown(request),
-        }
+            own: ListedPart::new(alloc, request.own_part())?,
+        })
     }
 
     // Whether the rule reaches the request by this part and may act on it.
@@ -220,7 +220,7 @@ impl<'r> Scan<'r> {
         ensures bound { steps.new ≤ steps.old + pairs_by (lives_in block.now) self.now.request }
         ensures ends { Ends (IsPattern kept.entry.name (lives_in block.now)) (H.faults host.old) (H.faults host.new) result }
     {
-        match find(hits, block.rules, self.request, self.shown) {
+        match find(hits, block.rules, self.request, &self.own) {
             Ok(()) => self.take_hits(kept, block, hits.as_slice(), host, steps),
             Err(_) => Err(DecideRefusal::NoMemory),
         }

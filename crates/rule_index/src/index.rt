@@ -4,7 +4,7 @@ ghost use Rattle.rule_index.specs.Lists.{placed};
 ghost use Rattle.rule_index.specs.Needs.{shown_by};
 
 use crate::drafts::IndexDraft;
-use crate::prepared_part::PreparedPart;
+use crate::listed_part::ListedPart;
 use crate::walk::Walk;
 use dnr_base::{NoMemory, Part};
 use dnr_rules::Rule;
@@ -74,11 +74,11 @@ impl Index {
         self.walk(part, Some(shown))
     }
 
-    /// The same of a part that is prepared.
-    pub fn near_prepared<'a>(&'a self, own: &'a PreparedPart<'a>) -> Walk<'a>
+    /// The same of a part whose words are listed.
+    pub fn near_listed<'a>(&'a self, own: &'a ListedPart<'a>) -> Walk<'a>
         ensures { result ≡ spec.near self.now (Some (shown_by own.now)) own.now }
     {
-        Walk::prepared(
+        Walk::listed(
             &self.others,
             &self.hosts,
             &self.words,

@@ -10,9 +10,9 @@ mod keys;
 mod laws;
 mod list_draft;
 mod list_index;
+mod listed_part;
 mod needs;
 mod pieces;
-mod prepared_part;
 #[cfg(test)]
 mod tests;
 mod token;
@@ -29,6 +29,6 @@ pub use laws::{
 };
 pub use list_draft::ListDraft;
 pub use list_index::{LendsRule, ListIndex};
+pub use listed_part::ListedPart;
 pub use needs::shown_by;
-pub use prepared_part::PreparedPart;
 pub use walk::Walk;

@@ -6,7 +6,7 @@ ghost use Rattle.rule_index.specs.Needs.{shown_by};
 
 use crate::index::Index;
 use crate::list_draft::ListDraft;
-use crate::prepared_part::PreparedPart;
+use crate::listed_part::ListedPart;
 use crate::walk::Walk;
 use dnr_base::{NoMemory, Part};
 use dnr_rules::Rule;
@@ -85,11 +85,11 @@ impl ListIndex {
         self.whole.near(part, shown)
     }
 
-    /// The same of a part that is prepared.
-    pub fn near_prepared<'a>(&'a self, own: &'a PreparedPart<'a>) -> Walk<'a>
+    /// The same of a part whose words are listed.
+    pub fn near_listed<'a>(&'a self, own: &'a ListedPart<'a>) -> Walk<'a>
         ensures { result ≡ near self.now.whole (Some (shown_by own.now)) own.now }
     {
-        self.whole.near_prepared(own)
+        self.whole.near_listed(own)
     }
 
     /// The places of the candidates that reach a request through its frames.

@@ -9,7 +9,7 @@ ghost use Rattle.rule_index.specs.Index.{near_initiator};
 ghost use Rattle.rule_index.specs.Needs.{shown_by};
 ghost use Rattle.rule_index.specs.Walk.{places_left};
 
-use crate::prepared_part::PreparedPart;
+use crate::listed_part::ListedPart;
 use dnr_base::{Part, Text};
 use key_table::{Asked, Places, Table};
 use key_walk::{DomainWalk, TaggedWalk, WordWalk};
@@ -21,7 +21,7 @@ pub struct Walk<'a> {
     others: Places<'a>,
     hosts: DomainWalk<'a>,
     words: WordWalk<'a>,
-    // The words of a part that is prepared stand here, and no others are asked.
+    // Of a part whose words are listed, they stand here, and no others are asked.
     tagged: Option<TaggedWalk<'a>>,
     initiators: Option<DomainWalk<'a>>,
 }
@@ -68,13 +68,13 @@ impl<'a> Walk<'a> {
         }
     }
 
-    // The same of a part that is prepared, as far as it shows what they need.
-    pub(crate) fn prepared(
+    // Those of a part whose words are listed, which need no more than it shows.
+    pub(crate) fn listed(
         others: &'a Table,
         hosts: &'a Table,
         words: &'a Table,
         initiators: &'a Table,
-        own: &'a PreparedPart<'a>,
+        own: &'a ListedPart<'a>,
     ) -> Walk<'a>
         ensures { result ≡ near_of [] (Some (shown_by own.now)) others.now
             ++ near_host hosts.now (Some (shown_by own.now)) (host_of own.now.view)

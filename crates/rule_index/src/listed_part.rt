@@ -11,13 +11,13 @@ use std::marker::Model;
 
 /// A part of a request that several indexes are asked about. Its words are listed, and hashed once. A clause sees the part.
 #[derive(Debug, Drop)]
-pub struct PreparedPart<'a> {
+pub struct ListedPart<'a> {
     part: Part<'a>,
     words: Vec<TaggedWord<'a>>,
     shown: u64,
 }
 
-impl<'a> Model for PreparedPart<'a> {
+impl<'a> Model for ListedPart<'a> {
     ghost use Rattle.std.specs.Prelude.{◌≡◌};
     ghost use Rattle.dnr_base.specs.Request.{Part};
     ghost use Rattle.dnr_base.specs.View.{text_of};
@@ -31,16 +31,16 @@ impl<'a> Model for PreparedPart<'a> {
     ghost invariant = { λ p. (p.words.items ≡ words_of (text_of p.part.view)) × (p.shown ≡ shown_by p.part) };
 }
 
-impl<'a> PreparedPart<'a> {
+impl<'a> ListedPart<'a> {
     /// Lists the words of a part.
     ///
     /// `NoMemory`: no memory is left for them.
-    pub fn new(alloc: Global, part: Part<'a>) -> Result<PreparedPart<'a>, NoMemory>
-        ensures { IfOk result (λ prepared. prepared ≡ part.entry) }
+    pub fn new(alloc: Global, part: Part<'a>) -> Result<ListedPart<'a>, NoMemory>
+        ensures { IfOk result (λ listed. listed ≡ part.entry) }
     {
         let words = tagged_words(alloc, part.view.text().as_bytes())?;
         let shown = shown_with(&part, &words);
-        Ok(PreparedPart { part, words, shown })
+        Ok(ListedPart { part, words, shown })
     }
 
     /// The part.
