@@ -1,7 +1,7 @@
 -- A pattern whose every match has a needle matches nowhere in a text that has none.
-use Rattle.std.proofs.Common.{◌≡◌, ℕ, ◌+◌, ◌-◌, ◌<◌, ◌≤◌, List, [], Bool, length, map, option_map, get_or, subst, arith, Vec, Global, All, Option, None, Some, IfOk, IfSome, sym, ap, ◌∙◌, ⊎_elim, Result, Ok, Err}
+use Rattle.std.proofs.Common.{◌≡◌, ℕ, ◌+◌, ◌-◌, ◌<◌, ◌≤◌, List, [], Bool, length, map, option_map, get_or, subst, arith, All, Option, None, Some, IfOk, IfSome, sym, ap, ◌∙◌, ⊎_elim, Result, Ok, Err}
 use Rattle.std.proofs.lemmas.Bool.{cases_lt}
-use Rattle.std.proofs.lemmas.List.{get_or-map, length-map}
+use Rattle.std.proofs.lemmas.List.{get_or_default}
 use Rattle.dnr_spec.specs.Patterns.{options, places, ends_of}
 use Rattle.memchr.specs.Find.{Nowhere}
 use Rattle.memchr.specs.Find as Bytes
@@ -41,15 +41,16 @@ each P Q f (Err e) h = tt
 pub nowhere_at_all : (text needle : List ℕ) → Nowhere (Bytes.OccursAt text needle) 0 (length text + 1) → (k : ℕ) → ¬ OccursAt text needle k
 nowhere_at_all text needle h k at = let fits = at.fits in h k (omega arith) (omega (arith, fits)) (record { fits = at.fits; reads = at.reads })
 
-pub step : (vs : List (Vec ℕ Global)) (text : List ℕ) (i : ℕ) (v : Vec ℕ Global) → i < length vs → v ≡ get_or vs i v
-    → ((n k : ℕ) → n < i → ¬ OccursAt text (needle_at (map (λ x. x.items) vs) n) k) → ((k : ℕ) → ¬ OccursAt text v.items k)
-    → (n k : ℕ) → n < i + 1 → ¬ OccursAt text (needle_at (map (λ x. x.items) vs) n) k
-step vs text i v lt is before here n k below at =
+-- one needle more that the text lacks
+pub step : (needles : List (List ℕ)) (text : List ℕ) (i : ℕ) (needle : List ℕ) → i < length needles → needle ≡ get_or needles i needle
+    → ((n k : ℕ) → n < i → ¬ OccursAt text (needle_at needles n) k) → ((k : ℕ) → ¬ OccursAt text needle k)
+    → (n k : ℕ) → n < i + 1 → ¬ OccursAt text (needle_at needles n) k
+step needles text i needle lt is before here n k below at =
     ⊎_elim (λ (less : n < i). before n k less at)
     (λ (more : i ≤ n). let same : n ≡ i = omega (arith, more, below) in
-    here k (subst (λ x. OccursAt text x k) (ap (needle_at (map (λ x. x.items) vs)) same ∙ get_or-map (λ x. x.items) vs i v [] lt ∙ ap (λ x. x.items) (sym is)) at))
+    here k (subst (λ x. OccursAt text x k) (ap (needle_at needles) same ∙ get_or_default needles i [] needle lt ∙ sym is) at))
     (cases_lt n i)
 
-pub within : (vs : List (Vec ℕ Global)) (text : List ℕ) (i : ℕ) → length vs ≤ i
-    → ((n k : ℕ) → n < i → ¬ OccursAt text (needle_at (map (λ x. x.items) vs) n) k) → LacksAll (map (λ x. x.items) vs) text
-within vs text i all before n k lt = before n k (let e = length-map vs (λ x. x.items) in omega (arith, all, lt, e))
+pub within : (needles : List (List ℕ)) (text : List ℕ) (i : ℕ) → length needles ≤ i
+    → ((n k : ℕ) → n < i → ¬ OccursAt text (needle_at needles n) k) → LacksAll needles text
+within needles text i all before n k lt = before n k (omega (arith, all, lt))

@@ -1,4 +1,4 @@
-ghost use Rattle.std.specs.Prelude.{◌≡◌, true, Some, None, IfOk, IsSome, IsErrOf, IsTrue, if◌then◌else◌};
+ghost use Rattle.std.specs.Prelude.{◌≡◌, true, Some, None, IfOk, IfSome, IsSome, IsErrOf, IsTrue, if◌then◌else◌};
 ghost use Rattle.dnr_base.specs.Faults.{HasCauseOf};
 ghost use Rattle.dnr_spec.specs.Patterns.{ArePlacesIn, found, pattern_in};
 ghost use Rattle.regex_host.specs.Answers.{IsCalm, KeepsPlaces};
@@ -25,13 +25,15 @@ const PREFILTERS: usize = 4_096;
 #[derive(Drop)]
 pub struct PackHost {
     alloc: Global,
-    cache: LruCache<String, Box<Built>>,
+    // The built patterns by their texts: those for which the case of letters matters, and those for which it does not.
+    exact: LruCache<String, Box<Built>>,
+    folded: LruCache<String, Box<Built>>,
     prefilters: LruCache<String, Prefilter>,
     faults: u64,
 }
 
 impl PackHost {
-    /// A host that keeps 16 built patterns.
+    /// A host that keeps 16 built patterns of each case.
     ///
     /// # Errors
     ///
@@ -42,7 +44,7 @@ impl PackHost {
         PackHost::with_room(alloc, ROOM)
     }
 
-    /// A host that keeps so many built patterns, and at least one. What it answers does not depend on it.
+    /// A host that keeps so many built patterns of each case, and at least one. What it answers does not depend on it.
     ///
     /// # Errors
     ///
@@ -54,23 +56,21 @@ impl PackHost {
         let prefilters = NonZeroUsize::new(PREFILTERS).unwrap_or(NonZeroUsize::MIN);
         Ok(PackHost {
             alloc,
-            cache: LruCache::sparse(alloc, room)?,
+            exact: LruCache::sparse(alloc, room)?,
+            folded: LruCache::sparse(alloc, room)?,
             prefilters: LruCache::sparse(alloc, prefilters)?,
             faults: 0,
         })
     }
 
-    // The built pattern, out of the cache if it is there.
-    fn take(&mut self, key: &str, pattern: &str, fold: bool) -> Result<Box<Built>, BuildRefusal>
-        ensures of { IfOk result (λ built. built.value ≡ record { pattern = pattern.now; fold = fold }) }
-        ensures no_pattern { IsErrOf result BuildRefusal.NoPattern → pattern_in pattern.now fold ≡ None }
-        ensures too_big { IsErrOf result BuildRefusal.TooBig → IsSome (pattern_in pattern.now fold) }
-        ensures same { self.new.faults ≡ self.old.faults }
-    {
-        match self.cache.pop(key) {
-            Some(built) if built.is_of(pattern, fold) => Ok(built),
-            _ => built_apart(self.alloc, pattern, fold),
-        }
+    // Whether the pattern is kept as it was built.
+    fn knows(&self, pattern: &str, fold: bool) -> bool {
+        let kept = if fold {
+            self.folded.peek(pattern)
+        } else {
+            self.exact.peek(pattern)
+        };
+        kept.is_some_and(|built| built.is_of(pattern, fold))
     }
 
     // Whether what is known of the pattern tells that it matches nowhere in the text.
@@ -99,11 +99,18 @@ impl PackHost {
         }
     }
 
-    // Puts a built pattern into the cache. It is let go where there is no memory for it.
-    fn keep(&mut self, key: String, built: Box<Built>)
+    // Keeps a built pattern. It is let go where there is no memory for it.
+    fn keep(&mut self, pattern: &str, fold: bool, built: Box<Built>)
         ensures { self.new.faults ≡ self.old.faults }
     {
-        let _ = self.cache.put(key, built);
+        let Ok(key) = String::from_str(self.alloc, pattern) else {
+            return;
+        };
+        let _ = if fold {
+            self.folded.put(key, built)
+        } else {
+            self.exact.put(key, built)
+        };
     }
 
     // The first match of a pattern by what is built of it, as `find` promises it. Most calls of `find` end before they come
@@ -122,17 +129,40 @@ impl PackHost {
         ensures cause { HasCauseOf HostRefusal.HostFault self.old.faults self.new.faults result }
         ensures calm { IsCalm self.old.faults self.new.faults result }
     {
-        let Ok(key) = key_of(self.alloc, pattern, fold) else {
-            return Err(HostRefusal::NoMemory);
+        let answer = if fold {
+            search_kept(&mut self.folded, self.alloc, pattern, fold, text, spans)
+        } else {
+            search_kept(&mut self.exact, self.alloc, pattern, fold, text, spans)
         };
-        let mut built = match self.take(key.as_str(), pattern, fold) {
+        match answer {
+            Some(answer) => answer.map_err(|_| HostRefusal::NoMemory),
+            None => self.search_anew(pattern, fold, text, spans),
+        }
+    }
+
+    // The same of a pattern that is built for it, and kept.
+    fn search_anew(
+        &mut self,
+        pattern: &str,
+        fold: bool,
+        text: &str,
+        spans: &mut [Option<Span>; 10],
+    ) -> Result<bool, HostRefusal>
+        ensures found { IfOk result (λ is_found. found pattern.now fold text.now ≡ (if is_found then Some spans.new else None)) }
+        ensures within { IfOk result (λ is_found. is_found ≡ true → ArePlacesIn text.now spans.new) }
+        ensures kept { KeepsPlaces result spans.old spans.new }
+        ensures pattern { IsErrOf result HostRefusal.NoPattern → ⊥ }
+        ensures cause { HasCauseOf HostRefusal.HostFault self.old.faults self.new.faults result }
+        ensures calm { IsCalm self.old.faults self.new.faults result }
+    {
+        let mut built = match built_apart(self.alloc, pattern, fold) {
             Ok(built) => built,
             Err(BuildRefusal::NoPattern) => return Ok(false),
             Err(why) => return Err(self.refusal(why)),
         };
         self.learn(pattern, fold);
         let answer = built.find(self.alloc, text, spans);
-        self.keep(key, built);
+        self.keep(pattern, fold, built);
         answer.map_err(|_| HostRefusal::NoMemory)
     }
 
@@ -162,12 +192,25 @@ fn built_apart(alloc: Global, pattern: &str, fold: bool) -> Result<Box<Built>, B
     apart.map_err(|_| BuildRefusal::NoMemory)
 }
 
-// What a built pattern has as its key: the pattern behind a letter for `fold`.
-fn key_of(alloc: Global, pattern: &str, fold: bool) -> Result<String, AllocError> {
-    let mut key = String::new(alloc);
-    key.push(if fold { 'i' } else { 's' })?;
-    key.push_str(pattern)?;
-    Ok(key)
+// The first match of a pattern by what is kept of it, if it is kept. The pattern stays where it is, and no memory is taken
+// for its key.
+fn search_kept(
+    kept: &mut LruCache<String, Box<Built>>,
+    alloc: Global,
+    pattern: &str,
+    fold: bool,
+    text: &str,
+    spans: &mut [Option<Span>; 10],
+) -> Option<Result<bool, AllocError>>
+    ensures found { IfSome result (λ answer. IfOk answer (λ is_found. found pattern.now fold text.now ≡ (if is_found then Some spans.new else None))) }
+    ensures within { IfSome result (λ answer. IfOk answer (λ is_found. is_found ≡ true → ArePlacesIn text.now spans.new)) }
+    ensures kept { IfSome result (λ answer. KeepsPlaces answer spans.old spans.new) }
+    ensures none { result ≡ None → spans.new ≡ spans.old }
+{
+    match kept.get_mut(pattern) {
+        Some(built) if built.is_of(pattern, fold) => Some(built.find(alloc, text, spans)),
+        _ => None,
+    }
 }
 
 impl RegexHost for PackHost {
@@ -185,11 +228,11 @@ impl RegexHost for PackHost {
             Ok(groups) => groups,
             Err(why) => return Err(self.refusal(why)),
         };
-        let Ok(key) = key_of(self.alloc, pattern, fold) else {
-            return Err(HostRefusal::NoMemory);
-        };
-        match self.take(key.as_str(), pattern, fold) {
-            Ok(built) => self.keep(key, built),
+        if self.knows(pattern, fold) {
+            return Ok(groups);
+        }
+        match built_apart(self.alloc, pattern, fold) {
+            Ok(built) => self.keep(pattern, fold, built),
             Err(BuildRefusal::NoPattern) => {}
             Err(why) => return Err(self.refusal(why)),
         }

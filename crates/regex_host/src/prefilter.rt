@@ -7,7 +7,7 @@ ghost use Rattle.regex_host.specs.Prefilter.{AreNeeded, LacksAll};
 ghost use Rattle.regex_literal.specs.Find.{OccursAt};
 
 use crate::groups::tree_of;
-use memchr::memmem;
+use memchr::memmem::Finder;
 use regex_extract::{Needles, required};
 use std::alloc::{AllocError, Global};
 use std::marker::Model;
@@ -18,12 +18,12 @@ use std::marker::Model;
 pub struct Prefilter {
     pattern: String,
     fold: bool,
-    needles: Option<Needles>,
+    // Made once, since a search that is made anew for each text takes longer than it searches.
+    finders: Option<Vec<Finder<'static>>>,
 }
 
 impl Model for Prefilter {
     ghost use Rattle.std.specs.Prelude.{IfSome, string_bytes};
-    ghost use Rattle.regex_extract.specs.Needles.{needles_of};
     ghost use Rattle.regex_host.specs.Built.{Origin};
     ghost use Rattle.regex_host.specs.Prefilter.{AreNeeded};
 
@@ -31,7 +31,7 @@ impl Model for Prefilter {
 
     ghost view = { λ p. record { pattern = string_bytes p.pattern; fold = p.fold } };
 
-    ghost invariant = { λ p. IfSome p.needles (λ needles. AreNeeded (needles_of needles) (string_bytes p.pattern) p.fold) };
+    ghost invariant = { λ p. IfSome p.finders (λ finders. AreNeeded finders.items (string_bytes p.pattern) p.fold) };
 }
 
 impl Prefilter {
@@ -39,11 +39,11 @@ impl Prefilter {
     pub fn of(alloc: Global, pattern: &str, fold: bool) -> Result<Prefilter, AllocError>
         ensures { IfOk result (λ filter. filter ≡ record { pattern = pattern.now; fold = fold }) }
     {
-        let needles = needles_in(alloc, pattern, fold)?;
+        let finders = finders_in(alloc, pattern, fold)?;
         Ok(Prefilter {
             pattern: String::from_str(alloc, pattern)?,
             fold,
-            needles,
+            finders,
         })
     }
 
@@ -58,8 +58,8 @@ impl Prefilter {
     pub fn refuses(&self, text: &str) -> bool
         ensures { IsTrue result → found self.now.pattern self.now.fold text.now ≡ None }
     {
-        match &self.needles {
-            Some(needles) => lacks_all(text, needles),
+        match &self.finders {
+            Some(finders) => lacks_all(text, finders),
             None => false,
         }
     }
@@ -75,23 +75,50 @@ fn needles_in(alloc: Global, pattern: &str, fold: bool) -> Result<Option<Needles
     required(alloc, &parsed.hir)
 }
 
-// Whether none of the needles stands in the text.
-fn lacks_all(text: &str, needles: &Needles) -> bool
-    ensures { IsTrue result → LacksAll (needles_of needles.now) text.now }
+// A search for each of the needles.
+fn finders_of(alloc: Global, needles: &Needles) -> Result<Vec<Finder<'static>>, AllocError>
+    ensures { IfOk result (λ finders. finders.items ≡ needles_of needles.now) }
 {
-    for needle in needles {
-        if !lacks(text.as_bytes(), needle) {
+    let mut finders = Vec::with_capacity(alloc, needles.len())?;
+    let mut left = needles.as_slice();
+    while let Some((needle, rest)) = left.split_first() {
+        finders.push(Finder::new(needle).into_owned(alloc)?)?;
+        left = rest;
+    }
+    Ok(finders)
+}
+
+// The same of the needles of a pattern, if it has such.
+fn finders_in(
+    alloc: Global,
+    pattern: &str,
+    fold: bool,
+) -> Result<Option<Vec<Finder<'static>>>, AllocError>
+    ensures { IfOk result (λ found. IfSome found (λ finders. AreNeeded finders.items pattern.now fold)) }
+{
+    match needles_in(alloc, pattern, fold)? {
+        Some(needles) => Ok(Some(finders_of(alloc, &needles)?)),
+        None => Ok(None),
+    }
+}
+
+// Whether nothing that is searched for stands in the text.
+fn lacks_all(text: &str, finders: &[Finder<'static>]) -> bool
+    ensures { IsTrue result → LacksAll finders.now text.now }
+{
+    for finder in finders {
+        if !lacks(text.as_bytes(), finder) {
             return false;
         }
     }
     true
 }
 
-// Whether the needle stands nowhere in the text.
-fn lacks(text: &[u8], needle: &[u8]) -> bool
-    ensures { MatchBool result ((k : ℕ) → ¬ OccursAt text.now needle.now k) ⊤ }
+// Whether what is searched for stands nowhere in the text.
+fn lacks(text: &[u8], finder: &Finder<'_>) -> bool
+    ensures { MatchBool result ((k : ℕ) → ¬ OccursAt text.now finder.now k) ⊤ }
 {
-    match memmem::find(text, needle) {
+    match finder.find(text) {
         Some(_) => false,
         None => true,
     }
