@@ -68,7 +68,7 @@ impl<'a> Walk<'a> {
         }
     }
 
-    // Those of a part whose words are listed, which need no more than it shows.
+    // Those of a part whose words may be listed, which need no more than it shows.
     pub(crate) fn listed(
         others: &'a Table,
         hosts: &'a Table,
@@ -83,11 +83,14 @@ impl<'a> Walk<'a> {
     {
         let part = own.part();
         let shown = own.shown();
+        let Some(listed) = own.words() else {
+            return Walk::new(others, hosts, words, initiators, part, Some(shown));
+        };
         Walk {
             others: others.asked(Asked::exactly(&[]), Some(shown)),
             hosts: DomainWalk::asked(hosts, part.view.host(), Some(shown)),
             words: WordWalk::asked(words, &[], Some(shown)),
-            tagged: Some(TaggedWalk::near(words, own.words(), shown)),
+            tagged: Some(TaggedWalk::near(words, listed, shown)),
             initiators: from_initiator(initiators, part.initiator, Some(shown)),
         }
     }
