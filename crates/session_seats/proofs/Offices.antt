@@ -129,7 +129,7 @@ line_begins true opening number read list next text said = subst (λ (l : List E
 line_begins false opening number read list next text said = goes_on_begins list next said.goes_on
 
 one_begins : (opening : Basis) (line : RoundLine) (list next : List Entry) (text : List ℕ) → WriterSaysTo opening line list text next → IsPrefix list next
-one_begins opening (round.Read line) list next text said = line_begins (is_asked (read_seen line.read)) opening line.number (read_seen line.read) list next text said
+one_begins opening (round.Read line) list next text said = line_begins (is_asked (read_seen line.value.read)) opening line.value.number (read_seen line.value.read) list next text said
 one_begins opening (round.Plain line) list next text said = subst (λ (l : List Entry). IsPrefix list l) (sym said.1) (begins_itself list)
 
 -- the entries before the lines begin those after them

@@ -1,6 +1,6 @@
 -- A line that was read.
 use Rattle.std.proofs.Common.{◌≡◌, ◌≢◌, ◌⊎◌, ◌≤◌, ◌+◌, ℕ, List, Bool, Result, Ok, Err, refl, sym, ap, ◌∙◌, subst, inl, inr, arith, length}
-use Rattle.std.specs.Prelude.{◌||◌}
+use Rattle.std.specs.Prelude.{◌||◌, IfOk}
 use Rattle.dnr_base.specs.Faults.{Rose}
 use Rattle.line_spec.specs.IsFault.{IsFaultOfLine}
 use Rattle.dnr_base.specs.declared.request.Request.{Request}
@@ -18,7 +18,8 @@ use Rattle.session_rounds.specs.Lines.{read_seen}
 use Rattle.session_serve.proofs.AtFault.{stopped_other}
 use Rattle.session_serve.proofs.Told.{line_faulty}
 use Rattle.session_spec.specs.Rounds.{Held, is_sync, asks, is_full, with_line, ends_round}
-use Rattle.session_seats.specs.Reading.{HasRead, LineReads, PlainReads, held_with, plain_read, seen_line}
+use Rattle.session_seats.specs.Reading.{HasRead, HasTaken, IsTaken, LineReads, PlainReads, held_with, plain_read, seen_line}
+use Rattle.session_seats.specs.declared.round_line.RoundLine.{RoundLine}
 use Rattle.session_seats.specs.declared.round_line.RoundLine.TheVariants as round
 
 pub read_well : (number : ℕ) (line : List ℕ) (was is : ℕ) (command : code.Command) → command_of number line ≡ Ok (command_seen command) → is ≡ was
@@ -108,3 +109,10 @@ pub ends_so : (held : Held) (number : ℕ) (line : List ℕ) (was is : ℕ) (rea
 ends_so held number line was is read ends has same =
     ap (λ (b : Bool). b || is_full (with_line held number line)) has.syncs
     ∙ ap (λ (h : Held). is_sync (read_seen read.read) || is_full h) (sym (held_so held number line was is read has)) ∙ sym same
+
+-- a line that was read is taken in as it was read
+pub taken_so : {E : Type 0} (result : Result RoundLine E) (number : ℕ) (line : List ℕ) (was is : ℕ) (read : ReadLine) → HasRead number line was is read
+    → IfOk result (λ taken. (seen_line taken ≡ read) × IsTaken taken) → IfOk result (HasTaken number line was is)
+taken_so (Ok taken) number line was is read has told =
+    record { has = subst (λ (it : ReadLine). HasRead number line was is it) (sym told.0) has; within = told.1 }
+taken_so (Err refused) number line was is read has told = tt

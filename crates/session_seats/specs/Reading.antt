@@ -31,7 +31,7 @@ plain_read (Err fault) = Err fault
 
 -- a line of a round as it reads, whether it was read or not
 abbrev pub seen_line : RoundLine → ReadLine
-seen_line (round.Read line) = line
+seen_line (round.Read line) = line.value
 seen_line (round.Plain line) = record { number = line.number; read = plain_read (command_of line.number line.bytes) }
 
 abbrev pub seen_lines : List RoundLine → List ReadLine
@@ -39,7 +39,7 @@ seen_lines lines = map seen_line lines
 
 -- what was read keeps the limits of lines, and what was not is plain
 abbrev pub IsTaken : RoundLine → Type 0
-IsTaken (round.Read line) = IsLine line
+IsTaken (round.Read line) = IsLine line.value
 IsTaken (round.Plain line) = IsPlainLine line
 
 -- the plain line was read as this

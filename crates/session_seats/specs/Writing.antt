@@ -18,7 +18,7 @@ pub record OfficeSeen : Type 0 where
 
 -- what the writer says to a line: nothing where the line was left to a seat to read
 abbrev pub WriterSaysTo : Basis → RoundLine → List Entry → List ℕ → List Entry → Type 0
-WriterSaysTo opening (round.Read line) list text next = WriterLine opening line list text next
+WriterSaysTo opening (round.Read line) list text next = WriterLine opening line.value list text next
 WriterSaysTo opening (round.Plain line) list text next = (text ≡ []) × (next ≡ list)
 
 -- the same of lines, one text for each, and the entries after them

@@ -1,6 +1,7 @@
 //! A line of a script, as it is taken into its round.
 ghost use Rattle.std.specs.Prelude.{◌≡◌, ◌≤◌, IfOk};
-ghost use Rattle.session_seats.specs.Reading.{HasTaken};
+ghost use Rattle.session_rounds.specs.Lines.{IsLine};
+ghost use Rattle.session_seats.specs.Reading.{HasTaken, IsTaken, seen_line};
 
 use crate::round_line::RoundLine;
 use dnr_base::NoMemory;
@@ -25,14 +26,32 @@ pub fn take_line<H: RegexHost>(
     }
     let number = line.number();
     match line.finish(alloc, memo, checker) {
-        Ok(command) => Ok(RoundLine::Read(ReadLine {
-            number,
-            read: Ok(command),
-        })),
+        Ok(command) => read_apart(
+            alloc,
+            ReadLine {
+                number,
+                read: Ok(command),
+            },
+        ),
         Err(LineFault::NoMemory) => Err(NoMemory),
-        Err(fault) => Ok(RoundLine::Read(ReadLine {
-            number,
-            read: Err(fault),
-        })),
+        Err(fault) => read_apart(
+            alloc,
+            ReadLine {
+                number,
+                read: Err(fault),
+            },
+        ),
+    }
+}
+
+// A line that was read.
+fn read_apart(alloc: Global, line: ReadLine) -> Result<RoundLine, NoMemory>
+    requires { IsLine line }
+    ensures { IfOk result (λ read. (seen_line read ≡ line) × IsTaken read) }
+{
+    let apart: Result<_, _> = Box::new(alloc, line);
+    match apart {
+        Ok(apart) => Ok(RoundLine::Read(apart)),
+        Err(_) => Err(NoMemory),
     }
 }

@@ -10,8 +10,8 @@ use session_rounds::ReadLine;
 /// A line of a round. What it reads as is the same whoever reads it.
 #[derive(Drop)]
 pub enum RoundLine {
-    /// It was read.
-    Read(ReadLine),
+    /// It was read. Few lines are, so what one reads as stands apart, and a line is moved as a few words.
+    Read(Box<ReadLine>),
     /// Its bytes show that it asks for a request at most. The seat to which it is dealt reads it.
     Plain(CutLine),
 }
