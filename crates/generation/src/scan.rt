@@ -99,7 +99,11 @@ pub(crate) fn part_at(part: u32) -> Reach
 }
 
 impl<'r> Scan<'r> {
-    pub(crate) fn new(alloc: Global, request: &'r Request, list: &'r SuffixList) -> Result<Scan<'r>, NoMemory>
+    pub(crate) fn new(
+        alloc: Global,
+        request: &'r Request,
+        list: &'r SuffixList,
+    ) -> Result<Scan<'r>, NoMemory>
         requires { length request.now.frames ≤ max_frames }
         ensures { IfOk result (λ scan. scan ≡ record { suffixes = list.now; request = request.now }) }
     {
