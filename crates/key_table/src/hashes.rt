@@ -1,5 +1,7 @@
-ghost use Rattle.std.specs.Prelude.{◌≡◌, ◌<◌};
+ghost use Rattle.std.specs.Prelude.{◌≡◌, ◌<◌, []};
 ghost use Rattle.key_table.specs.Hash as spec;
+
+use std::marker::Model;
 
 // Where the hash of FNV-1a begins.
 pub(crate) const HASH_START: u64 = 0xcbf2_9ce4_8422_2325;
@@ -18,6 +20,43 @@ pub(crate) fn hash_end(hash: u64) -> u32
     ensures { result ≡ spec.hash_end hash }
 {
     (hash.wrapping_mul(0x9e37_79b9_7f4a_7c15) >> 32) as u32
+}
+
+/// The hash of a key whose bytes come one after another. A clause sees the hash.
+#[derive(Debug, Drop)]
+pub struct KeyHash {
+    hash: u64,
+}
+
+impl Model for KeyHash {
+    ghost use Rattle.std.specs.Prelude.{ℕ};
+
+    ghost Value = { ℕ };
+
+    ghost view = { λ k. k.hash };
+}
+
+impl KeyHash {
+    /// Of a key without bytes.
+    pub fn new() -> KeyHash
+        ensures { result ≡ spec.hash_bytes [] }
+    {
+        KeyHash { hash: HASH_START }
+    }
+
+    /// With one byte more.
+    pub fn add(&mut self, b: u8)
+        ensures { self.new ≡ spec.hash_step self.old b }
+    {
+        self.hash = hash_step(self.hash, b);
+    }
+
+    /// The tag of the key.
+    pub fn tag(&self) -> u32
+        ensures { result ≡ spec.hash_end self.now }
+    {
+        hash_end(self.hash)
+    }
 }
 
 /// The bucket that a tag falls into, of so many.

@@ -21,6 +21,6 @@ mod tests;
 
 pub use asked::Asked;
 pub use draft::Draft;
-pub use hashes::bucket_of;
+pub use hashes::{KeyHash, bucket_of};
 pub use places::Places;
 pub use table::Table;

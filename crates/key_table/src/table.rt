@@ -1,4 +1,4 @@
-ghost use Rattle.std.specs.Prelude.{◌≡◌, ◌↔◌, ◌≤◌, ◌<◌, ℕ, IsTrue, [], length, slice_range, slice_index_or, Option, Some, true, false, ◌∷◌};
+ghost use Rattle.std.specs.Prelude.{◌≡◌, ◌↔◌, ◌≤◌, ◌<◌, ℕ, List, IsTrue, IsFalse, [], length, slice_range, slice_index_or, Option, Some, true, false, ◌∷◌};
 ghost use Rattle.std.specs.Ordering.{nat_cmp, is_le};
 ghost use Rattle.std.specs.Cmp.Lexicographic.{slice_cmp};
 ghost use Rattle.key_table.specs.declared.entry.Entry.{Entry as Seen};
@@ -184,6 +184,15 @@ impl Table {
             &asked,
         );
         Places::new(&self.texts, entries, asked, tag, shown)
+    }
+
+    /// Whether a key of this tag may have places. Of most tags of keys that have none it is told that they have not. It takes
+    /// no memory.
+    pub fn may_have(&self, tag: u32) -> bool
+        ensures { IsFalse result → (asked : List ℕ) (shown : Option ℕ) → tag ≡ tag_of asked
+            → near_of asked shown self.now ≡ [] }
+    {
+        is_marked(&self.marks, tag)
     }
 
     /// Whether there are no pairs.

@@ -1,5 +1,5 @@
 //! Which places a key has, and how a bucket of many entries is searched.
-use crate::{Asked, Draft, Table};
+use crate::{Asked, Draft, KeyHash, Table};
 use std::alloc::{AllocError, Global};
 use std::test::Fail;
 
@@ -39,5 +39,17 @@ fn a_full_bucket_is_searched(rt: HostRuntime) -> Result<(), Fail> {
     let table = draft.finish(rt.alloc())?;
     assert!(rt; table.places(Asked::exactly(b"ads")).next().is_some());
     assert!(rt; table.places(Asked::exactly(b"track")).next() == Some(40));
+    Ok(())
+}
+
+#[test]
+fn a_tag_tells_that_there_are_no_places(rt: HostRuntime) -> Result<(), Fail> {
+    let mut hash = KeyHash::new();
+    hash.add(b'a');
+    hash.add(b'd');
+    let tag = hash.tag();
+    assert!(rt; tag == Asked::in_lower_case(b"AD").tag());
+    assert!(rt; table_of(rt.alloc(), [("ad", 1, 0)].as_slice())?.may_have(tag));
+    assert!(rt; !Draft::new(rt.alloc()).finish(rt.alloc())?.may_have(tag));
     Ok(())
 }

@@ -1,5 +1,5 @@
 -- The first word of a text, and the words behind it.
-use Rattle.std.proofs.Common.{◌≡◌, ℕ, ◌+◌, ◌<◌, ◌≤◌, List, [], ◌∷◌, ◌++◌, length, take, drop, get_or, filter, true, false, refl, sym, ap, ◌∙◌, subst, arith, All, inl, inr, add-one, append-nil, length-take}
+use Rattle.std.proofs.Common.{◌≡◌, ℕ, ◌+◌, ◌<◌, ◌≤◌, List, [], ◌∷◌, ◌++◌, length, take, drop, get_or, filter, true, false, refl, sym, ap, ◌∙◌, subst, arith, All, inl, inr, add-one, append-nil, append_assoc, length-take}
 use Rattle.std.specs.List.{slice_split}
 use Rattle.std.proofs.Math.Seq.{drop-cons}
 use Rattle.std.proofs.lemmas.Bool.{cases_lt}
@@ -41,3 +41,11 @@ word_first text at some within inside end =
     let has : is_filled (take at text) ≡ true = filled (take at text) (omega (arith, length-take at text)) in
     let kept : filter is_filled (take at text ∷ []) ≡ take at text ∷ [] = rw has refl in
     parts_cut text at within inside end ∙ ap (λ first. first ++ words_of (drop (at + 1) text)) kept
+
+-- the same where the words before it are listed
+pub listed_more : (before : List (List ℕ)) (all text word rest : List ℕ) → before ++ words_of text ≡ words_of all → 0 < length word → length word ≤ length text → word ≡ take (length word) text
+    → ((k : ℕ) → k < length word → ends_word (get_or text k 0) ≡ false) → (length word < length text → ends_word (get_or text (length word) 0) ≡ true)
+    → rest ≡ drop (length word + 1) text → (before ++ word ∷ []) ++ words_of rest ≡ words_of all
+listed_more before all text word rest so_far some within is inside end behind =
+    let first : words_of text ≡ word ∷ words_of rest = word_first text (length word) some within inside end ∙ ap (λ w. w ∷ words_of (drop (length word + 1) text)) (sym is) ∙ ap (λ r. word ∷ words_of r) (sym behind) in
+    append_assoc before (word ∷ []) (words_of rest) ∙ ap (λ l. before ++ l) (sym first) ∙ so_far

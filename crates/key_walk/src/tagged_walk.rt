@@ -69,6 +69,9 @@ impl<'a> Iterator for TaggedWalk<'a> {
         while let Some(word) = self.words.get(self.passed) {
             let passed = self.passed;
             self.passed += 1;
+            if !self.table.may_have(word.tag()) {
+                continue;
+            }
             let text = word.text();
             let mut places = self
                 .table

@@ -1,10 +1,10 @@
-ghost use Rattle.std.specs.Prelude.{◌≡◌, IfOk};
-ghost use Rattle.index_spec.specs.Words.{words_of};
+ghost use Rattle.std.specs.Prelude.{◌≡◌, ◌≤◌, ◌<◌, ℕ, length, take, slice_index, true, false, IfOk};
+ghost use Rattle.index_spec.specs.Words.{ends_word, words_of};
 ghost use Rattle.key_table.specs.Hash.{tag_of};
 ghost use Rattle.key_table.specs.Pairs.{lower_case};
 
-use crate::words::Words;
-use key_table::Asked;
+use crate::words::behind;
+use key_table::KeyHash;
 use std::alloc::{AllocError, Global};
 use std::marker::Model;
 
@@ -31,16 +31,27 @@ impl<'a> Model for TaggedWord<'a> {
     ghost invariant = { λ w. w.tag ≡ tag_of (lower_case w.text.now) };
 }
 
-impl<'a> TaggedWord<'a> {
-    fn new(text: &'a [u8]) -> TaggedWord<'a>
-        ensures { result ≡ text.now }
-    {
-        TaggedWord {
-            text,
-            tag: Asked::in_lower_case(text).tag(),
-        }
+// The word up to the first byte that is in none, or to the end. It may have no bytes.
+#[tactic(auto, unfolding(key_table::specs::Hash::tag_of))]
+fn word_here(text: &[u8]) -> TaggedWord<'_>
+    ensures within { length result ≤ length text.now }
+    ensures begins { result ≡ take (length result) text.now }
+    ensures inside { (k : ℕ) → k < length result → ends_word (slice_index text.now k) ≡ false }
+    ensures end { length result < length text.now → ends_word (slice_index text.now (length result)) ≡ true }
+{
+    let mut hash = KeyHash::new();
+    let mut at = 0;
+    while at < text.len() && text[at].is_ascii_alphanumeric() {
+        hash.add(text[at].to_ascii_lowercase());
+        at += 1;
     }
+    TaggedWord {
+        text: &text[..at],
+        tag: hash.tag(),
+    }
+}
 
+impl<'a> TaggedWord<'a> {
     /// The word.
     pub fn text(&self) -> &'a [u8]
         ensures { result.now ≡ self.now }
@@ -59,13 +70,18 @@ impl<'a> TaggedWord<'a> {
 /// The words of a text, in order.
 ///
 /// `AllocError`: no memory is left for them.
+#[tactic(auto, using(crate::proofs::Runs::listed_more))]
 pub fn tagged_words(alloc: Global, text: &[u8]) -> Result<Vec<TaggedWord<'_>>, AllocError>
     ensures { IfOk result (λ words. words.items ≡ words_of text.now) }
 {
     let mut tagged = Vec::with_capacity(alloc, ROOM)?;
-    let mut words = Words::new(text);
-    while let Some(word) = words.next() {
-        tagged.push(TaggedWord::new(word))?;
+    let mut rest = text;
+    while !rest.is_empty() {
+        let word = word_here(rest);
+        rest = behind(rest, word.text.len());
+        if !word.text.is_empty() {
+            tagged.push(word)?;
+        }
     }
     Ok(tagged)
 }

@@ -41,8 +41,8 @@ fn word_end(text: &[u8]) -> usize
     at
 }
 
-// What stands behind the byte at a place, or nothing.
-fn behind(text: &[u8], at: usize) -> &[u8]
+/// What stands behind the byte at a place, or nothing.
+pub(crate) fn behind(text: &[u8], at: usize) -> &[u8]
     requires { at ≤ length text.now }
     ensures { result.now ≡ drop (at + 1) text.now }
 {
