@@ -1,10 +1,15 @@
-//! What `dnr match` does as a plain Rust program with std alone, to measure against: `scan RULES REQUESTS [index]`.
+//! What `dnr match` does as a plain Rust program, to measure against: `scan RULES REQUESTS [index]`.
 //!
-//! It reads only the lines that `bench/run` makes, with little checking, and prints what `dnr` prints. It tests each rule
-//! for each request, or with a third word those that an index of words finds.
+//! It reads only the rules that `bench/run` makes, with little checking, and prints what `dnr` prints. It tests each rule
+//! for each request, or with a third word those that an index of words finds. Requests it reads by hand, with std alone,
+//! or with the feature `crates` by those that read JSON and URLs as their standards say.
 
+#[cfg_attr(feature = "crates", path = "by_crates.rs")]
+#[cfg_attr(not(feature = "crates"), path = "by_hand.rs")]
+mod by;
 mod index;
 
+use by::read_request;
 use index::Index;
 use std::cmp::Reverse;
 use std::env;
@@ -226,41 +231,12 @@ fn read_rule(line: &str) -> Option<Rule> {
     })
 }
 
-fn host_in(url: &str) -> Option<Range<usize>> {
-    let start = url.find("://")? + 3;
-    let end = url[start..]
-        .find('/')
-        .map_or(url.len(), |length| start + length);
-    Some(start..end)
-}
-
 /// The last two labels: without a suffix list each last label is a suffix.
 fn registrable(host: &str) -> &str {
     match host.rmatch_indices('.').nth(1) {
         Some((dot, _)) => &host[dot + 1..],
         None => host,
     }
-}
-
-fn read_request(line: &str) -> Option<Request> {
-    let text = between(line, "\"url\":\"", "\"")?.to_ascii_lowercase();
-    let host = host_in(&text)?;
-    let initiator = between(line, "\"initiator\":\"", "\"")
-        .and_then(|url| Some(url[host_in(url)?].to_string()));
-    let third_party = initiator
-        .as_ref()
-        .is_none_or(|other| registrable(other) != registrable(&text[host.clone()]));
-    Some(Request {
-        third_party,
-        initiator,
-        host,
-        kind: bit_of(&TYPES, between(line, "\"type\":\"", "\"")?),
-        method: bit_of(
-            &METHODS,
-            between(line, "\"method\":\"", "\"").unwrap_or("get"),
-        ),
-        text,
-    })
 }
 
 fn covers(domains: &[String], host: &str) -> bool {
