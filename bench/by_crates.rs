@@ -1,6 +1,6 @@
 //! Reads request lines as JSON, and their URLs as the URL Standard says, by the crates that most Rust programs use for it.
 
-use crate::{METHODS, Request, TYPES, bit_of, registrable};
+use crate::Request;
 use serde::Deserialize;
 use std::borrow::Cow;
 use url::Url;
@@ -34,15 +34,11 @@ pub fn read_request(line: &str) -> Option<Request> {
         Some(text) => Some(host_of(text)?),
         None => None,
     };
-    let third_party = initiator
-        .as_ref()
-        .is_none_or(|other| registrable(other) != registrable(&text[host.clone()]));
-    Some(Request {
-        third_party,
-        initiator,
-        host,
-        kind: bit_of(&TYPES, &line.kind),
-        method: bit_of(&METHODS, line.method.as_deref().unwrap_or("get")),
+    Some(Request::new(
         text,
-    })
+        host,
+        initiator,
+        &line.kind,
+        line.method.as_deref(),
+    ))
 }

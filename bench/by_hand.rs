@@ -1,6 +1,6 @@
 //! Reads the request lines that `bench/run` makes, with little checking: what stands between quotes is taken as it is.
 
-use crate::{METHODS, Request, TYPES, between, bit_of, registrable};
+use crate::{between, Request};
 use std::ops::Range;
 
 fn host_in(url: &str) -> Option<Range<usize>> {
@@ -16,18 +16,7 @@ pub fn read_request(line: &str) -> Option<Request> {
     let host = host_in(&text)?;
     let initiator = between(line, "\"initiator\":\"", "\"")
         .and_then(|url| Some(url[host_in(url)?].to_string()));
-    let third_party = initiator
-        .as_ref()
-        .is_none_or(|other| registrable(other) != registrable(&text[host.clone()]));
-    Some(Request {
-        third_party,
-        initiator,
-        host,
-        kind: bit_of(&TYPES, between(line, "\"type\":\"", "\"")?),
-        method: bit_of(
-            &METHODS,
-            between(line, "\"method\":\"", "\"").unwrap_or("get"),
-        ),
-        text,
-    })
+    let kind = between(line, "\"type\":\"", "\"")?;
+    let method = between(line, "\"method\":\"", "\"");
+    Some(Request::new(text, host, initiator, kind, method))
 }

@@ -45,6 +45,29 @@ struct Request {
     method: u16,
 }
 
+impl Request {
+    /// The text is in lower case, and the host stands at this place in it.
+    fn new(
+        text: String,
+        host: Range<usize>,
+        initiator: Option<String>,
+        kind: &str,
+        method: Option<&str>,
+    ) -> Request {
+        let third_party = initiator
+            .as_ref()
+            .is_none_or(|other| registrable(other) != registrable(&text[host.clone()]));
+        Request {
+            third_party,
+            initiator,
+            host,
+            kind: bit_of(&TYPES, kind),
+            method: bit_of(&METHODS, method.unwrap_or("get")),
+            text,
+        }
+    }
+}
+
 /// The names of types and methods, of which each is a bit.
 const TYPES: [&str; 15] = [
     "main_frame",
