@@ -1,4 +1,5 @@
-"""What both measures share: a run of a program, its time and its memory."""
+"""What measures share: a run of a program, its time and its memory, and the rules of a list."""
+import json
 import os
 import resource
 import subprocess
@@ -27,3 +28,9 @@ def run(words, output, folder=None):
 def best(words, output, folder=None):
     """The least seconds and the least peak memory of some runs."""
     return tuple(map(min, zip(*(run(words, output, folder) for _ in range(RUNS)))))
+
+
+def compiled(program, name, folder):
+    """The rules that `dnr compile` makes of a list, whose file of this name is in the folder."""
+    out = subprocess.run([program, "compile", name], stdout=subprocess.PIPE, cwd=folder, check=True).stdout
+    return json.loads(out.splitlines()[-1])

@@ -29,7 +29,9 @@ struct Rule {
     types: u16,
     methods: Option<u16>,
     hosts: Option<Vec<String>>,
+    not_hosts: Vec<String>,
     initiators: Option<Vec<String>>,
+    not_initiators: Vec<String>,
     third_party: Option<bool>,
     filter: Option<Filter>,
     action: Action,
@@ -236,15 +238,27 @@ fn bits_of(table: &[&str], names: &[String]) -> u16 {
         .fold(0, |bits, name| bits | bit_of(table, name))
 }
 
+/// The types that are listed, all others than those that are excluded, or all but `main_frame`.
+fn types_of(line: &str) -> u16 {
+    if let Some(names) = list_of(line, "resourceTypes") {
+        return bits_of(&TYPES, &names);
+    }
+    match list_of(line, "excludedResourceTypes") {
+        Some(names) => 0x7fff & !bits_of(&TYPES, &names),
+        None => 0x7ffe,
+    }
+}
+
 fn read_rule(line: &str) -> Option<Rule> {
-    let types = list_of(line, "resourceTypes").map(|names| bits_of(&TYPES, &names));
     Some(Rule {
         id: between(line, "\"id\":", ",")?.parse().ok()?,
         priority: between(line, "\"priority\":", ",")?.parse().ok()?,
-        types: types.unwrap_or(0x7ffe),
+        types: types_of(line),
         methods: list_of(line, "requestMethods").map(|names| bits_of(&METHODS, &names)),
         hosts: list_of(line, "requestDomains"),
+        not_hosts: list_of(line, "excludedRequestDomains").unwrap_or_default(),
         initiators: list_of(line, "initiatorDomains"),
+        not_initiators: list_of(line, "excludedInitiatorDomains").unwrap_or_default(),
         third_party: between(line, "\"domainType\":\"", "\"").map(|name| name == "thirdParty"),
         filter: between(line, "\"urlFilter\":\"", "\"").map(Filter::new),
         action: match between(line, "\"action\":{\"type\":\"", "\"")? {
@@ -288,6 +302,11 @@ fn holds(rule: &Rule, request: &Request) -> bool {
                 .as_ref()
                 .is_some_and(|host| covers(domains, host))
         })
+        && !covers(&rule.not_hosts, &request.text[request.host.clone()])
+        && request
+            .initiator
+            .as_ref()
+            .is_none_or(|host| !covers(&rule.not_initiators, host))
         && rule
             .third_party
             .is_none_or(|third| third == request.third_party)

@@ -1,5 +1,5 @@
 -- The places of a key are those of the entries between two that have it not.
-use Rattle.std.proofs.Common.{◌≡◌, ℕ, suc, ◌+◌, ◌<◌, ◌≤◌, List, [], ◌∷◌, ◌++◌, inl, inr, length, take, drop, get_or, Option, Some, None, Bool, true, false, cond, ◌&&◌, refl, sym, ap, ◌∙◌, arith, append-nil, length-take, length-drop}
+use Rattle.std.proofs.Common.{◌≡◌, ℕ, suc, ◌+◌, ◌-◌, ◌<◌, ◌≤◌, List, [], ◌∷◌, ◌++◌, inl, inr, length, take, drop, get_or, Option, Some, None, Bool, true, false, cond, ◌&&◌, refl, sym, ap, ◌∙◌, arith, append-nil, length-take, length-drop}
 use Rattle.std.specs.List.{slice_range}
 use Rattle.std.specs.Str.{bytes_eq}
 use Rattle.std.specs.Ordering.{nat_cmp, is_lt, is_le, is_eq}
@@ -17,7 +17,7 @@ use Rattle.key_table.specs.declared.entry.Entry.{Entry}
 use Rattle.key_table.specs.Hash.{tag_of, bucket_of}
 use Rattle.key_table.specs.Pairs.{Pair, shows, near_if, near_of}
 use Rattle.key_table.specs.Cuts.{IsCut}
-use Rattle.key_table.specs.Kept.{key_in, pair_in, pairs_in, tags_in, rank_in, is_below, AreEntries, IsEntry}
+use Rattle.key_table.specs.Kept.{key_in, pair_in, pairs_in, tags_in, rank_in, is_below, AreEntries, IsEntry, IsKept}
 
 -- these entries have other keys
 abbrev pub HaveOthers : List ℕ → List ℕ → List Entry → ℕ → ℕ → Type 0
@@ -79,7 +79,7 @@ cuts_in_order {buckets} {tags} {bucket} {first} {next} here there =
       | inr late ↦ late
     ]
 
-pub places_in_bucket : (buckets : ℕ) (texts key : List ℕ) (shown : Option ℕ) (entries : List Entry) (first next : ℕ) → AreEntries texts entries
+places_in_bucket : (buckets : ℕ) (texts key : List ℕ) (shown : Option ℕ) (entries : List Entry) (first next : ℕ) → AreEntries texts entries
     → IsCut buckets (tags_in entries) (bucket_of buckets (tag_of key)) first → IsCut buckets (tags_in entries) (bucket_of buckets (tag_of key) + 1) next
     → near_of key shown (pairs_in texts (slice_range entries first next)) ≡ near_of key shown (pairs_in texts entries)
 places_in_bucket buckets texts key shown entries first next all here there =
@@ -96,7 +96,25 @@ places_in_bucket buckets texts key shown entries first next all here there =
     let above : bucket_of buckets (tag_of key) + 1 ≤ bucket_of buckets (get_or (tags_in entries) k 0) = there.behind k low (omega arith) in
     omega arith)
 
+-- the entries between the starts of a key's bucket and of the next
+pub places_between_starts : (texts key : List ℕ) (shown : Option ℕ) (entries : List Entry) (starts : List ℕ) (bucket : ℕ) → IsKept texts entries starts
+    → bucket ≡ bucket_of (length starts - 1) (tag_of key) → bucket < length starts - 1
+    → near_of key shown (pairs_in texts (slice_range entries (get_or starts bucket 0) (get_or starts (bucket + 1) 0))) ≡ near_of key shown (pairs_in texts entries)
+places_between_starts texts key shown entries starts bucket kept is within =
+    let cut : (b : ℕ) → b ≤ length starts - 1 → IsCut (length starts - 1) (tags_in entries) b (get_or starts b 0) = kept.cut.cuts in
+    rw is (places_in_bucket (length starts - 1) texts key shown entries _ _ kept.all (cut (bucket_of (length starts - 1) (tag_of key)) (omega arith)) (cut (bucket_of (length starts - 1) (tag_of key) + 1) (omega arith)))
+
 -- ---- the two ends of a search
+
+pub places_with_tag : (texts key : List ℕ) (tag : ℕ) (shown : Option ℕ) (entries : List Entry) (first next : ℕ) → AreEntries texts entries → tag ≡ tag_of key → first ≤ next → first ≤ length entries
+    → ((k : ℕ) (entry : Entry) → k < first → (get_or entries k entry).tag < tag)
+    → ((k : ℕ) (entry : Entry) → next ≤ k → k < length entries → tag < (get_or entries k entry).tag)
+    → near_of key shown (pairs_in texts (slice_range entries first next)) ≡ near_of key shown (pairs_in texts entries)
+places_with_tag texts key tag shown entries first next all is ordered within below above =
+    let own : (k : ℕ) (d : Entry) → k < length entries → key_in texts (get_or entries k d) ≡ key → (get_or entries k d).tag ≡ tag = λ k d inside same. (all k d inside).tag ∙ ap tag_of same ∙ sym is in
+    places_between texts key shown entries first next ordered within
+    (λ k d low inside same. let less = below k d inside in let level = own k d (omega arith) same in omega arith)
+    (λ k d low inside same. let more = above k d low inside in let level = own k d inside same in omega arith)
 
 lt_is_no_eq : (r : Ordering) → is_eq r ≡ true → is_lt r ≡ true → ⊥
 lt_is_no_eq Less eq lt = false≢true eq

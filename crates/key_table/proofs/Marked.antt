@@ -1,5 +1,5 @@
 -- Tags that are marked stay so, and a key whose tag is not marked has no place.
-use Rattle.std.proofs.Common.{◌≡◌, ◌≢◌, ℕ, ◌+◌, ◌<◌, ◌≤◌, ◌==◌, List, [], length, get_or, set, true, false, inl, inr, Option, max, refl, sym, ap, ◌∙◌, subst, arith, eq-eqb}
+use Rattle.std.proofs.Common.{◌≡◌, ◌≢◌, ℕ, ◌+◌, ◌<◌, ◌==◌, List, [], length, get_or, set, true, false, inl, inr, Option, max, refl, sym, ap, ◌∙◌, subst, arith, eq-eqb}
 use Rattle.std.specs.Prelude.{bit_or}
 use Rattle.std.specs.Int.{bit_at}
 use Rattle.std.specs.Int.Bits.{or_self}
@@ -9,7 +9,7 @@ use Rattle.std.proofs.lemmas.Nat.{or_comm}
 use Rattle.std.proofs.lemmas.Nat.Bits.{same_from_bits, bit_at_or}
 use Rattle.key_table.specs.declared.entry.Entry.{Entry}
 use Rattle.key_table.specs.Hash.{bucket_of, tag_of}
-use Rattle.key_table.specs.Kept.{AreEntries, key_in, pairs_in, tags_in}
+use Rattle.key_table.specs.Kept.{AreEntries, pairs_in, tags_in}
 use Rattle.key_table.specs.Marks.{AreMarked, is_marked, mark_of, with_mark}
 use Rattle.key_table.specs.Pairs.{near_of}
 use Rattle.key_table.proofs.Between.{none_here}

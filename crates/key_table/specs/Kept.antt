@@ -1,6 +1,6 @@
 -- What a table keeps: entries in the order of their tags and, where these agree, of their keys.
 use Rattle.std.specs.Prelude.{ℕ, ◌≡◌, ◌+◌, ◌-◌, ◌<◌, ◌≤◌, List, ◌∷◌, length, map, slice_range, slice_index_or, Bool}
-use Rattle.std.specs.List.Sorted.{IsSortedBy}
+use Rattle.std.specs.List.Sorted.{IsSortedBy, IsNonDecreasingBy}
 use Rattle.std.specs.Ordering.{nat_cmp, is_lt}
 use Rattle.std.specs.Cmp.Lexicographic.{slice_cmp}
 use Rattle.key_table.specs.declared.entry.Entry.{Entry}
@@ -41,6 +41,10 @@ is_below rank other = is_lt (slice_cmp nat_cmp rank other)
 -- no entry stands behind one that is above it
 abbrev pub IsRising : List ℕ → List Entry → Type 0
 IsRising texts entries = IsSortedBy (λ entry other. is_below (rank_in texts entry) (rank_in texts other)) entries
+
+-- no entry stands behind one that has a higher tag
+abbrev pub HasRisingTags : List Entry → Type 0
+HasRisingTags entries = IsNonDecreasingBy (λ entry. entry.tag) entries
 
 pub record IsKept (texts : List ℕ) (entries : List Entry) (starts : List ℕ) : Type 0 where
   pub all : AreEntries texts entries

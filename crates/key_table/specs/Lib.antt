@@ -4,3 +4,4 @@ pub mod Pairs
 pub mod Cuts
 pub mod Marks
 pub mod Kept
+pub mod Bucket

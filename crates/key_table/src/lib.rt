@@ -8,6 +8,7 @@
 #![tactic(auto)]
 
 mod asked;
+mod bucket;
 mod cuts;
 mod draft;
 mod entry;

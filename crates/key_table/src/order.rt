@@ -1,6 +1,7 @@
 // The order of entries: by tag, then by key.
 ghost use Rattle.std.specs.Prelude.{◌≡◌, ◌∷◌};
 ghost use Rattle.std.specs.Ordering.{nat_cmp};
+ghost use Rattle.std.specs.Str.{bytes_eq};
 ghost use Rattle.std.specs.Cmp.Lexicographic.{slice_cmp};
 ghost use Rattle.key_table.specs.Kept as spec;
 
@@ -49,6 +50,13 @@ pub(crate) fn compare_keys(key: &[u8], asked: &Asked<'_>) -> Ordering
     } else {
         Ordering::Less
     }
+}
+
+/// Whether an entry has the key that is asked for.
+pub(crate) fn has_text(texts: &[u8], entry: &Entry, asked: &Asked<'_>) -> bool
+    ensures { result ≡ bytes_eq (spec.key_in texts.now entry.now) asked.now }
+{
+    compare_keys(key_in(texts, entry), asked).is_eq()
 }
 
 /// How an entry stands to a key that is asked for, which has this tag.

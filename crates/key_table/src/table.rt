@@ -2,20 +2,17 @@ ghost use Rattle.std.specs.Prelude.{◌≡◌, ◌↔◌, ◌≤◌, ◌<◌, �
 ghost use Rattle.std.specs.Ordering.{nat_cmp, is_le};
 ghost use Rattle.std.specs.Cmp.Lexicographic.{slice_cmp};
 ghost use Rattle.key_table.specs.declared.entry.Entry.{Entry as Seen};
+ghost use Rattle.key_table.specs.Bucket.{IsBucketOf};
 ghost use Rattle.key_table.specs.Hash.{tag_of};
-ghost use Rattle.key_table.specs.Kept.{AreEntries, IsRising, IsKept, IsTable, pairs_in, rank_in, is_below};
+ghost use Rattle.key_table.specs.Kept.{AreEntries, HasRisingTags, IsRising, IsKept, IsTable, pairs_in, rank_in, is_below};
 ghost use Rattle.key_table.specs.Pairs.{near_of, places_of};
 
 use crate::asked::Asked;
+use crate::bucket::{Bucket, find_bucket};
 use crate::entry::Entry;
-use crate::hashes::bucket_of;
 use crate::marks::is_marked;
-use crate::order::compare_asked;
 use crate::places::Places;
 use std::marker::Model;
-
-// The most entries of a bucket that are walked without a search.
-const LONG: usize = 8;
 
 /// Pairs of a key and a place. A clause sees the list of the pairs.
 #[derive(Debug, Drop)]
@@ -38,75 +35,6 @@ impl Model for Table {
     ghost invariant = { λ t. IsTable t.texts.items t.entries.items t.starts.items t.marks.items };
 }
 
-// The part of the entries that stands there.
-fn part(entries: &[Entry], start: usize, end: usize) -> &[Entry]
-    requires ordered { start ≤ end }
-    requires within { end ≤ length entries.now }
-    ensures { result.now ≡ slice_range entries.now start end }
-{
-    &entries[start..end]
-}
-
-// How many entries stand below the key.
-#[tactic(auto)]
-fn start_of(texts: &[u8], entries: &[Entry], tag: u32, asked: &Asked<'_>) -> usize
-    requires { IsRising texts.now entries.now }
-    ensures within { result ≤ length entries.now }
-    ensures below { (k : ℕ) (entry : Seen) → k < result
-        → is_below (rank_in texts.now (slice_index_or entries.now k entry)) (tag ∷ asked.now) ≡ true }
-{
-    entries.partition_point(|entry| compare_asked(texts, entry, tag, asked).is_lt())
-}
-
-// How many entries do not stand above the key.
-#[tactic(auto)]
-fn end_of(texts: &[u8], entries: &[Entry], tag: u32, asked: &Asked<'_>) -> usize
-    requires { IsRising texts.now entries.now }
-    ensures within { result ≤ length entries.now }
-    ensures above { (k : ℕ) (entry : Seen) → result ≤ k → k < length entries.now
-        → is_le (slice_cmp nat_cmp (rank_in texts.now (slice_index_or entries.now k entry)) (tag ∷ asked.now)) ≡ false }
-{
-    entries.partition_point(|entry| compare_asked(texts, entry, tag, asked).is_le())
-}
-
-// The entries that have the key, by halves.
-fn searched<'a>(texts: &[u8], entries: &'a [Entry], tag: u32, asked: &Asked<'_>) -> &'a [Entry]
-    requires all { AreEntries texts.now entries.now }
-    requires rising { IsRising texts.now entries.now }
-    requires tag { tag ≡ tag_of asked.now }
-    ensures entries { AreEntries texts.now result.now }
-    ensures places { (shown : Option ℕ) → near_of asked.now shown (pairs_in texts.now result.now)
-        ≡ near_of asked.now shown (pairs_in texts.now entries.now) }
-{
-    let start = start_of(texts, entries, tag, asked);
-    let end = end_of(texts, entries, tag, asked).max(start);
-    part(entries, start, end)
-}
-
-// The entries of a key's bucket or, if these are many, those that have the key.
-fn bucket<'a>(
-    texts: &[u8],
-    entries: &'a [Entry],
-    starts: &[u32],
-    tag: u32,
-    asked: &Asked<'_>,
-) -> &'a [Entry]
-    requires kept { IsKept texts.now entries.now starts.now }
-    requires tag { tag ≡ tag_of asked.now }
-    ensures entries { AreEntries texts.now result.now }
-    ensures places { (shown : Option ℕ) → near_of asked.now shown (pairs_in texts.now result.now)
-        ≡ near_of asked.now shown (pairs_in texts.now entries.now) }
-{
-    let buckets = (starts.len() - 1) as u32;
-    let bucket = bucket_of(buckets, tag);
-    let start = starts[bucket] as usize;
-    let end = starts[bucket + 1] as usize;
-    if end - start > LONG {
-        return searched(texts, entries, tag, asked);
-    }
-    part(entries, start, end)
-}
-
 // Those of them that may have the key. Most keys that are asked for have no mark, and none of them has an entry.
 fn marked<'a>(
     texts: &[u8],
@@ -115,17 +43,15 @@ fn marked<'a>(
     marks: &[u8],
     tag: u32,
     asked: &Asked<'_>,
-) -> &'a [Entry]
+) -> Bucket<'a>
     requires table { IsTable texts.now entries.now starts.now marks.now }
     requires tag { tag ≡ tag_of asked.now }
-    ensures entries { AreEntries texts.now result.now }
-    ensures places { (shown : Option ℕ) → near_of asked.now shown (pairs_in texts.now result.now)
-        ≡ near_of asked.now shown (pairs_in texts.now entries.now) }
+    ensures { IsBucketOf texts.now asked.now entries.now result }
 {
     if is_marked(marks, tag) {
-        bucket(texts, entries, starts, tag, asked)
+        find_bucket(texts, entries, starts, tag, asked)
     } else {
-        &[]
+        Bucket::none()
     }
 }
 
@@ -175,7 +101,7 @@ impl Table {
         requires { tag ≡ tag_of asked }
         ensures { result ≡ near_of asked.entry shown self.now }
     {
-        let entries = marked(
+        let bucket = marked(
             &self.texts,
             &self.entries,
             &self.starts,
@@ -183,7 +109,7 @@ impl Table {
             tag,
             &asked,
         );
-        Places::new(&self.texts, entries, asked, tag, shown)
+        Places::new(&self.texts, bucket, asked, tag, shown)
     }
 
     /// Whether a key of this tag may have places. Of most tags of keys that have none it is told that they have not. It takes
@@ -208,6 +134,6 @@ impl Table {
     {
         let asked = Asked::exactly(&[]);
         let tag = asked.tag();
-        Places::new(&[], &[], asked, tag, None)
+        Places::new(&[], Bucket::none(), asked, tag, None)
     }
 }

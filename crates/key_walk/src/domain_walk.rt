@@ -69,7 +69,12 @@ impl<'a> Iterator for DomainWalk<'a> {
             return Some(place);
         }
         while let Some(domain) = self.domains.next() {
-            let mut places = self.table.asked(Asked::exactly(domain), self.shown);
+            let asked = Asked::exactly(domain);
+            let tag = asked.tag();
+            if !self.table.may_have(tag) {
+                continue;
+            }
+            let mut places = self.table.tagged(asked, tag, self.shown);
             if let Some(place) = places.next() {
                 self.places = places;
                 return Some(place);

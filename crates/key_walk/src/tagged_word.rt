@@ -1,4 +1,5 @@
-ghost use Rattle.std.specs.Prelude.{◌≡◌, ◌≤◌, ◌<◌, ℕ, length, take, slice_index, true, false, IfOk};
+ghost use Rattle.std.specs.Prelude.{◌≡◌, ◌≤◌, ◌<◌, ℕ, length, take, slice_index, true, false, ◌==◌, if◌then◌else◌, IfOk};
+ghost use Rattle.std.specs.Char.{to_ascii_lowercase};
 ghost use Rattle.index_spec.specs.Words.{ends_word, words_of};
 ghost use Rattle.key_table.specs.Hash.{tag_of};
 ghost use Rattle.key_table.specs.Pairs.{lower_case};
@@ -31,6 +32,18 @@ impl<'a> Model for TaggedWord<'a> {
     ghost invariant = { λ w. w.tag ≡ tag_of (lower_case w.text.now) };
 }
 
+// The byte of a key for a byte of a word, or 0 for one that is in none.
+fn key_byte(b: u8) -> u8
+    ensures value { result ≡ (if ends_word b then 0 else to_ascii_lowercase b) }
+    ensures none { ends_word b ≡ (result == 0) }
+{
+    match b {
+        b'a'..=b'z' | b'0'..=b'9' => b,
+        b'A'..=b'Z' => b + 32,
+        _ => 0,
+    }
+}
+
 // The word up to the first byte that is in none, or to the end. It may have no bytes.
 #[tactic(auto, unfolding(key_table::specs::Hash::tag_of))]
 fn word_here(text: &[u8]) -> TaggedWord<'_>
@@ -41,8 +54,8 @@ fn word_here(text: &[u8]) -> TaggedWord<'_>
 {
     let mut hash = KeyHash::new();
     let mut at = 0;
-    while at < text.len() && text[at].is_ascii_alphanumeric() {
-        hash.add(text[at].to_ascii_lowercase());
+    while at < text.len() && key_byte(text[at]) != 0 {
+        hash.add(key_byte(text[at]));
         at += 1;
     }
     TaggedWord {

@@ -1,6 +1,6 @@
 //! Lines that threads ask side by side before each is read in its turn.
 use crate::steps::{named, told};
-use lines_ahead::{CutLine, ask_all};
+use lines_ahead::{CutLine, PlainSearch, ask_all};
 use regex_host::PackHost;
 use script_read::{Command, LineFault, Memo, read_line};
 use std::test::Fail;
@@ -27,10 +27,12 @@ fn lines_asked_ahead_are_read_as_ever(rt: HostRuntime) -> Result<(), Fail> {
     let Ok(mut host) = PackHost::new(alloc) else {
         return Err("no host".into());
     };
+    let search = PlainSearch::new();
     let mut lines = Vec::new(alloc);
     for number in 1..=99_u32 {
         let (_, row) = ROWS[(number % 3) as usize];
-        lines.push(CutLine::new(number, row.as_bytes().to_vec(alloc)?))?;
+        let bytes = row.as_bytes().to_vec(alloc)?;
+        lines.push(CutLine::new(number, bytes, &search))?;
     }
     ask_all(&rt, alloc, 2, &mut lines);
     let mut memo = Memo::new(alloc);

@@ -6,7 +6,7 @@ ghost use Rattle.line_spec.specs.Line as spec;
 ghost use Rattle.lines_ahead.specs.Cut.{IsPlainLine};
 ghost use Rattle.script_read.specs.Seen.{command_seen};
 
-use plain_lines::is_plain;
+use plain_lines::PlainSearch;
 use regex_host::RegexHost;
 use script_read::{
     Asked, Command, LineFault, Memo, ask_line, finish_line, is_blank, read_line_with,
@@ -40,11 +40,11 @@ impl Model for CutLine {
 
 impl CutLine {
     /// The line of this number, from 1, without the LF at its end. It was not asked yet.
-    pub fn new(number: u32, bytes: Vec<u8>) -> CutLine
+    pub fn new(number: u32, bytes: Vec<u8>, search: &PlainSearch) -> CutLine
         ensures number { result.number ≡ number }
         ensures bytes { result.bytes ≡ bytes.items }
     {
-        let plain = is_plain(&bytes) && !is_blank(&bytes);
+        let plain = search.is_plain(&bytes) && !is_blank(&bytes);
         CutLine {
             number,
             bytes,

@@ -7,3 +7,4 @@ mod cut_line;
 
 pub use asking::ask_all;
 pub use cut_line::CutLine;
+pub use plain_lines::PlainSearch;

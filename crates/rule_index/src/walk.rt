@@ -18,10 +18,11 @@ use std::marker::Model;
 /// The places of rules that share a key with a part. A clause sees those that are left. It takes no memory.
 #[derive(Debug, Drop)]
 pub struct Walk<'a> {
-    others: Places<'a>,
-    hosts: DomainWalk<'a>,
-    words: WordWalk<'a>,
-    // Of a part whose words are listed, they stand here, and no others are asked.
+    // What has come to its end is let go of, so that it is not asked again for each place that follows.
+    others: Option<Places<'a>>,
+    hosts: Option<DomainWalk<'a>>,
+    // One of these two: the words of a part may be listed.
+    words: Option<WordWalk<'a>>,
     tagged: Option<TaggedWalk<'a>>,
     initiators: Option<DomainWalk<'a>>,
 }
@@ -32,7 +33,8 @@ impl<'a> Model for Walk<'a> {
 
     ghost Value = { List ℕ };
 
-    ghost view = { λ w. w.others ++ w.hosts ++ w.words ++ places_left w.tagged ++ places_left w.initiators };
+    ghost view = { λ w. places_left w.others ++ places_left w.hosts ++ places_left w.words ++ places_left w.tagged
+        ++ places_left w.initiators };
 }
 
 // The places that have a domain over the initiator, if there is one.
@@ -60,9 +62,9 @@ impl<'a> Walk<'a> {
             ++ near_initiator initiators.now shown part.now.initiator }
     {
         Walk {
-            others: others.asked(Asked::exactly(&[]), shown),
-            hosts: DomainWalk::asked(hosts, part.view.host(), shown),
-            words: WordWalk::asked(words, part.view.text().as_bytes(), shown),
+            others: Some(others.asked(Asked::exactly(&[]), shown)),
+            hosts: Some(DomainWalk::asked(hosts, part.view.host(), shown)),
+            words: Some(WordWalk::asked(words, part.view.text().as_bytes(), shown)),
             tagged: None,
             initiators: from_initiator(initiators, part.initiator, shown),
         }
@@ -87,9 +89,9 @@ impl<'a> Walk<'a> {
             return Walk::new(others, hosts, words, initiators, part, Some(shown));
         };
         Walk {
-            others: others.asked(Asked::exactly(&[]), Some(shown)),
-            hosts: DomainWalk::asked(hosts, part.view.host(), Some(shown)),
-            words: WordWalk::asked(words, &[], Some(shown)),
+            others: Some(others.asked(Asked::exactly(&[]), Some(shown))),
+            hosts: Some(DomainWalk::asked(hosts, part.view.host(), Some(shown))),
+            words: None,
             tagged: Some(TaggedWalk::near(words, listed, shown)),
             initiators: from_initiator(initiators, part.initiator, Some(shown)),
         }
@@ -104,19 +106,29 @@ impl<'a> Iterator for Walk<'a> {
     ghost remaining = { item_count (λ places. places) };
 
     fn next(&mut self) -> Option<u32> {
-        if let Some(place) = self.others.next() {
-            return Some(place);
+        if let Some(others) = &mut self.others {
+            if let Some(place) = others.next() {
+                return Some(place);
+            }
+            self.others = None;
         }
-        if let Some(place) = self.hosts.next() {
-            return Some(place);
+        if let Some(hosts) = &mut self.hosts {
+            if let Some(place) = hosts.next() {
+                return Some(place);
+            }
+            self.hosts = None;
         }
-        if let Some(place) = self.words.next() {
-            return Some(place);
+        if let Some(words) = &mut self.words {
+            if let Some(place) = words.next() {
+                return Some(place);
+            }
+            self.words = None;
         }
         if let Some(tagged) = &mut self.tagged {
             if let Some(place) = tagged.next() {
                 return Some(place);
             }
+            self.tagged = None;
         }
         self.initiators.as_mut()?.next()
     }

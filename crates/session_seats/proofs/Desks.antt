@@ -14,7 +14,7 @@ use Rattle.update_spec.specs.Entries.{Entry}
 use Rattle.session_seats.specs.Reading.{IsTaken, ReadRound, asked_in, held_with, seen_line, seen_lines}
 use Rattle.session_seats.specs.declared.round_line.RoundLine.{RoundLine}
 use Rattle.session_seats.specs.Seats.{Answers, DeskSeen, HasAnswered, seen_of}
-use Rattle.session_seats.specs.declared.answered.Answered.{Answered}
+use Rattle.session_seats.specs.Said.{Said}
 use Rattle.session_seats.proofs.Seats.{all_further}
 use Rattle.session_seats.proofs.Settled.{at_map}
 
@@ -23,13 +23,13 @@ pub none_answered : (opening : Basis) (reads : List ReadLine) (desk : DeskSeen) 
 none_answered opening reads desk none = subst (All (Answers opening reads desk.seen)) (sym none) (All-nil (Answers opening reads desk.seen))
 
 -- one answer more, where there was memory for it
-pub one_kept : (opening : Basis) (reads : List ReadLine) (seen : List Entry) (before now : List Answered) (said : Answered) (there : Bool) → now ≡ cond there (before ++ said ∷ []) before
+pub one_kept : (opening : Basis) (reads : List ReadLine) (seen : List Entry) (before now : List Said) (said : Said) (there : Bool) → now ≡ cond there (before ++ said ∷ []) before
     → Answers opening reads seen said → All (Answers opening reads seen) before → All (Answers opening reads seen) now
 one_kept opening reads seen before now said true is answers all = subst (All (Answers opening reads seen)) (sym is) (All-push (Answers opening reads seen) before said all answers)
 one_kept opening reads seen before now said false is answers all = subst (All (Answers opening reads seen)) (sym is) all
 
 -- what was answered stays answered as the pass sees more
-pub kept_on : (opening : Basis) (reads : List ReadLine) (pass : Option (List Entry)) (was now : List Entry) (said : List Answered) → pass ≡ Some was → IsPrefix was now
+pub kept_on : (opening : Basis) (reads : List ReadLine) (pass : Option (List Entry)) (was now : List Entry) (said : List Said) → pass ≡ Some was → IsPrefix was now
     → All (Answers opening reads (seen_of pass)) said → All (Answers opening reads now) said
 kept_on opening reads pass was now said is later all =
     all_further opening reads (seen_of pass) now said (subst (λ (p : Option (List Entry)). IsPrefix (seen_of p) now) (sym is) later) all

@@ -13,3 +13,4 @@ pub mod Cuts
 pub mod Taken
 pub mod Answering
 pub mod Telling
+pub mod Log

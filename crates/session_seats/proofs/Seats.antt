@@ -1,6 +1,6 @@
 -- Answers of a seat, as it sees more, and when the round has ended.
-use Rattle.std.proofs.Common.{◌≡◌, ◌<◌, ℕ, zero, suc, List, [], ◌∷◌, length, get_or, Bool, Option, Some, None, refl, sym, ap, ◌∙◌, subst, arith, All, Bor}
-use Rattle.std.specs.Prelude.{IsTrue, IsSome, IfSome, option_copied, string_bytes}
+use Rattle.std.proofs.Common.{◌≡◌, ◌<◌, ℕ, zero, suc, List, [], ◌∷◌, length, get_or, Bool, Option, Some, None, refl, sym, ap, ◌∙◌, subst, arith, All}
+use Rattle.std.specs.Prelude.{IsTrue, IsSome, IfSome}
 use Rattle.std.specs.List.{Contains}
 use Rattle.std.proofs.lemmas.List.Elements.{All-contains}
 use mathlib.Core.List.{IsPrefix}
@@ -11,7 +11,7 @@ use Rattle.update_spec.specs.Entries.{Entry}
 use Rattle.session_rounds.specs.Lines.{read_seen, IsAnswer}
 use Rattle.session_rounds.specs.declared.read_line.ReadLine.{ReadLine}
 use Rattle.session_seats.specs.Seats.{SaysAt, Answers, AllAnswer, DeskSeen, IsTrusted, SaysWithin, MaySay}
-use Rattle.session_seats.specs.declared.answered.Answered.{Answered}
+use Rattle.session_seats.specs.Said.{Said}
 
 -- the element at a place, whatever stands for one that is not there
 same_at : {X : Type 0} (xs : List X) (i : ℕ) (d e : X) → i < length xs → get_or xs i d ≡ get_or xs i e
@@ -19,7 +19,7 @@ same_at [] i d e inside = absurd (omega (arith, inside))
 same_at (x ∷ xs) zero d e inside = refl
 same_at (x ∷ xs) (suc i) d e inside = same_at xs i d e (omega (arith, inside))
 
-further : (opening : Basis) (reads : List ReadLine) (seen later : List Entry) (said : Answered) → IsPrefix seen later → Answers opening reads seen said → Answers opening reads later said
+further : (opening : Basis) (reads : List ReadLine) (seen later : List Entry) (said : Said) → IsPrefix seen later → Answers opening reads seen said → Answers opening reads later said
 further opening reads seen later said on answers = record {
   line = answers.line;
   inside = answers.inside;
@@ -34,11 +34,11 @@ further opening reads seen later said on answers = record {
 }
 
 -- what was said stays an answer as the seat sees more
-pub all_further : (opening : Basis) (reads : List ReadLine) (seen later : List Entry) (said : List Answered) → IsPrefix seen later → All (Answers opening reads seen) said → All (Answers opening reads later) said
+pub all_further : (opening : Basis) (reads : List ReadLine) (seen later : List Entry) (said : List Said) → IsPrefix seen later → All (Answers opening reads seen) said → All (Answers opening reads later) said
 all_further opening reads seen later said on all = λ k d inside. further opening reads seen later (get_or said k d) on (all k d inside)
 
 -- what is said at the place of a line answers it
-pub answers_line : (opening : Basis) (reads : List ReadLine) (seen : List Entry) (place : ℕ) (line : ReadLine) (said : Answered) → place < length reads → line ≡ get_or reads place line
+pub answers_line : (opening : Basis) (reads : List ReadLine) (seen : List Entry) (place : ℕ) (line : ReadLine) (said : Said) → place < length reads → line ≡ get_or reads place line
     → SaysAt opening place line.number (read_seen line.read) seen said → Answers opening reads seen said
 answers_line opening reads seen place line said inside there says = record {
   line = line;
@@ -47,11 +47,11 @@ answers_line opening reads seen place line said inside there says = record {
   says = record { list = says.list; here = refl; begins = says.begins; counted = says.counted; answer = says.answer };
 }
 
-pub trusted : (opening : Basis) (reads : List ReadLine) (end old new : List Entry) (ready : Bool) (said : List Answered) → IsPrefix old new → (IsTrue ready → IsPrefix end new) → All (Answers opening reads old) said
+pub trusted : (opening : Basis) (reads : List ReadLine) (end old new : List Entry) (ready : Bool) (said : List Said) → IsPrefix old new → (IsTrue ready → IsPrefix end new) → All (Answers opening reads old) said
     → IsTrue ready → AllAnswer opening reads end new said
 trusted opening reads end old new ready said seen told all is = record { learnt = told is; all = all_further opening reads old new said seen all }
 
-within : (opening : Basis) (reads : List ReadLine) (end seen : List Entry) (place : ℕ) (line : ReadLine) (said : Answered) → place < length reads → line ≡ get_or reads place line → said.place ≡ place
+within : (opening : Basis) (reads : List ReadLine) (end seen : List Entry) (place : ℕ) (line : ReadLine) (said : Said) → place < length reads → line ≡ get_or reads place line → said.place ≡ place
     → IsPrefix end seen → Answers opening reads seen said → SaysWithin opening line end said
 within opening reads end seen place line said inside there here learnt answers =
     let same : answers.line ≡ line =
@@ -60,13 +60,13 @@ within opening reads end seen place line said inside there here learnt answers =
       list = answers.says.list;
       begins = λ le. shorter_begins answers.says.list end seen answers.says.begins learnt le;
       counted = answers.says.counted;
-      answer = subst (λ (l : ReadLine). IsAnswer opening l.number (read_seen l.read) answers.says.list said.failed (string_bytes said.text)) same answers.says.answer;
+      answer = subst (λ (l : ReadLine). IsAnswer opening l.number (read_seen l.read) answers.says.list said.failed said.text) same answers.says.answer;
     }
 
 -- what a seat said to the line at this place may be said
-pub may_say : (opening : Basis) (reads : List ReadLine) (end : List Entry) (desk : DeskSeen) (place : ℕ) (line : ReadLine) (said : Option (Bor Answered)) → place < length reads → line ≡ get_or reads place line → IsTrusted opening reads end desk
-    → (IsSome said → IsTrue desk.ready) → IfSome said (λ s. Contains desk.answers s.now × (s.now.place ≡ place)) → MaySay opening line end (option_copied said)
+pub may_say : (opening : Basis) (reads : List ReadLine) (end : List Entry) (desk : DeskSeen) (place : ℕ) (line : ReadLine) (said : Option Said) → place < length reads → line ≡ get_or reads place line → IsTrusted opening reads end desk
+    → (IsSome said → IsTrue desk.ready) → IfSome said (λ s. Contains desk.answers s × (s.place ≡ place)) → MaySay opening line end said
 may_say opening reads end desk place line None inside there trusted ready among = tt
 may_say opening reads end desk place line (Some said) inside there trusted ready among =
     let all = trusted (ready refl) in
-    within opening reads end desk.seen place line said.now inside there among.1 all.learnt (All-contains (Answers opening reads desk.seen) desk.answers said.now all.all among.0)
+    within opening reads end desk.seen place line said inside there among.1 all.learnt (All-contains (Answers opening reads desk.seen) desk.answers said all.all among.0)

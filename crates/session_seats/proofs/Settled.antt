@@ -1,6 +1,6 @@
 -- One line that asks a seat, when the round has ended, and how that goes on.
 use Rattle.std.proofs.Common.{◌≡◌, ◌<◌, ◌≤◌, ◌+◌, ℕ, zero, suc, List, [], ◌∷◌, ◌++◌, length, map, set, get_or, Bool, true, false, refl, sym, ap, ◌∙◌, subst, arith}
-use Rattle.std.specs.Prelude.{cond, string_bytes}
+use Rattle.std.specs.Prelude.{cond}
 use mathlib.Core.List.{IsPrefix}
 use Rattle.generation.specs.Basis.{Basis}
 use Rattle.history.proofs.Beginnings.{shorter_begins}
@@ -15,7 +15,7 @@ use Rattle.session_spec.specs.Answers.{RisesBy}
 use Rattle.session_spec.specs.Said.{answer_line}
 use Rattle.session_seats.specs.Rounds.{AnsweredAnew, AreWithin}
 use Rattle.session_seats.specs.Seats.{SaysWithin}
-use Rattle.session_seats.specs.declared.answered.Answered.{Answered}
+use Rattle.session_seats.specs.Said.{Said}
 
 -- ---- what a seat said stands
 
@@ -27,8 +27,8 @@ told_fault : (failed : Bool) (counted now : ℕ) → now ≡ counted + 1 → Ris
 told_fault true counted now same = omega (arith, same)
 told_fault false counted now same = omega (arith, same)
 
-stands : (opening : Basis) (floor end : List Entry) (line : ReadLine) (said : Answered) (least last : ℕ) (before now : List ℕ) (was is : ℕ) → IsPrefix floor end → length floor ≤ least → least ≤ said.number → said.number ≤ length end
-    → (says : SaysWithin opening line end said) → now ≡ before ++ string_bytes said.text → last ≡ said.number → RisesBy (cond said.failed 1 0) (record { before = was; now = is })
+stands : (opening : Basis) (floor end : List Entry) (line : ReadLine) (said : Said) (least last : ℕ) (before now : List ℕ) (was is : ℕ) → IsPrefix floor end → length floor ≤ least → least ≤ said.number → said.number ≤ length end
+    → (says : SaysWithin opening line end said) → now ≡ before ++ said.text → last ≡ said.number → RisesBy (cond said.failed 1 0) (record { before = was; now = is })
     → SeatTold opening floor end line.number (read_seen line.read) least last before now was is
 stands opening floor end line said least last before now was is begins above later within says grown same rises =
     let few : length says.list ≤ length end = omega (arith, within, says.counted) in
@@ -44,14 +44,14 @@ stands opening floor end line said least last before now was is begins above lat
       rises = subst (λ (b : Bool). RisesBy (cond b 1 0) (record { before = was; now = is })) (sym says.answer.kind) rises;
     }
 
-pub stands_calm : (opening : Basis) (floor end : List Entry) (line : ReadLine) (said : Answered) (least last : ℕ) (before now : List ℕ) (was is : ℕ) → IsPrefix floor end → length floor ≤ least → least ≤ said.number → said.number ≤ length end
-    → SaysWithin opening line end said → now ≡ before ++ string_bytes said.text → last ≡ said.number → said.failed ≡ false → is ≡ was
+pub stands_calm : (opening : Basis) (floor end : List Entry) (line : ReadLine) (said : Said) (least last : ℕ) (before now : List ℕ) (was is : ℕ) → IsPrefix floor end → length floor ≤ least → least ≤ said.number → said.number ≤ length end
+    → SaysWithin opening line end said → now ≡ before ++ said.text → last ≡ said.number → said.failed ≡ false → is ≡ was
     → SeatTold opening floor end line.number (read_seen line.read) least last before now was is
 stands_calm opening floor end line said least last before now was is begins above later within says grown same calm stays =
     stands opening floor end line said least last before now was is begins above later within says grown same (told_calm said.failed was is calm stays)
 
-pub stands_failed : (opening : Basis) (floor end : List Entry) (line : ReadLine) (said : Answered) (least last : ℕ) (before now : List ℕ) (was is : ℕ) → IsPrefix floor end → length floor ≤ least → least ≤ said.number → said.number ≤ length end
-    → SaysWithin opening line end said → now ≡ before ++ string_bytes said.text → last ≡ said.number → is ≡ was + 1
+pub stands_failed : (opening : Basis) (floor end : List Entry) (line : ReadLine) (said : Said) (least last : ℕ) (before now : List ℕ) (was is : ℕ) → IsPrefix floor end → length floor ≤ least → least ≤ said.number → said.number ≤ length end
+    → SaysWithin opening line end said → now ≡ before ++ said.text → last ≡ said.number → is ≡ was + 1
     → SeatTold opening floor end line.number (read_seen line.read) least last before now was is
 stands_failed opening floor end line said least last before now was is begins above later within says grown same up =
     stands opening floor end line said least last before now was is begins above later within says grown same (told_fault said.failed was is up)

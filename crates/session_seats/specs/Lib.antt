@@ -4,3 +4,5 @@ pub mod Writing
 pub mod Rounds
 pub mod Cutting
 pub mod Taking
+pub mod Said
+pub mod Log

@@ -1,5 +1,5 @@
 -- What a seat answers to the lines of a round.
-use Rattle.std.specs.Prelude.{◌≡◌, ◌<◌, ◌≤◌, ℕ, List, [], length, get_or, Bool, Option, Some, None, All, IsTrue, IfSome, string_bytes, Result}
+use Rattle.std.specs.Prelude.{◌≡◌, ◌<◌, ◌≤◌, ℕ, List, [], length, get_or, Bool, Option, Some, None, All, IsTrue, IfSome, Result}
 use mathlib.Core.List.{IsPrefix}
 use Rattle.generation.specs.Basis.{Basis}
 use Rattle.update_spec.specs.Entries.{Entry}
@@ -7,7 +7,7 @@ use Rattle.line_spec.specs.Line.{Command}
 use Rattle.line_spec.specs.declared.line_fault.LineFault.{LineFault}
 use Rattle.session_rounds.specs.Lines.{read_seen, IsAnswer}
 use Rattle.session_rounds.specs.declared.read_line.ReadLine.{ReadLine}
-use Rattle.session_seats.specs.declared.answered.Answered.{Answered}
+use Rattle.session_seats.specs.Said.{Said}
 
 -- what a pass has seen, where there is one
 abbrev pub seen_of : Option (List Entry) → List Entry
@@ -16,15 +16,15 @@ seen_of (Some seen) = seen
 
 -- This is said to a line of this number, at this place, that asks for this: an answer after entries that begin what was
 -- seen.
-pub record SaysAt (opening : Basis) (place number : ℕ) (read : Result Command LineFault) (seen : List Entry) (said : Answered) : Type 0 where
+pub record SaysAt (opening : Basis) (place number : ℕ) (read : Result Command LineFault) (seen : List Entry) (said : Said) : Type 0 where
   pub list : List Entry
   pub here : said.place ≡ place
   pub begins : IsPrefix list seen
   pub counted : said.number ≡ length list
-  pub answer : IsAnswer opening number read list said.failed (string_bytes said.text)
+  pub answer : IsAnswer opening number read list said.failed said.text
 
 -- it is said to one of these lines
-pub record Answers (opening : Basis) (reads : List ReadLine) (seen : List Entry) (said : Answered) : Type 0 where
+pub record Answers (opening : Basis) (reads : List ReadLine) (seen : List Entry) (said : Said) : Type 0 where
   pub line : ReadLine
   pub inside : said.place < length reads
   pub there : line ≡ get_or reads said.place line
@@ -35,10 +35,10 @@ pub record DeskSeen : Type 0 where
   pub seats : ℕ
   pub seen : List Entry
   pub ready : Bool
-  pub answers : List Answered
+  pub answers : List Said
 
 -- the answers of a seat count where it has learnt what the round ended with: they and this begin what it has seen
-pub record AllAnswer (opening : Basis) (reads : List ReadLine) (end seen : List Entry) (answers : List Answered) : Type 0 where
+pub record AllAnswer (opening : Basis) (reads : List ReadLine) (end seen : List Entry) (answers : List Said) : Type 0 where
   pub learnt : IsPrefix end seen
   pub all : All (Answers opening reads seen) answers
 
@@ -46,13 +46,13 @@ abbrev pub IsTrusted : Basis → List ReadLine → List Entry → DeskSeen → T
 IsTrusted opening reads end desk = IsTrue desk.ready → AllAnswer opening reads end desk.seen desk.answers
 
 -- What a seat said to a line, if anything, is an answer after entries that begin these, where it has no more of them.
-pub record SaysWithin (opening : Basis) (line : ReadLine) (end : List Entry) (said : Answered) : Type 0 where
+pub record SaysWithin (opening : Basis) (line : ReadLine) (end : List Entry) (said : Said) : Type 0 where
   pub list : List Entry
   pub begins : length list ≤ length end → IsPrefix list end
   pub counted : said.number ≡ length list
-  pub answer : IsAnswer opening line.number (read_seen line.read) list said.failed (string_bytes said.text)
+  pub answer : IsAnswer opening line.number (read_seen line.read) list said.failed said.text
 
-abbrev pub MaySay : Basis → ReadLine → List Entry → Option Answered → Type 0
+abbrev pub MaySay : Basis → ReadLine → List Entry → Option Said → Type 0
 MaySay opening line end said = IfSome said (SaysWithin opening line end)
 
 -- each is one of so many

@@ -7,7 +7,7 @@ ghost use Rattle.session_seats.specs.Cutting.{CutsLines, StandsBehind};
 
 use crate::round_lines::RoundLines;
 use dnr_io::{LineRefusal, Lines, Source};
-use lines_ahead::{CutLine, ask_all};
+use lines_ahead::{CutLine, PlainSearch, ask_all};
 use memchr::{memchr, memmem};
 use std::alloc::Global;
 use std::thread::Threads;
@@ -45,6 +45,7 @@ pub fn cut_lines<S: Source>(
     ensures starts { S.starts source.new ≡ S.starts source.old }
     ensures cause { HasCauseOf LineRefusal.ReadFault (S.faults source.old) (S.faults source.new) result }
 {
+    let search = PlainSearch::new();
     let mut room = round.room();
     let mut going = true;
     while going {
@@ -53,7 +54,7 @@ pub fn cut_lines<S: Source>(
             return Ok(false);
         }
         let place = *number + 1;
-        let line = CutLine::new(place, line);
+        let line = CutLine::new(place, line, &search);
         going = room.take(line.bytes().len()) && !may_sync(&line);
         cut.push(line)?;
         *number = place;

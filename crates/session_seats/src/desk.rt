@@ -7,7 +7,8 @@ ghost use Rattle.session_seats.specs.Reading.{PlainReads};
 ghost use Rattle.lines_ahead.specs.Cut.{IsPlainLine};
 ghost use Rattle.session_seats.specs.Seats.{Answers, HasAnswered, IsTrusted, SaysAt};
 
-use crate::answered::Answered;
+use crate::answer_log::AnswerLog;
+use crate::answered::{Answered, Said};
 use crate::gathering::{decided, explained};
 use crate::round_line::RoundLine;
 use crate::round_lines::RoundLines;
@@ -21,6 +22,7 @@ use script_read::{Command, LineFault, Memo};
 use session_rounds::ReadLine;
 use std::alloc::Global;
 use std::marker::Model;
+use std::mem;
 
 /// A seat between two rounds, or after one.
 #[derive(Drop)]
@@ -36,9 +38,9 @@ pub struct Desk<P: Pair> {
     // Whether the pass has learnt what the round begins with, and found a copy to enter for each line so far; after the
     // round, whether it has learnt what the round ended with.
     ready: bool,
-    answers: Vec<Answered>,
-    // The texts of earlier rounds, whose memory is used again.
-    texts: Vec<String>,
+    answers: AnswerLog,
+    // The memory in which one answer after another is written.
+    text: String,
     memo: Memo,
     // Memory ran out.
     stopped: bool,
@@ -54,7 +56,7 @@ impl<P: Pair> Model for Desk<P> {
       seats = d.seats;
       seen = seen_of d.pass;
       ready = d.ready;
-      answers = d.answers.items;
+      answers = d.answers;
     } };
 }
 
@@ -70,8 +72,8 @@ impl<P: Pair> Desk<P> {
             seats,
             pass,
             ready: false,
-            answers: Vec::new(alloc),
-            texts: Vec::new(alloc),
+            answers: AnswerLog::new(alloc),
+            text: String::new(alloc),
             memo: Memo::new(alloc),
             stopped: false,
             alloc,
@@ -83,7 +85,7 @@ impl<P: Pair> Desk<P> {
         ensures fresh { self.new.answers ≡ [] }
         ensures seats { self.new.seats ≡ self.old.seats }
     {
-        keep_texts(&mut self.answers, &mut self.texts);
+        self.answers.clear(self.alloc);
         self.stopped = false;
         self.ready = self.learn(note);
     }
@@ -115,16 +117,16 @@ impl<P: Pair> Desk<P> {
     }
 
     /// What the seat answers to the line at this place, if it is its answer of this turn.
-    pub fn answer_to(&self, turn: usize, place: usize) -> Option<&Answered>
+    pub fn answer_to(&self, turn: usize, place: usize) -> Option<Said<'_>>
         ensures ready { IsSome result → IsTrue self.now.ready }
-        ensures there { IfSome result (λ said. Contains self.now.answers said.now × (said.now.place ≡ place)) }
+        ensures there { IfSome result (λ said. Contains self.now.answers said × (said.place ≡ place)) }
     {
-        if !self.ready || turn >= self.answers.len() {
+        if !self.ready {
             return None;
         }
-        let answered = &self.answers[turn];
-        if answered.place == place {
-            Some(answered)
+        let said = self.answers.get(turn)?;
+        if said.place == place {
+            Some(said)
         } else {
             None
         }
@@ -204,7 +206,7 @@ impl<P: Pair> Desk<P> {
         let Some(pass) = &mut self.pass else {
             return;
         };
-        let text = empty_text(self.alloc, &mut self.texts);
+        let text = emptied(self.alloc, &mut self.text);
         match answer_by(self.alloc, text, pass, place, line, host) {
             Ok(Some(answered)) => self.keep(answered, round),
             Ok(None) => self.ready = false,
@@ -219,7 +221,8 @@ impl<P: Pair> Desk<P> {
         ensures answers { HasAnswered P.opening _round.now.reads self.new }
         ensures seats { self.new.seats ≡ self.old.seats }
     {
-        self.stopped = self.answers.push(answered).is_err();
+        self.stopped = self.answers.push(&answered).is_err();
+        self.text = answered.text;
     }
 }
 
@@ -248,31 +251,19 @@ impl<P: Pair, H: RegexHost> ToolSeat<RoundLines, H> for Desk<P> {
     }
 }
 
-// The memory of a longer text is let go: a session may last, and each of its texts may once be long.
+// The memory of a longer text is let go: a session may last, and one of its texts may once be long.
 const KEPT_BYTES: usize = 4_096;
 
-// Takes the answers away, and keeps the memory of their texts, but for long ones, where there is room.
-fn keep_texts(answers: &mut Vec<Answered>, texts: &mut Vec<String>)
-    ensures { answers.new.items ≡ [] }
-{
-    while let Some(answered) = answers.pop() {
-        if answered.text.len() <= KEPT_BYTES {
-            let _kept = texts.push(answered.text);
-        }
-    }
-}
-
-// An empty text, in the memory of an earlier one if there is any.
-fn empty_text(alloc: Global, texts: &mut Vec<String>) -> String
+// An empty text, in the memory of this one.
+fn emptied(alloc: Global, text: &mut String) -> String
     ensures { string_bytes result ≡ [] }
 {
-    match texts.pop() {
-        Some(mut text) => {
-            text.clear();
-            text
-        }
-        None => String::new(alloc),
+    let mut taken = mem::replace(text, String::new(alloc));
+    if taken.len() > KEPT_BYTES {
+        return String::new(alloc);
     }
+    taken.clear();
+    taken
 }
 
 // What a pass answers to a line, unless there is no copy to enter. The empty text is used for it.

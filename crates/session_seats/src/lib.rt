@@ -14,6 +14,7 @@
 //! the law of `session_rounds`.
 #![tactic(auto)]
 
+mod answer_log;
 mod answered;
 mod cutting;
 mod desk;

@@ -1,5 +1,5 @@
 //! What a round says, once all its parts have done their work.
-ghost use Rattle.std.specs.Prelude.{◌≡◌, ◌≤◌, ◌<◌, ◌++◌, true, length, map, get_or, IfOk, OnOk, IsTrue, IsFalse, option_copied, string_bytes};
+ghost use Rattle.std.specs.Prelude.{◌≡◌, ◌≤◌, ◌<◌, ◌++◌, true, length, map, get_or, IfOk, OnOk, IsTrue, IsFalse, string_bytes};
 ghost use Rattle.std.specs.List.{All};
 ghost use mathlib.Core.List.{IsPrefix};
 ghost use Rattle.line_spec.specs.Line.{command_of};
@@ -12,7 +12,7 @@ ghost use Rattle.session_seats.specs.Rounds.{AnsweredAnew, AreWithin};
 ghost use Rattle.session_seats.specs.Seats.{IsTrusted, MaySay, SaysWithin};
 ghost use Rattle.session_seats.specs.Writing.{WriterSaysAll, plain_text, text_with};
 
-use crate::answered::Answered;
+use crate::answered::Said;
 use crate::desk::Desk;
 use crate::office::Office;
 use crate::round_line::RoundLine;
@@ -96,13 +96,13 @@ fn said_to<'a, P: Pair>(
     seat: usize,
     dealt: &mut usize,
     turns: &mut [usize],
-) -> Option<&'a Answered>
+) -> Option<Said<'a>>
     requires trusted { All (IsTrusted P.opening _round.now.reads _office.now.list) desks.now }
     requires some { 0 < length desks.now }
     requires turns { length turns.old ≡ length desks.now }
     requires inside { place < length _round.now.reads }
     requires there { seen_line line.now ≡ get_or _round.now.reads place (seen_line line.now) }
-    ensures said { MaySay P.opening (seen_line line.now) _office.now.list (option_copied result) }
+    ensures said { MaySay P.opening (seen_line line.now) _office.now.list result }
     ensures turns { length turns.new ≡ length turns.old }
 {
     if !line.is_dealt() {
@@ -123,7 +123,7 @@ fn say_line<P: Pair, H: RegexHost>(
     office: &Office<P>,
     line: &RoundLine,
     place: usize,
-    said: Option<&Answered>,
+    said: Option<Said<'_>>,
     memo: &mut Memo,
     finder: &mut H,
     latest: &mut u32,
@@ -137,7 +137,7 @@ fn say_line<P: Pair, H: RegexHost>(
     requires above { length floor.now ≤ latest.old }
     requires below { latest.old ≤ length office.now.list }
     requires counted { counted.old ≤ H.faults finder.old }
-    requires said { MaySay P.opening (seen_line line.now) office.now.list (option_copied said) }
+    requires said { MaySay P.opening (seen_line line.now) office.now.list said }
     ensures asks { IfOk result (λ asks. is_asking (seen_line line.now) ≡ asks) }
     ensures told { IfOk result (λ asks. IsTrue asks → SeatTold P.opening floor.now office.now.list (seen_line line.now).number (read_seen (seen_line line.now).read)
         latest.old latest.new (string_bytes into.old) (string_bytes into.new) counted.old counted.new) }
@@ -149,8 +149,8 @@ fn say_line<P: Pair, H: RegexHost>(
 {
     if let Some(said) = said {
         let faults = finder.faults();
-        if may_stand(said, *latest, office.number(), *counted, faults) {
-            say_again(line, floor, office, said, faults, latest, counted, into)?;
+        if may_stand(&said, *latest, office.number(), *counted, faults) {
+            say_again(line, floor, office, &said, faults, latest, counted, into)?;
             return Ok(true);
         }
     }
@@ -174,7 +174,7 @@ fn say_again<P: Pair>(
     _line: &RoundLine,
     _floor: &Note<P>,
     _office: &Office<P>,
-    said: &Answered,
+    said: &Said<'_>,
     _faults: u64,
     latest: &mut u32,
     counted: &mut u64,
@@ -192,7 +192,7 @@ fn say_again<P: Pair>(
     ensures latest { (latest.old ≤ latest.new) × (latest.new ≤ length _office.now.list) }
     ensures counted { counted.new ≤ _faults }
 {
-    into.push_str(&said.text)?;
+    into.push_str(said.text)?;
     *latest = said.number;
     if said.failed {
         *counted += 1;
@@ -278,7 +278,7 @@ fn say_plain<P: Pair, H: RegexHost>(
 
 // Whether what a seat said stands: it says no less than the seat did before, and no more than the writer, and a fault is
 // one that was counted and not told yet.
-fn may_stand(said: &Answered, latest: u32, end: u32, counted: u64, faults: u64) -> bool
+fn may_stand(said: &Said<'_>, latest: u32, end: u32, counted: u64, faults: u64) -> bool
     ensures within { IsTrue result → (latest ≤ said.now.number) × (said.now.number ≤ end) }
     ensures counted { IsTrue result → said.now.failed ≡ true → counted < faults }
 {

@@ -17,7 +17,7 @@ keep-requires-clause-answer g c =
 
 pub keep-requires-clause-so_far : goal.keep-requires-clause-so_far
 keep-requires-clause-so_far g c =
-    kept_on g.P.Pair.opening c.args.round.now.reads c.self.inside.pass _ c.answer_by.new.pass c.self.inside.answers.items c.in-Some.is c.answer_by.ensures.later
+    kept_on g.P.Pair.opening c.args.round.now.reads c.self.inside.pass _ c.answer_by.new.pass c.self.inside.answers c.in-Some.is c.answer_by.ensures.later
     (subst (λ (desk : DeskSeen). HasAnswered g.P.Pair.opening c.args.round.now.reads desk) (sym c.self.view_is) c.requires.so_far)
 
 pub returns-in-Ok-Some-clause-answers : goal.returns-in-Ok-Some-clause-answers
@@ -28,10 +28,10 @@ returns-in-Ok-Some-clause-seats g c = c.keep.ensures.seats ∙ ap (λ (desk : De
 
 pub returns-in-Ok-None-clause-answers : goal.returns-in-Ok-None-clause-answers
 returns-in-Ok-None-clause-answers g c =
-    kept_on g.P.Pair.opening c.args.round.now.reads c.self.inside.pass _ c.answer_by.new.pass c.self.inside.answers.items c.in-Some.is c.answer_by.ensures.later
+    kept_on g.P.Pair.opening c.args.round.now.reads c.self.inside.pass _ c.answer_by.new.pass c.self.inside.answers c.in-Some.is c.answer_by.ensures.later
     (subst (λ (desk : DeskSeen). HasAnswered g.P.Pair.opening c.args.round.now.reads desk) (sym c.self.view_is) c.requires.so_far)
 
 pub returns-in-Err-clause-answers : goal.returns-in-Err-clause-answers
 returns-in-Err-clause-answers g c =
-    kept_on g.P.Pair.opening c.args.round.now.reads c.self.inside.pass _ c.answer_by.new.pass c.self.inside.answers.items c.in-Some.is c.answer_by.ensures.later
+    kept_on g.P.Pair.opening c.args.round.now.reads c.self.inside.pass _ c.answer_by.new.pass c.self.inside.answers c.in-Some.is c.answer_by.ensures.later
     (subst (λ (desk : DeskSeen). HasAnswered g.P.Pair.opening c.args.round.now.reads desk) (sym c.self.view_is) c.requires.so_far)

@@ -1,7 +1,6 @@
-use Rattle.std.proofs.Common.{◌<◌, length, sym, rules}
+use Rattle.std.proofs.Common.{ap, sym, ◌∙◌}
+use Rattle.session_seats.specs.Said.{Said}
 use Rattle.session_seats.proofs.desk.Desk.answer_to.Goals as goal
 
-pub returns-then-answered-place-clause-there : goal.returns-then-answered-place-clause-there
-returns-then-answered-place-clause-there g c =
-    let inside : c.args.turn < length c.self.inside.answers.items = search rules in
-    rw (← c.self.view_is) ((c.args.turn, inside, sym c.index-answered.ensures), c.if-answered-place.true)
+pub returns-then-said-place-clause-there : goal.returns-then-said-place-clause-there
+returns-then-said-place-clause-there g c = rw (← c.self.view_is) (c.in_ok-said.ensures, ap (λ (s : Said). s.place) (sym c.said.view_is) ∙ c.if-said-place.true)

@@ -1,11 +1,11 @@
-use Rattle.std.proofs.Common.{◌≡◌, IsTrue, ℕ, List, Bool, true, false, not, Option, Some, None, is_some, refl, sym, ap, ◌∙◌, arith, eq-eqb}
+use Rattle.std.proofs.Common.{◌≡◌, IsTrue, ℕ, List, Bool, true, false, not, Option, Some, None, is_some, refl, sym, ap, ◌∙◌, subst, arith, eq-eqb}
 use Rattle.std.proofs.lemmas.Bool.{eqb-true, true≢false}
 use Rattle.json.specs.Ascii as ascii
 use Rattle.memchr.specs.Find.{FindsNeedle, IsFirstByte, is_byte}
 use Rattle.plain_lines.specs.Plain.{IsPlain}
 use Rattle.plain_lines.proofs.Bytes.{cmd}
 use Rattle.plain_lines.proofs.Commands.{plain_at_most}
-use Rattle.plain_lines.proofs.is_plain.Goals as goal
+use Rattle.plain_lines.proofs.PlainSearch.is_plain.Goals as goal
 
 -- the first backslash
 abbrev IsEscapeAt : List ℕ → Option ℕ → Type 0
@@ -37,7 +37,7 @@ not_none false none = absurd (cc)
 
 pub returns-then-is_none-clause-told : goal.returns-then-is_none-clause-told
 returns-then-is_none-clause-told c = (
-  λ yes. nothing_found c.args.bytes.now c.find.result c.memchr.result c.find.ensures c.memchr.ensures c.if-is_none.ensures (c.is_none-then-is_none.ensures ∙ ap not yes),
+  λ yes. nothing_found c.args.bytes.now c.find.result c.memchr.result (subst (λ (word : List ℕ). FindsNeedle c.args.bytes.now word 0 c.find.result) c.self.invariant c.find.ensures) c.memchr.ensures c.if-is_none.ensures (c.is_none-then-is_none.ensures ∙ ap not yes),
   λ plain. let none = never_escape c.args.bytes.now c.memchr.result c.memchr.ensures plain in not_none c.is_none-then-is_none.result (sym c.is_none-then-is_none.ensures ∙ none),
 )
 
@@ -47,5 +47,5 @@ returns-then-is_none-clause-request_at_most c = λ yes number. plain_at_most num
 pub returns-else-is_none-clause-told : goal.returns-else-is_none-clause-told
 returns-else-is_none-clause-told c = (
   λ yes. absurd (true≢false (sym yes ∙ c.if-is_none.false)),
-  λ plain. let none = never_cmd c.args.bytes.now c.find.result c.find.ensures plain in not_none c.is_none.result (sym c.is_none.ensures ∙ none),
+  λ plain. let none = never_cmd c.args.bytes.now c.find.result (subst (λ (word : List ℕ). FindsNeedle c.args.bytes.now word 0 c.find.result) c.self.invariant c.find.ensures) plain in not_none c.is_none.result (sym c.is_none.ensures ∙ none),
 )

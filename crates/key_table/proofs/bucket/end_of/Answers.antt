@@ -4,7 +4,7 @@ use Rattle.std.specs.Cmp.Lexicographic.{slice_cmp}
 use Rattle.std.proofs.lemmas.List.Sorted.{IsPartitionPoint-from_clause}
 use Rattle.key_table.specs.Kept.{rank_in}
 use Rattle.key_table.proofs.Search.{above_last}
-use Rattle.key_table.proofs.table.end_of.Goals as goal
+use Rattle.key_table.proofs.bucket.end_of.Goals as goal
 
 pub returns-clause-above : goal.returns-clause-above
 returns-clause-above c k entry from inside =

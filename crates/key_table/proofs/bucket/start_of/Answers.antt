@@ -4,7 +4,7 @@ use Rattle.std.specs.Cmp.Lexicographic.{slice_cmp}
 use Rattle.std.proofs.lemmas.List.Sorted.{IsPartitionPoint-from_clause}
 use Rattle.key_table.specs.Kept.{rank_in}
 use Rattle.key_table.proofs.Search.{below_first}
-use Rattle.key_table.proofs.table.start_of.Goals as goal
+use Rattle.key_table.proofs.bucket.start_of.Goals as goal
 
 pub returns-clause-below : goal.returns-clause-below
 returns-clause-below c k entry inside =

@@ -1,6 +1,6 @@
 use Rattle.std.proofs.Common.{arith}
 use Rattle.key_table.proofs.Between.{places_searched}
-use Rattle.key_table.proofs.table.searched.Goals as goal
+use Rattle.key_table.proofs.bucket.with_key.Goals as goal
 
 pub returns-clause-places : goal.returns-clause-places
 returns-clause-places c shown =
