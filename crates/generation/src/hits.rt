@@ -117,7 +117,7 @@ pub(crate) fn find(
 }
 
 // What the request itself shows.
-pub(crate) fn shown(request: &Request) -> u64
+pub(crate) fn shown(request: &Request) -> u128
     ensures { result ≡ needs.shown_by (own_part request.now) }
 {
     shown_by(&request.own_part())

@@ -33,7 +33,7 @@ use suffix_list::SuffixList;
 pub(crate) struct PlainScan<'r> {
     request: &'r Request,
     prepared: PreparedRequest<'r>,
-    shown: u64,
+    shown: u128,
 }
 
 impl<'r> Model for PlainScan<'r> {
@@ -120,7 +120,7 @@ impl<'r> PlainScan<'r> {
     }
 
     // What the request itself shows.
-    fn shown(&self) -> u64
+    fn shown(&self) -> u128
         ensures { result ≡ shown_by (own_part self.now.request) }
     {
         self.shown

@@ -62,7 +62,7 @@ impl Draft {
     /// # Errors
     ///
     /// Where memory ran out, or the keys have 4 GiB. The pairs are then as before.
-    pub fn add(&mut self, key: &[u8], place: u32, needed: u64) -> Result<(), AllocError>
+    pub fn add(&mut self, key: &[u8], place: u32, needed: u128) -> Result<(), AllocError>
         ensures added { OnOk result (self.new
             ≡ self.old ++ record { key = key.now; place = place; needed = needed } ∷ []) }
         ensures same { OnErr result (self.new ≡ self.old) }

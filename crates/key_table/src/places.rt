@@ -19,7 +19,7 @@ pub struct Places<'a> {
     bucket: Bucket<'a>,
     asked: Asked<'a>,
     tag: u32,
-    shown: Option<u64>,
+    shown: Option<u128>,
 }
 
 impl<'a> Model for Places<'a> {
@@ -42,7 +42,7 @@ impl<'a> Places<'a> {
         bucket: Bucket<'a>,
         asked: Asked<'a>,
         tag: u32,
-        shown: Option<u64>,
+        shown: Option<u128>,
     ) -> Places<'a>
         requires bucket { IsBucket texts.now asked bucket }
         requires tag { tag ≡ tag_of asked }
@@ -59,7 +59,7 @@ impl<'a> Places<'a> {
 }
 
 // Whether what is needed is all shown.
-fn is_shown(needed: u64, shown: Option<u64>) -> bool
+fn is_shown(needed: u128, shown: Option<u128>) -> bool
     ensures { result ≡ shows needed shown }
 {
     match shown {
@@ -85,7 +85,7 @@ fn is_near(
     entry: &Entry,
     asked: &Asked<'_>,
     tag: u32,
-    shown: Option<u64>,
+    shown: Option<u128>,
 ) -> bool
     requires entry { IsEntry texts.now entry.now }
     requires tag { tag ≡ tag_of asked.now }

@@ -81,7 +81,7 @@ impl Table {
     }
 
     /// Those of them that need no more than is shown. It takes no memory.
-    pub fn near<'a>(&'a self, asked: Asked<'a>, shown: u64) -> Places<'a>
+    pub fn near<'a>(&'a self, asked: Asked<'a>, shown: u128) -> Places<'a>
         ensures { result ≡ near_of asked.entry (Some shown) self.now }
     {
         self.asked(asked, Some(shown))
@@ -89,7 +89,7 @@ impl Table {
 
     /// The places that have the key or, where it is told what is shown, those of them that need no more. It takes
     /// no memory.
-    pub fn asked<'a>(&'a self, asked: Asked<'a>, shown: Option<u64>) -> Places<'a>
+    pub fn asked<'a>(&'a self, asked: Asked<'a>, shown: Option<u128>) -> Places<'a>
         ensures { result ≡ near_of asked.entry shown self.now }
     {
         let tag = asked.tag();
@@ -97,7 +97,7 @@ impl Table {
     }
 
     /// The same where the tag of the key is known. It takes no memory.
-    pub fn tagged<'a>(&'a self, asked: Asked<'a>, tag: u32, shown: Option<u64>) -> Places<'a>
+    pub fn tagged<'a>(&'a self, asked: Asked<'a>, tag: u32, shown: Option<u128>) -> Places<'a>
         requires { tag ≡ tag_of asked }
         ensures { result ≡ near_of asked.entry shown self.now }
     {

@@ -3,7 +3,7 @@ use crate::{Asked, Draft, KeyHash, Table};
 use std::alloc::{AllocError, Global};
 use std::test::Fail;
 
-fn table_of(alloc: Global, rows: &[(&str, u32, u64)]) -> Result<Table, AllocError> {
+fn table_of(alloc: Global, rows: &[(&str, u32, u128)]) -> Result<Table, AllocError> {
     let mut draft = Draft::new(alloc);
     for (key, place, needed) in rows {
         draft.add(key.as_bytes(), *place, *needed)?;

@@ -11,7 +11,7 @@ use std::marker::Model;
 #[derive(Debug, Drop)]
 pub struct DomainWalk<'a> {
     table: &'a Table,
-    shown: Option<u64>,
+    shown: Option<u128>,
     domains: Domains<'a>,
     places: Places<'a>,
 }
@@ -45,7 +45,7 @@ impl<'a> DomainWalk<'a> {
     }
 
     /// The places that have a domain over the host or, where it is told what is shown, those of them that need no more.
-    pub fn asked(table: &'a Table, host: &'a str, shown: Option<u64>) -> DomainWalk<'a>
+    pub fn asked(table: &'a Table, host: &'a str, shown: Option<u128>) -> DomainWalk<'a>
         ensures { result ≡ spec.near_host table.now shown host.now }
     {
         DomainWalk {

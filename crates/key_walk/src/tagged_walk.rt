@@ -13,7 +13,7 @@ use std::marker::Model;
 pub struct TaggedWalk<'a> {
     table: &'a Table,
     words: &'a [TaggedWord<'a>],
-    shown: Option<u64>,
+    shown: Option<u128>,
     // How many of the words were asked.
     passed: usize,
     places: Places<'a>,
@@ -42,7 +42,7 @@ fn is_met(words: &[TaggedWord<'_>], word: &[u8]) -> bool
 
 impl<'a> TaggedWalk<'a> {
     /// The places that share one of the words and need no more than is shown.
-    pub fn near(table: &'a Table, words: &'a [TaggedWord<'a>], shown: u64) -> TaggedWalk<'a>
+    pub fn near(table: &'a Table, words: &'a [TaggedWord<'a>], shown: u128) -> TaggedWalk<'a>
         ensures { result ≡ places_behind table.now (Some shown) [] words.now }
     {
         TaggedWalk {

@@ -7,7 +7,7 @@ use std::test::Fail;
 fn table_of(alloc: Global, rows: &[(&str, u32)]) -> Result<Table, AllocError> {
     let mut draft = Draft::new(alloc);
     for (key, place) in rows {
-        draft.add(key.as_bytes(), *place, u64::from(*place))?;
+        draft.add(key.as_bytes(), *place, u128::from(*place))?;
     }
     draft.finish(alloc)
 }

@@ -13,7 +13,7 @@ use std::marker::Model;
 pub struct WordWalk<'a> {
     table: &'a Table,
     text: &'a [u8],
-    shown: Option<u64>,
+    shown: Option<u128>,
     passed: usize,
     words: Words<'a>,
     places: Places<'a>,
@@ -57,14 +57,14 @@ impl<'a> WordWalk<'a> {
     }
 
     /// Those of them that need no more than is shown.
-    pub fn near(table: &'a Table, text: &'a [u8], shown: u64) -> WordWalk<'a>
+    pub fn near(table: &'a Table, text: &'a [u8], shown: u128) -> WordWalk<'a>
         ensures { result ≡ spec.near_text table.now (Some shown) text.now }
     {
         WordWalk::asked(table, text, Some(shown))
     }
 
     /// The places that share a word with the text or, where it is told what is shown, those of them that need no more.
-    pub fn asked(table: &'a Table, text: &'a [u8], shown: Option<u64>) -> WordWalk<'a>
+    pub fn asked(table: &'a Table, text: &'a [u8], shown: Option<u128>) -> WordWalk<'a>
         ensures { result ≡ spec.near_text table.now shown text.now }
     {
         let text = text_for(table, text);

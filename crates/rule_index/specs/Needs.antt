@@ -1,6 +1,7 @@
 -- What a rule needs of a part of a request, and what the part shows, as bits of a number: a rule that needs a bit which is
 -- not shown does not hold.
-use Rattle.std.specs.Prelude.{ℕ, ◌≡◌, ◌+◌, ◌^◌, List, [], ◌∷◌, map, filter, fold, bit_or, true, not, Option, Some, None}
+use Rattle.std.specs.Prelude.{ℕ, ◌≡◌, ◌+◌, ◌*◌, ◌%◌, ◌^◌, List, [], ◌∷◌, map, filter, fold, bit_or, true, not, Option, Some, None}
+use Rattle.std.specs.List.{flat_map}
 use Rattle.dnr_base.specs.declared.kind.Kind.{Kind}
 use Rattle.dnr_base.specs.Kind.{all_kinds, has_kind, place_of}
 use Rattle.dnr_base.specs.View.{IsView, text_of}
@@ -22,16 +23,24 @@ with_bit bits place = bit_or bits (2 ^ place)
 abbrev pub with_bits : ℕ → List ℕ → ℕ
 with_bits bits places = fold with_bit bits places
 
--- the place of a word's bit, below 48; several words share one, and a word has the same in whatever case
-abbrev pub place_of_word : List ℕ → ℕ
-place_of_word word = bucket_of 48 (tag_of (lower_case word))
+-- the low half of a tag in place of the high one
+unfoldable pub low_half : ℕ → ℕ
+low_half tag = tag * 2 ^ 16 % 2 ^ 32
+
+-- the places of a word's two bits, below 112, by the two halves of its tag; several words share one
+abbrev pub places_of_tag : ℕ → List ℕ
+places_of_tag tag = bucket_of 112 tag ∷ bucket_of 112 (low_half tag) ∷ []
+
+-- a word has the same in whatever case
+abbrev pub places_of_word : List ℕ → List ℕ
+places_of_word word = places_of_tag (tag_of (lower_case word))
 
 abbrev pub places_of_words : List (List ℕ) → List ℕ
-places_of_words words = map place_of_word words
+places_of_words words = flat_map places_of_word words
 
 -- the bits of those of the types that are not among these
 abbrev pub places_of_others : List Kind → List Kind → List ℕ
-places_of_others kinds all = map (λ kind. 48 + place_of kind) (filter (λ kind. not (has_kind kinds kind)) all)
+places_of_others kinds all = map (λ kind. 112 + place_of kind) (filter (λ kind. not (has_kind kinds kind)) all)
 
 -- ---- of a rule and of a part
 

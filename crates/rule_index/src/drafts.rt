@@ -34,7 +34,7 @@ fn add_each(
     draft: &mut Draft,
     texts: &[Text],
     place: u32,
-    needed: u64,
+    needed: u128,
 ) -> Result<(), NoMemory>
     ensures { OnOk result (draft.new ≡ draft.old ++ pairs_for needed texts.now place) }
 {

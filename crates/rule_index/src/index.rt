@@ -68,7 +68,7 @@ impl Index {
 
     /// Those of them that need no more than is shown: with what `shown_by` tells of the part, none that holds is left
     /// out.
-    pub fn near<'a>(&'a self, part: &'a Part<'a>, shown: u64) -> Walk<'a>
+    pub fn near<'a>(&'a self, part: &'a Part<'a>, shown: u128) -> Walk<'a>
         ensures { result ≡ spec.near self.now (Some shown) part.now }
     {
         self.walk(part, Some(shown))
@@ -87,7 +87,7 @@ impl Index {
         )
     }
 
-    fn walk<'a>(&'a self, part: &'a Part<'a>, shown: Option<u64>) -> Walk<'a>
+    fn walk<'a>(&'a self, part: &'a Part<'a>, shown: Option<u128>) -> Walk<'a>
         ensures { result ≡ spec.near self.now shown part.now }
     {
         Walk::new(

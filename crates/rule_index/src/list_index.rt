@@ -79,7 +79,7 @@ impl ListIndex {
 
     /// Those of them that need no more than is shown: with what `shown_by` tells of the part, none that holds is left
     /// out.
-    pub fn near<'a>(&'a self, part: &'a Part<'a>, shown: u64) -> Walk<'a>
+    pub fn near<'a>(&'a self, part: &'a Part<'a>, shown: u128) -> Walk<'a>
         ensures { result ≡ near self.now.whole (Some shown) part.now }
     {
         self.whole.near(part, shown)
@@ -100,7 +100,7 @@ impl ListIndex {
     }
 
     /// Those of them that need no more than is shown.
-    pub fn framing_near<'a>(&'a self, frame: &'a Part<'a>, shown: u64) -> Walk<'a>
+    pub fn framing_near<'a>(&'a self, frame: &'a Part<'a>, shown: u128) -> Walk<'a>
         ensures { result ≡ near self.now.framing (Some shown) frame.now }
     {
         self.framing.near(frame, shown)

@@ -18,7 +18,7 @@ pub struct ListedPart<'a> {
     part: Part<'a>,
     // There is no list where the text is long.
     words: Option<Vec<TaggedWord<'a>>>,
-    shown: u64,
+    shown: u128,
 }
 
 impl<'a> Model for ListedPart<'a> {
@@ -78,7 +78,7 @@ impl<'a> ListedPart<'a> {
     }
 
     /// What it shows of what rules need, as bits.
-    pub fn shown(&self) -> u64
+    pub fn shown(&self) -> u128
         ensures { result ≡ needs.shown_by self.now }
     {
         self.shown

@@ -14,37 +14,39 @@ use key_table::{Asked, bucket_of};
 use key_walk::{TaggedWord, Words};
 
 // How many bits words have, before those of types.
-const WORDS: u32 = 48;
+const WORDS: u32 = 112;
 
-fn with_bit(bits: u64, place: u32) -> u64
-    requires { place < 64 }
+fn with_bit(bits: u128, place: u32) -> u128
+    requires { place < 128 }
     ensures { result ≡ spec.with_bit bits place }
 {
     bits | (1 << place)
 }
 
-// The place of a word's bit.
-fn place_of_word(word: &[u8]) -> u32
-    ensures value { result ≡ spec.place_of_word word.now }
-    ensures small { result < 48 }
+// With both bits of a word that has this tag.
+#[tactic(auto, unfolding(crate::specs::Needs::low_half))]
+fn with_tag(bits: u128, tag: u32) -> u128
+    ensures { result ≡ spec.with_bits bits (spec.places_of_tag tag) }
 {
-    bucket_of(WORDS, Asked::in_lower_case(word).tag()) as u32
+    let first = bucket_of(WORDS, tag) as u32;
+    let second = bucket_of(WORDS, tag << 16) as u32;
+    with_bit(with_bit(bits, first), second)
 }
 
 // With the bit of the word that begins here, if both its ends are firm.
-fn with_word_here(bits: u64, left: bool, ends: bool, rest: &[u8]) -> u64
+fn with_word_here(bits: u128, left: bool, ends: bool, rest: &[u8]) -> u128
     ensures { result ≡ spec.with_bits bits (spec.places_of_words
         (if left && words.is_word_here ends rest.now then words.word_at rest.now ∷ [] else [])) }
 {
     if left && !word_at(rest).is_empty() && ends_firmly(ends, rest) {
-        with_bit(bits, place_of_word(word_at(rest)))
+        with_tag(bits, Asked::in_lower_case(word_at(rest)).tag())
     } else {
         bits
     }
 }
 
 // With the bits of the firm words of a body.
-fn with_firm_words(bits: u64, anchored: bool, ends: bool, body: &[u8]) -> u64
+fn with_firm_words(bits: u128, anchored: bool, ends: bool, body: &[u8]) -> u128
     ensures { result ≡ spec.with_bits bits (spec.places_of_words (words.firm_words anchored ends body.now)) }
 {
     let mut bits = bits;
@@ -59,7 +61,7 @@ fn with_firm_words(bits: u64, anchored: bool, ends: bool, body: &[u8]) -> u64
 }
 
 // With the bits of the types that are not in the set.
-fn with_others(bits: u64, kinds: KindSet) -> u64
+fn with_others(bits: u128, kinds: KindSet) -> u128
     ensures { result ≡ spec.with_bits bits (spec.places_of_others (kinds_of kinds) all_kinds) }
 {
     let mut bits = bits;
@@ -74,30 +76,32 @@ fn with_others(bits: u64, kinds: KindSet) -> u64
 }
 
 // The bits of the words of a text.
-fn words_shown(text: &[u8]) -> u64
+fn words_shown(text: &[u8]) -> u128
     ensures { result ≡ spec.with_bits 0 (spec.places_of_words (words.words_of text.now)) }
 {
     let mut words = Words::new(text);
     let mut bits = 0;
     while let Some(word) = words.next() {
-        bits = with_bit(bits, place_of_word(word));
+        bits = with_tag(bits, Asked::in_lower_case(word).tag());
     }
     bits
 }
 
 // The same of words whose tags are known.
-fn tagged_shown(words: &[TaggedWord<'_>]) -> u64
+fn tagged_shown(words: &[TaggedWord<'_>]) -> u128
     ensures { result ≡ spec.with_bits 0 (spec.places_of_words words.now) }
 {
     let mut bits = 0;
-    for word in words {
-        bits = with_bit(bits, bucket_of(WORDS, word.tag()) as u32);
+    let mut left = words;
+    while let Some((word, rest)) = left.split_first() {
+        bits = with_tag(bits, word.tag());
+        left = rest;
     }
     bits
 }
 
 // The bits of the words that a condition's filter needs.
-fn words_needed(condition: &Condition) -> u64
+fn words_needed(condition: &Condition) -> u128
     ensures { result ≡ spec.with_bits 0 (spec.places_of_words (spec.words_needed condition.now.url_filter)) }
 {
     match condition.url_filter() {
@@ -110,7 +114,7 @@ fn words_needed(condition: &Condition) -> u64
 }
 
 // With the bits of the types that are not this one.
-fn with_others_than(bits: u64, kind: Kind) -> u64
+fn with_others_than(bits: u128, kind: Kind) -> u128
     ensures { result ≡ spec.with_bits bits (spec.places_of_others (kind ∷ []) all_kinds) }
 {
     let mut own = KindSet::empty();
@@ -120,7 +124,7 @@ fn with_others_than(bits: u64, kind: Kind) -> u64
 
 /// What a condition needs of a part, as bits.
 #[tactic(auto, unfolding(crate::specs::Needs::needs_of))]
-pub(crate) fn needs_of(condition: &Condition) -> u64
+pub(crate) fn needs_of(condition: &Condition) -> u128
     ensures { result ≡ spec.needs_of condition.now }
 {
     with_others(words_needed(condition), condition.kinds())
@@ -128,7 +132,7 @@ pub(crate) fn needs_of(condition: &Condition) -> u64
 
 /// What a part shows of what rules need, as bits: a rule that needs a bit which is not shown does not hold.
 #[tactic(auto, unfolding(crate::specs::Needs::shown_by))]
-pub fn shown_by(part: &Part<'_>) -> u64
+pub fn shown_by(part: &Part<'_>) -> u128
     ensures { result ≡ spec.shown_by part.now }
 {
     with_others_than(words_shown(part.view.text().as_bytes()), part.kind)
@@ -136,7 +140,7 @@ pub fn shown_by(part: &Part<'_>) -> u64
 
 /// What a part that has these words shows.
 #[tactic(auto, unfolding(crate::specs::Needs::shown_by))]
-pub(crate) fn shown_with(part: &Part<'_>, tagged: &[TaggedWord<'_>]) -> u64
+pub(crate) fn shown_with(part: &Part<'_>, tagged: &[TaggedWord<'_>]) -> u128
     requires { tagged.now ≡ words.words_of (text_of part.now.view) }
     ensures { result ≡ spec.shown_by part.now }
 {

@@ -41,7 +41,7 @@ impl<'a> Model for Walk<'a> {
 fn from_initiator<'a>(
     table: &'a Table,
     initiator: Option<&'a Text>,
-    shown: Option<u64>,
+    shown: Option<u128>,
 ) -> Option<DomainWalk<'a>>
     ensures { places_left result ≡ near_initiator table.now shown (option_copied initiator.entry) }
 {
@@ -55,7 +55,7 @@ impl<'a> Walk<'a> {
         words: &'a Table,
         initiators: &'a Table,
         part: &'a Part<'a>,
-        shown: Option<u64>,
+        shown: Option<u128>,
     ) -> Walk<'a>
         ensures { result ≡ near_of [] shown others.now ++ near_host hosts.now shown (host_of part.now.view)
             ++ near_text words.now shown (text_of part.now.view)
