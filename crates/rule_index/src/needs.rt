@@ -92,10 +92,8 @@ fn tagged_shown(words: &[TaggedWord<'_>]) -> u128
     ensures { result ≡ spec.with_bits 0 (spec.places_of_words words.now) }
 {
     let mut bits = 0;
-    let mut left = words;
-    while let Some((word, rest)) = left.split_first() {
+    for word in words {
         bits = with_tag(bits, word.tag());
-        left = rest;
     }
     bits
 }
