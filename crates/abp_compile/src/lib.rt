@@ -12,8 +12,6 @@ mod initiators;
 mod lines;
 mod report;
 mod rule;
-#[cfg(test)]
-mod tests;
 mod work;
 
 pub use compile_spec::Reported;

@@ -2,10 +2,9 @@
 use dnr_base::{Copied, NoMemory, Text};
 use dnr_spec::{DomainRefusal, SuffixRefusal, is_ip_host, split_first_label, split_last_label};
 use domain_set::{DomainSet, is_domain};
-use party_check::third_party;
 use std::alloc::Global;
 use std::test::Fail;
-use suffix_list::SuffixList;
+use suffix_list::{SuffixList, third_party};
 
 fn texts(alloc: Global, words: &str) -> Result<Vec<Text>, NoMemory> {
     let mut list = Vec::new(alloc);

@@ -5,10 +5,20 @@
 #[cfg(test)]
 mod domains;
 #[cfg(test)]
+mod files;
+#[cfg(test)]
 mod headers;
 #[cfg(test)]
 mod patterns;
 #[cfg(test)]
+mod publishing;
+#[cfg(test)]
+mod response_headers;
+#[cfg(test)]
 mod urls;
 #[cfg(test)]
+mod urls_and_hosts;
+#[cfg(test)]
 mod values;
+#[cfg(test)]
+mod wildcards;

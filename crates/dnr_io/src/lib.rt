@@ -21,11 +21,9 @@ mod output;
 mod shelf;
 mod sink;
 mod source;
-#[cfg(test)]
-mod tests;
 
 pub use all_lines::read_lines;
-pub use dir_shelf::DirShelf;
+pub use dir_shelf::{DirShelf, read_some};
 pub use dnr_base::Failed;
 pub use dnr_spec::{NoMemory, Status};
 pub use faultless_shelf::FaultlessShelf;
@@ -37,7 +35,7 @@ pub use lines::{Lines, MAX_LINE, MAX_LINES};
 pub use memory_shelf::MemoryShelf;
 pub use memory_sink::MemorySink;
 pub use memory_source::MemorySource;
-pub use output::Output;
+pub use output::{Output, write_some};
 pub use shelf::{Shelf, ShelfRefusal};
 pub use sink::{Sink, write_all};
 pub use source::Source;

@@ -5,8 +5,6 @@
 #![tactic(auto)]
 
 mod header_test;
-#[cfg(test)]
-mod tests;
 mod value_pattern;
 mod words;
 

@@ -15,8 +15,6 @@ mod number;
 mod object;
 mod passed;
 mod shape;
-#[cfg(test)]
-mod tests;
 mod tree;
 
 pub use field::Field;

@@ -17,8 +17,6 @@ mod marks;
 mod order;
 mod places;
 mod table;
-#[cfg(test)]
-mod tests;
 
 pub use asked::Asked;
 pub use draft::Draft;

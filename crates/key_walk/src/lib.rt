@@ -6,8 +6,6 @@ mod domain_walk;
 mod domains;
 mod tagged_walk;
 mod tagged_word;
-#[cfg(test)]
-mod tests;
 mod word_walk;
 mod words;
 

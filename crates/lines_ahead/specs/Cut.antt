@@ -3,7 +3,7 @@ use Rattle.std.specs.Prelude.{ℕ, List, Result, Ok, Err}
 use Rattle.line_spec.specs.declared.line_fault.LineFault.{LineFault}
 use Rattle.line_spec.specs.IsFault.{IsFaultOf}
 use Rattle.line_spec.specs.Line.{command_of}
-use Rattle.plain_lines.specs.Plain.{IsPlain, IsRequestAtMost}
+use Rattle.lines_ahead.specs.Plain.{IsPlain, IsRequestAtMost}
 use Rattle.script_read.specs.declared.asked.Asked.{Asked}
 use Rattle.script_read.specs.Asked.{AsksFor}
 

@@ -6,7 +6,7 @@ ghost use Rattle.line_spec.specs.Line as spec;
 ghost use Rattle.lines_ahead.specs.Cut.{IsPlainLine};
 ghost use Rattle.script_read.specs.Seen.{command_seen};
 
-use plain_lines::PlainSearch;
+use crate::plain::PlainSearch;
 use regex_host::RegexHost;
 use script_read::{
     Asked, Command, LineFault, Memo, ask_line, finish_line, is_blank, read_line_with,

@@ -4,7 +4,8 @@
 
 mod asking;
 mod cut_line;
+mod plain;
 
 pub use asking::ask_all;
 pub use cut_line::CutLine;
-pub use plain_lines::PlainSearch;
+pub use plain::PlainSearch;

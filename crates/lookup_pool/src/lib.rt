@@ -8,8 +8,6 @@ mod gate;
 mod parts;
 mod pool;
 mod shared;
-#[cfg(test)]
-mod tests;
 mod tools;
 
 pub use gate::{Gate, NoGate};

@@ -8,8 +8,6 @@ mod parts;
 mod path;
 mod pattern;
 mod stars;
-#[cfg(test)]
-mod tests;
 
 pub use dnr_spec::NoMemory;
 pub use pattern::MatchPattern;

@@ -10,7 +10,11 @@ mod fixtures;
 #[cfg(test)]
 mod generations;
 #[cfg(test)]
+mod histories;
+#[cfg(test)]
 mod passes;
+#[cfg(test)]
+mod rounds;
 #[cfg(test)]
 mod swaps;
 #[cfg(test)]

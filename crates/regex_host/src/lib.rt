@@ -12,6 +12,7 @@ mod host;
 mod list_host;
 mod pack_host;
 mod prefilter;
+mod sent;
 mod substitution;
 
 pub use dnr_base::{NoMemory, Span};
@@ -19,4 +20,5 @@ pub use dnr_spec::SubstitutionRefusal;
 pub use host::{HostRefusal, RegexHost};
 pub use list_host::ListHost;
 pub use pack_host::PackHost;
+pub use sent::pack_hosts_are_sent;
 pub use substitution::Substitution;

@@ -7,4 +7,3 @@ pub mod Weighed
 pub mod Counted
 pub mod Found
 pub mod KeysOnce
-pub mod Tested

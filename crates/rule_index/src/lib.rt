@@ -13,8 +13,6 @@ mod list_index;
 mod listed_part;
 mod needs;
 mod pieces;
-#[cfg(test)]
-mod tests;
 mod token;
 mod walk;
 

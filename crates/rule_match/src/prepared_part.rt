@@ -15,7 +15,7 @@ use crate::conditions::{
 };
 use dnr_base::{Part, Steps, Text};
 use dnr_rules::{Condition, Rule};
-use party_check::third_party;
+use suffix_list::third_party;
 use regex_host::{HostRefusal, RegexHost};
 use std::marker::Model;
 use std::sync::ledger::Ledger;

@@ -4,8 +4,14 @@
 #![tactic(auto)]
 
 #[cfg(test)]
+mod filter_lists;
+#[cfg(test)]
 mod lines;
 #[cfg(test)]
 mod matching;
 #[cfg(test)]
+mod objects;
+#[cfg(test)]
 mod reading;
+#[cfg(test)]
+mod rule_files;

@@ -8,8 +8,6 @@
 mod list;
 mod listed;
 mod load;
-#[cfg(test)]
-mod tests;
 mod text;
 mod value;
 

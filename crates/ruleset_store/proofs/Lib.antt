@@ -3,4 +3,3 @@ pub mod Firsts
 pub mod IdSets
 pub mod Kept
 pub mod Rows
-pub mod Tested

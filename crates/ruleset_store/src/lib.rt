@@ -16,8 +16,6 @@ mod names;
 mod replacing;
 mod rule_set;
 mod store;
-#[cfg(test)]
-mod tests;
 mod update;
 
 pub use dnr_base::{Items, NoMemory, Text};

@@ -9,7 +9,7 @@ use Rattle.script_read.specs.declared.command.Command.{Command}
 use Rattle.script_read.specs.declared.command.Command.TheVariants.{Blank}
 use Rattle.line_spec.specs.Line as spec
 use Rattle.line_spec.specs.Line.{command_of}
-use Rattle.plain_lines.specs.Plain.{IsRequestAtMost}
+use Rattle.lines_ahead.specs.Plain.{IsRequestAtMost}
 use Rattle.published.proofs.Beginnings.{begins_itself, begins_on}
 use Rattle.session_rounds.proofs.Whole.{goes_on_begins}
 use Rattle.session_rounds.specs.Lines.{is_asked, read_seen}

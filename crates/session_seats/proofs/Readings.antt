@@ -9,7 +9,7 @@ use Rattle.line_spec.specs.Stops.{StopsInLine}
 use Rattle.line_spec.specs.declared.line_fault.LineFault.{LineFault}
 use Rattle.line_spec.specs.declared.line_fault.LineFault.TheVariants.{NoMemory}
 use Rattle.lines_ahead.specs.Cut.{CutSeen, IsPlainLine}
-use Rattle.plain_lines.specs.Plain.{IsRequestAtMost}
+use Rattle.lines_ahead.specs.Plain.{IsRequestAtMost}
 use Rattle.script_read.specs.Seen.{command_seen}
 use Rattle.script_read.specs.declared.command.Command as code
 use Rattle.script_read.specs.declared.command.Command.TheVariants as command

@@ -1,4 +1,5 @@
-//! A public suffix list: read once, then asked for the registrable domain of a host.
+//! A public suffix list: read once, then asked for the registrable domain of a host, and whether a request is third
+//! party.
 //!
 //! What the lines of a list say, and which labels of a host are its public suffix, stands in `dnr_spec`,
 //! `specs/Suffixes.antt`, in the terms of publicsuffix.org.
@@ -7,6 +8,7 @@
 mod label;
 mod list;
 mod names;
+mod party;
 mod read;
 mod rule;
 mod table;
@@ -14,3 +16,4 @@ mod tables;
 
 pub use dnr_spec::{NoMemory, SuffixRefusal};
 pub use list::SuffixList;
+pub use party::third_party;

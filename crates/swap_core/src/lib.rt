@@ -8,8 +8,6 @@
 mod event;
 mod laws;
 mod machine;
-#[cfg(test)]
-mod tests;
 
 pub use event::Event;
 pub use laws::{answers_lie_between, answers_never_fall, answers_tell_what_is_seen};

@@ -5,8 +5,6 @@
 
 mod noted;
 mod places;
-#[cfg(test)]
-mod tests;
 mod walk;
 mod words;
 

@@ -1,6 +1,6 @@
 use denote.Param.Send.{sendable}
 use Rattle.dnr_top.proofs.Asked.{all_may_be_asked}
-use Rattle.sent_hosts.proofs.Hosts.{PackHost-send}
+use Rattle.regex_host.proofs.SentHosts.{PackHost-send}
 use Rattle.dnr.proofs.main.Goals as goal
 
 pub run-status-requires-send-H : goal.run-status-requires-send-H

@@ -2,7 +2,7 @@ use denote.Param.Send.{sendable}
 use Rattle.std.proofs.Crossing
 use Rattle.std.proofs.MapsCrossing
 use Rattle.dnr_top.proofs.Asked.{all_may_be_asked}
-use Rattle.sent_hosts.proofs.Hosts.{PackHost-send}
+use Rattle.regex_host.proofs.SentHosts.{PackHost-send}
 use Rattle.session_tests.proofs.gates.written.Goals as goal
 
 pub run-status-requires-send-H : goal.run-status-requires-send-H

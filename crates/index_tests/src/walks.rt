@@ -1,0 +1,68 @@
+//! Which places share a word with a text, and which have a domain over a host.
+use key_table::{Draft, Table};
+use key_walk::{DomainWalk, TaggedWalk, WordWalk, Words, tagged_words};
+use std::alloc::{AllocError, Global};
+use std::test::Fail;
+
+fn table_of(alloc: Global, rows: &[(&str, u32)]) -> Result<Table, AllocError> {
+    let mut draft = Draft::new(alloc);
+    for (key, place) in rows {
+        draft.add(key.as_bytes(), *place, u128::from(*place))?;
+    }
+    draft.finish(alloc)
+}
+
+#[test]
+fn a_word_that_stands_twice_is_asked_once(rt: HostRuntime) -> Result<(), Fail> {
+    let table = table_of(rt.alloc(), [("ads", 1), ("x1", 2), ("track", 4)].as_slice())?;
+    let text = b"http://ads.com/Ads/x1?ADS=xx1";
+    let mut walk = WordWalk::new(&table, text);
+    assert!(rt; walk.next() == Some(1));
+    assert!(rt; walk.next() == Some(2));
+    assert!(rt; walk.next() == None);
+    let mut walk = WordWalk::near(&table, text, 6);
+    assert!(rt; walk.next() == Some(2));
+    assert!(rt; walk.next() == None);
+    let mut words = Words::new(b"a//b1");
+    assert!(rt; words.next() == Some(b"a".as_slice()));
+    assert!(rt; words.next() == Some(b"b1".as_slice()));
+    assert!(rt; words.next() == None);
+    Ok(())
+}
+
+#[test]
+fn a_host_lies_in_its_rests(rt: HostRuntime) -> Result<(), Fail> {
+    let rows = [
+        ("com", 1),
+        ("b.com", 2),
+        ("a.b.com", 4),
+        ("4", 8),
+        ("1.2.3.4", 16),
+    ];
+    let table = table_of(rt.alloc(), rows.as_slice())?;
+    let mut walk = DomainWalk::new(&table, "a.b.com");
+    assert!(rt; walk.next() == Some(4));
+    assert!(rt; walk.next() == Some(2));
+    assert!(rt; walk.next() == Some(1));
+    assert!(rt; walk.next() == None);
+    let mut walk = DomainWalk::new(&table, "1.2.3.4");
+    assert!(rt; walk.next() == Some(16));
+    assert!(rt; walk.next() == None);
+    assert!(rt; DomainWalk::asked(&table, "x.b.com", Some(1)).next() == Some(1));
+    assert!(rt; DomainWalk::new(&table, "B.COM").next() == None);
+    Ok(())
+}
+
+#[test]
+fn a_listed_word_is_asked_once(rt: HostRuntime) -> Result<(), Fail> {
+    let table = table_of(rt.alloc(), [("ads", 1), ("x1", 2), ("track", 4)].as_slice())?;
+    let words = tagged_words(rt.alloc(), b"http://ads.com/Ads/x1?ADS=xx1")?;
+    let mut walk = TaggedWalk::near(&table, &words, 7);
+    assert!(rt; walk.next() == Some(1));
+    assert!(rt; walk.next() == Some(2));
+    assert!(rt; walk.next() == None);
+    let mut walk = TaggedWalk::near(&table, &words, 6);
+    assert!(rt; walk.next() == Some(2));
+    assert!(rt; walk.next() == None);
+    Ok(())
+}

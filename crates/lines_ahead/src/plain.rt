@@ -1,0 +1,45 @@
+// Script lines that are told by their bytes alone, before they are read, to ask for nothing but a request.
+ghost use Rattle.std.specs.Prelude.{ℕ, ◌↔◌, IsTrue};
+ghost use Rattle.line_spec.specs.Line.{command_of};
+ghost use Rattle.lines_ahead.specs.Plain.{IsPlain, IsRequestAtMost};
+
+use memchr::memchr;
+use memchr::memmem::Finder;
+use std::marker::Model;
+
+/// A search that tells plain lines, made once for many of them. A clause sees what it searches for.
+#[derive(Drop)]
+pub struct PlainSearch {
+    finder: Finder<'static>,
+}
+
+impl Model for PlainSearch {
+    ghost use Rattle.std.specs.Prelude.{◌≡◌, ℕ, List, codes};
+
+    ghost Value = { List ℕ };
+
+    ghost view = { λ s. s.finder };
+
+    ghost invariant = { λ s. s.finder ≡ codes "cmd" };
+}
+
+impl PlainSearch {
+    /// A search for the key `cmd`.
+    pub fn new() -> PlainSearch {
+        PlainSearch {
+            finder: Finder::new(b"cmd"),
+        }
+    }
+
+    /// Whether the bytes of a line hold neither `cmd` nor a backslash, so that it has no key `cmd`: a JSON string without
+    /// an escape stands in its text as it is. Whatever its number, such a line is blank, a request or at fault. It is no
+    /// update, no batch, no sync and no explain.
+    ///
+    /// A line that isn't plain may still be a request.
+    pub fn is_plain(&self, bytes: &[u8]) -> bool
+        ensures told { IsTrue result ↔ IsPlain bytes.now }
+        ensures request_at_most { IsTrue result → (number : ℕ) → IsRequestAtMost (command_of number bytes.now) }
+    {
+        self.finder.find(bytes).is_none() && memchr(b'\\', bytes).is_none()
+    }
+}
