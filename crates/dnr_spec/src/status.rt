@@ -17,6 +17,8 @@ pub enum Status {
     NoMemory,
     /// A file, or a line of a script, is longer than its limit, or a script has too many lines.
     FileTooLong,
+    /// The disk under a kept list failed.
+    DiskFault,
 }
 
 impl Status {
@@ -34,6 +36,7 @@ impl Status {
             Status::WriteFault => 4,
             Status::NoMemory => 5,
             Status::FileTooLong => 6,
+            Status::DiskFault => 7,
         }
     }
 }

@@ -189,6 +189,7 @@ at_once_completes outside Done Refused TooLong status.ReadFault written shelf si
 at_once_completes outside Done Refused TooLong status.WriteFault written shelf sink accepted short ends = absurd (sink ends.0)
 at_once_completes outside Done Refused TooLong status.NoMemory written shelf sink accepted short ends = inr refl
 at_once_completes outside Done Refused TooLong status.FileTooLong written shelf sink accepted short ends = absurd (short ends.0)
+at_once_completes outside Done Refused TooLong status.DiskFault written shelf sink accepted short ends = absurd ends
 
 task_completes : (task : Task) (files : Files) (outside : Outside) (ended : Status) (written : List ℕ) → (Rose outside.shelf.before outside.shelf.now → ⊥) → (Rose outside.sink.before outside.sink.now → ⊥)
     → (HostRose outside 0 → ⊥) → IsReady files task → EndsFor files outside (Some task) ended written → (ended ≡ status.Done) ⊎ (ended ≡ status.NoMemory)

@@ -44,6 +44,7 @@ wrote_by files outside session name status.NoMemory written (inl none) = inl non
 wrote_by files outside session name status.NoMemory written (inr begins) = inr (beginning_of files outside session name written begins)
 wrote_by files outside session name status.FileTooLong written (inl long) = inl long
 wrote_by files outside session name status.FileTooLong written (inr short) = inr (history_of files outside session _ _ written short)
+wrote_by files outside session name status.DiskFault written ends = ends
 
 wrote_for : (task : Option Task) (files : Files) (outside : Outside) (ended : Status) (written : List ℕ) (session : Session) (name : List ℕ) → IsSession task session name
     → EndsFor files outside task ended written → Wrote files outside session name ended written

@@ -74,3 +74,4 @@ Wrote files outside session name status.WriteFault written = IsBeginning (Meanwh
 Wrote files outside session name status.NoMemory written = (written ≡ []) ⊎ IsBeginning (Meanwhile files outside session name) written
 Wrote files outside session name status.FileTooLong written =
     (HasLongFileOf files session × (written ≡ [])) ⊎ ShortRounds files outside session name written
+Wrote files outside session name status.DiskFault written = ⊥

@@ -25,3 +25,4 @@ sessions_complete files outside session name status.ReadFault written shelf sink
 sessions_complete files outside session name status.WriteFault written shelf sink accepted short within ends = absurd (sink ends.0)
 sessions_complete files outside session name status.NoMemory written shelf sink accepted short within ends = inr refl
 sessions_complete files outside session name status.FileTooLong written shelf sink accepted short within ends = absurd (too_long files outside session name written short within ends)
+sessions_complete files outside session name status.DiskFault written shelf sink accepted short within ends = absurd ends

@@ -252,6 +252,7 @@ EndsBy outside conduct status.ReadFault written = Rose outside.shelf.before outs
 EndsBy outside conduct status.WriteFault written = Rose outside.sink.before outside.sink.now × IsBeginning conduct.Meanwhile written
 EndsBy outside conduct status.NoMemory written = (written ≡ []) ⊎ IsBeginning conduct.Meanwhile written
 EndsBy outside conduct status.FileTooLong written = conduct.TooLong written
+EndsBy outside conduct status.DiskFault written = ⊥
 
 -- words that say no command end with Usage alone, and write nothing
 abbrev pub EndsFor : Files → Outside → Option Task → Status → List ℕ → Type 0
