@@ -1,17 +1,19 @@
 -- Why a rules file of a shelf gives no rules.
-use Rattle.std.specs.Prelude.{◌≡◌, ◌⊎◌, ℕ, List, Bool, true, false, Err}
+use Rattle.std.specs.Prelude.{◌≡◌, ◌⊎◌, ℕ, List, Vec, Bool, true, false, Result, Ok, Err}
+use Rattle.std.specs.declared.alloc.Global.{Global}
 use Rattle.dnr_io.specs.declared.shelf.ShelfRefusal.{ShelfRefusal}
 use Rattle.dnr_io.specs.declared.shelf.ShelfRefusal.TheVariants as shelf
 use Rattle.rule_spec.specs.declared.placed_refusal.PlacedRefusal.{PlacedRefusal}
 use Rattle.rule_spec.specs.declared.rule_kind.RuleKind.{RuleKind}
 use Rattle.rule_spec.specs.declared.rule_refusal.RuleRefusal.{RuleRefusal}
 use Rattle.rule_spec.specs.declared.rule_refusal.RuleRefusal.TheVariants as rule
+use Rattle.rule_spec.specs.Rule.{Rule}
 use Rattle.json_spec.specs.RulesFile as spec
 use Rattle.json_spec.specs.RulesFile.{rules_of, bad_rules, StopsInFile}
 use Rattle.load_spec.specs.Files.{Files, BreaksForm, StopsAtHost, HoldsLongFile}
 use Rattle.rules_file.specs.declared.FileRefusal.{FileRefusal}
 use Rattle.rules_file.specs.declared.FileRefusal.TheVariants.{BadJson, BadRules}
-use Rattle.rules_file.specs.Answers.{refusal_seen, is_no_memory}
+use Rattle.rules_file.specs.Answers.{IsCalmFile, refusal_seen, is_no_memory}
 use Rattle.rules_file.specs.declared.load.LoadRefusal.{LoadRefusal}
 use Rattle.rules_file.specs.declared.load.LoadRefusal.TheVariants.{BadFile, ReadFault, FileTooLong, NoMemory}
 
@@ -51,3 +53,12 @@ Refuses files kind name rose (BadFile refusal) =
 Refuses files kind name rose ReadFault = Unit {0}
 Refuses files kind name rose FileTooLong = HoldsLongFile files name
 Refuses files kind name rose NoMemory = Unit {0}
+
+-- The count of a pattern host's faults stays, unless the host is why the file is refused, or the file is no JSON: no
+-- fault is passed over.
+abbrev pub IsCalmLoad : ℕ → ℕ → Result (Vec Rule Global) LoadRefusal → Type 0
+IsCalmLoad before now (Ok rules) = now ≡ before
+IsCalmLoad before now (Err (BadFile refusal)) = IsCalmFile before now (Err refusal)
+IsCalmLoad before now (Err ReadFault) = now ≡ before
+IsCalmLoad before now (Err FileTooLong) = now ≡ before
+IsCalmLoad before now (Err NoMemory) = now ≡ before

@@ -3,7 +3,7 @@ ghost use Rattle.std.specs.Prelude.{◌≡◌, ◌≤◌, Ok, IfOk, IfErr, IfSom
 ghost use Rattle.dnr_base.specs.Faults.{Rose, HasCauseOf};
 ghost use Rattle.json_spec.specs.RulesFile as spec;
 ghost use Rattle.load_spec.specs.Files.{HoldsRules};
-ghost use Rattle.rules_file.specs.Load.{Refuses, IsStopped, IsNoMemoryApart, is_memory};
+ghost use Rattle.rules_file.specs.Load.{IsCalmLoad, IsNoMemoryApart, IsStopped, Refuses, is_memory};
 
 use crate::{FileRefusal, read_rules_file};
 use dnr_io::{Shelf, ShelfRefusal};
@@ -55,6 +55,7 @@ pub fn load_rules<F: Shelf, H: RegexHost>(
     ensures refused { IfErr result (λ refusal. IfSome (F.Source.files shelf.old) (λ files.
         Refuses files kind name.now (Rose (H.faults host.old) (H.faults host.new)) refusal)) }
     ensures apart { IfErr result IsNoMemoryApart }
+    ensures calm { IsCalmLoad (H.faults host.old) (H.faults host.new) result }
     ensures later { H.faults host.old ≤ H.faults host.new }
     ensures files { F.Source.files shelf.new ≡ F.Source.files shelf.old }
     ensures left { F.Source.left shelf.new ≡ F.Source.left shelf.old }
@@ -76,6 +77,7 @@ fn read_rules<H: RegexHost>(
     ensures ok { IfOk result (λ rules. spec.rules_of kind bytes.now ≡ Ok rules.items) }
     ensures refused { IfErr result (IsStopped kind bytes.now (Rose (H.faults host.old) (H.faults host.new))) }
     ensures apart { IfErr result IsNoMemoryApart }
+    ensures calm { IsCalmLoad (H.faults host.old) (H.faults host.new) result }
     ensures later { H.faults host.old ≤ H.faults host.new }
 {
     match read_rules_file(alloc, bytes, kind, host) {
