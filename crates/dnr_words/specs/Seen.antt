@@ -10,7 +10,7 @@ use Rattle.dnr_words.specs.declared.options.Choice.TheVariants.{Workers, Suffixe
 use Rattle.dnr_words.specs.declared.serving.Once.{Once}
 use Rattle.dnr_words.specs.declared.serving.Chosen.{Chosen}
 use Rattle.dnr_words.specs.declared.task.Task.{Task}
-use Rattle.dnr_words.specs.declared.task.Task.TheVariants.{Match, Check, Compile, Serve, Sample}
+use Rattle.dnr_words.specs.declared.task.Task.TheVariants.{Match, Check, Compile, Serve, Sample, Hide, Prune}
 
 abbrev pub installed_seen : Installed → spec.Installed
 installed_seen (what.Folder name) = spec.folder name.now
@@ -33,3 +33,5 @@ task_seen (Check kind rules) = spec.check_file kind rules.now
 task_seen (Compile list) = spec.compile_file list.now
 task_seen (Serve serving) = spec.serve_script serving
 task_seen (Sample sample) = spec.make_sample sample
+task_seen (Hide list host) = spec.hide_page list.now host.now
+task_seen (Prune rules) = spec.prune_file rules.now

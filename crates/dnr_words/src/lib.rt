@@ -11,6 +11,7 @@ mod sample;
 mod serving;
 mod task;
 
+pub use names::{is_extension_name, is_file_name};
 pub use options::Installed;
 pub use sample::{Sample, read_sample};
 pub use serving::Serving;

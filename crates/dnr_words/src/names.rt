@@ -1,18 +1,20 @@
-// Names of files, of extensions and of kinds of rules.
+// Names of files, of extensions, of hosts and of kinds of rules.
 ghost use Rattle.std.specs.Prelude.{◌≡◌};
 ghost use Rattle.std.specs.List.{list_all};
+ghost use Rattle.hide_spec.specs.Hidden as pages;
 ghost use Rattle.session_spec.specs.Words as spec;
 
 use rule_spec::RuleKind;
 
-// A name of a file is not empty, and does not begin as an option does.
-pub(crate) fn is_file_name(word: &str) -> bool
+/// Whether a word can be the name of a file: it is not empty, and does not begin as an option does.
+pub fn is_file_name(word: &str) -> bool
     ensures { result ≡ spec.is_file_name word.now }
 {
     !word.is_empty() && word.as_bytes()[0] != b'-'
 }
 
-pub(crate) fn is_extension_name(word: &str) -> bool
+/// Whether a word can be the name of an extension: 1 to 64 of `a-z`, `0-9`, `-` and `_`.
+pub fn is_extension_name(word: &str) -> bool
     ensures { result ≡ spec.is_extension_name word.now }
 {
     !word.is_empty() && word.len() <= 64 && are_name_bytes(word.as_bytes())
@@ -26,6 +28,31 @@ fn are_name_bytes(bytes: &[u8]) -> bool
 
 fn is_name_byte(byte: u8) -> bool
     ensures { result ≡ spec.is_name_byte byte }
+{
+    matches!(byte, b'a'..=b'z' | b'0'..=b'9' | b'-' | b'_')
+}
+
+// The host of a page: labels of `a-z`, `0-9`, `-` and `_`, none of them empty.
+pub(crate) fn is_page_host(word: &str) -> bool
+    ensures { result ≡ pages.is_page_host word.now }
+{
+    word.as_bytes().split(|byte| *byte == b'.').all(is_host_label)
+}
+
+fn is_host_label(label: &[u8]) -> bool
+    ensures { result ≡ pages.is_host_label label.now }
+{
+    !label.is_empty() && are_host_bytes(label)
+}
+
+fn are_host_bytes(bytes: &[u8]) -> bool
+    ensures { result ≡ list_all pages.is_host_byte bytes.now }
+{
+    bytes.iter().all(|byte| is_host_byte(*byte))
+}
+
+fn is_host_byte(byte: u8) -> bool
+    ensures { result ≡ pages.is_host_byte byte }
 {
     matches!(byte, b'a'..=b'z' | b'0'..=b'9' | b'-' | b'_')
 }

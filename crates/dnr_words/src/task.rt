@@ -3,7 +3,7 @@ ghost use Rattle.std.specs.Prelude.{◌≡◌, map, option_map, string_bytes};
 ghost use Rattle.session_spec.specs.Words as spec;
 ghost use Rattle.dnr_words.specs.Seen.{task_seen};
 
-use crate::names::{is_file_name, kind_named};
+use crate::names::{is_file_name, is_page_host, kind_named};
 use crate::sample::{Sample, read_sample};
 use crate::serving::{Serving, serving_in};
 use rule_spec::RuleKind;
@@ -21,6 +21,10 @@ pub enum Task<'a> {
     Serve(Serving<'a>),
     /// `sample SEED RULES REQUESTS UPDATES`: a session that is made from a number.
     Sample(Sample),
+    /// `hide LIST HOST`: the file of the filter list, and the host of the page.
+    Hide(&'a str, &'a str),
+    /// `prune RULES`: the file of the rules.
+    Prune(&'a str),
 }
 
 /// The command that the words after the program's name say, if they say one. It takes no memory.
@@ -34,6 +38,8 @@ pub fn read_words(words: &[String]) -> Option<Task<'_>>
         "compile" => compile_in(words),
         "serve" => serving_in(words).map(Task::Serve),
         "sample" => sample_in(words),
+        "hide" => hide_in(words),
+        "prune" => prune_in(words),
         _ => None,
     }
 }
@@ -74,6 +80,34 @@ fn compile_in(words: &[String]) -> Option<Task<'_>>
     let list = list.as_str();
     if is_file_name(list) {
         Some(Task::Compile(list))
+    } else {
+        None
+    }
+}
+
+fn hide_in(words: &[String]) -> Option<Task<'_>>
+    ensures { option_map task_seen result ≡ spec.hide_of (map string_bytes words.now) }
+{
+    let [list, host] = words else {
+        return None;
+    };
+    let (list, host) = (list.as_str(), host.as_str());
+    if is_file_name(list) && is_page_host(host) {
+        Some(Task::Hide(list, host))
+    } else {
+        None
+    }
+}
+
+fn prune_in(words: &[String]) -> Option<Task<'_>>
+    ensures { option_map task_seen result ≡ spec.prune_of (map string_bytes words.now) }
+{
+    let [rules] = words else {
+        return None;
+    };
+    let rules = rules.as_str();
+    if is_file_name(rules) {
+        Some(Task::Prune(rules))
     } else {
         None
     }

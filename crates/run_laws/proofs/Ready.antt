@@ -12,15 +12,19 @@ use Rattle.rule_spec.specs.Rule.{Rule}
 use Rattle.list_spec.specs.LineKind as lists
 use Rattle.json_spec.specs.RulesFile.{FileRefusal, max_file}
 use Rattle.compile_spec.specs.Compiled.{CompiledRule, max_compiled, compiled}
+use Rattle.hide_spec.specs.Hidden.{hiding_lines, max_hiding}
+use Rattle.prune_spec.specs.Pruned.{max_rules}
 use Rattle.compile_spec.specs.Installed.{new_list}
 use Rattle.update_spec.specs.Update.{NewRuleSet, NewExtension}
 use Rattle.load_spec.specs.Manifest.{Resource, Manifest}
 use Rattle.load_spec.specs.Files.{Files, HoldsLongFile, HoldsRules, BreaksForm, StopsAtHost}
 use Rattle.load_spec.specs.Extensions.{file_in, manifest_name, set_of, extension_of, HoldsSet, HoldsManifest, HoldsExtension, EndsAtOne, RefusedFile, BreaksSet, RefusesExtension, HasLongFile}
 use Rattle.session_spec.specs.Refusals.{too_many_rules, host_failed, ListRefusal}
-use Rattle.session_spec.specs.Words.{Installed, folder, list, Task, match_files, check_file, compile_file, serve_script, make_sample}
+use Rattle.session_spec.specs.Words.{Installed, folder, list, Task, match_files, check_file, compile_file, serve_script, make_sample, hide_page, prune_file}
 use Rattle.session_spec.specs.Loading.{PrintsRefusedRules, HoldsList, IsRefusedList, PrintsRefusedList, Reads, Refuses, IsTooLong, ReadsSuffixes, RefusesSuffixes, IsLongSuffixFile, Loaded}
 use Rattle.session_spec.specs.Out.{Outside, HostRose, Session, of_rules, of_words, LoadsFor, loaded_with, Opens, HoldsScript, HoldsTooMuch, RefusesSession, RefusesFileOf, HasLongFileOf, IsCounted, IsCompiled, in_rounds, at_once, EndsBy, EndsFor}
+use Rattle.session_spec.specs.Hiding.{IsHidden, HidesTooMuch}
+use Rattle.session_spec.specs.Pruning.{IsPruned, HasTooManyRules, RefusesPruning}
 use Rattle.session_spec.specs.Sample.{IsSampled}
 use Rattle.run_laws.specs.Ready.{SessionIsReady, IsReady}
 use Rattle.run_laws.specs.Laws.{CommandsComplete}
@@ -129,6 +133,19 @@ list_holds files rose name line bytes rules calm held refused =
     few_enough rose bytes rules refused.refusal calm held.few held.same
     (subst (λ (bs : List ℕ). IsRefusedList rose bs refused.refusal) (same_file files name refused.cause.bytes bytes refused.cause.file.held held.file.held) refused.cause.refused)
 
+-- ---- element hiding
+
+hiding_holds : (files : Files) (name line bytes : List ℕ) → files name ≡ Some bytes → length (hiding_lines (lists.lines_of bytes)) ≤ max_hiding → HidesTooMuch files name line → ⊥
+hiding_holds files name line bytes held few refused =
+    omega (arith, few, refused.beyond, ap (λ (bs : List ℕ). length (hiding_lines (lists.lines_of bs))) (same_file files name bytes refused.bytes held refused.file.held))
+
+-- ---- pruning
+
+pruning_holds : (files : Files) (rose : Type 0) (name line : List ℕ) (rules : List Rule) → (rose → ⊥) → HoldsRules files Static name rules → length rules ≤ max_rules → RefusesPruning files rose name line → ⊥
+pruning_holds files rose name line rules calm held few (inl refused) = forms_hold files rose Static name refused.refusal rules calm held refused.broken
+pruning_holds files rose name line rules calm held few (inr refused) =
+    omega (arith, few, refused.beyond, ap (λ (rs : List Rule). length rs) (same_rules files Static name rules refused.rules held refused.loaded))
+
 -- ---- what a session reads
 
 installed_holds : (files : Files) (rose : Type 0) (line : List ℕ) → (rose → ⊥) → (one : Installed) (extension : NewExtension) → Reads files one extension → Refuses files rose line one → ⊥
@@ -205,6 +222,14 @@ task_completes (compile_file name) files outside ended written shelf sink calm r
 task_completes (serve_script serving) files outside ended written shelf sink calm ready ends = session_completes files outside (of_words serving) serving.script ended written shelf sink calm ready ends
 task_completes (make_sample sample) files outside ended written shelf sink calm ready ends =
     at_once_completes outside (IsSampled sample) (λ written. ⊥) ⊥ ended written shelf sink (λ line refused. refused) (λ long. long) ends
+task_completes (hide_page name host) files outside ended written shelf sink calm ready ends =
+    at_once_completes outside (IsHidden files name host) (HidesTooMuch files name) (HoldsLongFile files name) ended written shelf sink
+    (λ line refused. hiding_holds files name line ready.bytes ready.file.held ready.few refused)
+    (λ long. not_long files name ready.bytes ready.file.held ready.file.short long) ends
+task_completes (prune_file name) files outside ended written shelf sink calm ready ends =
+    at_once_completes outside (IsPruned files name) (RefusesPruning files (HostRose outside 0) name) (HoldsLongFile files name) ended written shelf sink
+    (λ line refused. pruning_holds files (HostRose outside 0) name line ready.rules calm ready.held ready.few refused)
+    (λ long. not_long files name ready.held.file ready.held.held ready.held.short long) ends
 
 pub commands_complete : CommandsComplete
 commands_complete words files outside task ended written is shelf sink calm ready out =

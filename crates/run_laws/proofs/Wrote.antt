@@ -4,7 +4,7 @@ use Rattle.dnr_spec.specs.declared.status.Status.{Status}
 use Rattle.dnr_spec.specs.declared.status.Status.TheVariants as status
 use Rattle.load_spec.specs.Files.{Files}
 use Rattle.session_spec.specs.Out.{Outside, Session, of_rules, of_words, setting_of, ServesAll, ServesSome, RefusesSession, IsServed, IsBeginning, in_rounds, EndsBy, EndsFor}
-use Rattle.session_spec.specs.Words.{Task, match_files, check_file, compile_file, serve_script, make_sample, task_of}
+use Rattle.session_spec.specs.Words.{Task, match_files, check_file, compile_file, serve_script, make_sample, hide_page, prune_file, task_of}
 use Rattle.run_laws.specs.Wrote.{IsSession, IsHistoryOf, Meanwhile, Wrote}
 use Rattle.run_laws.specs.Laws.{SessionsAreHistories}
 use Rattle.run_laws.proofs.History.{one_history}
@@ -55,6 +55,8 @@ wrote_for (Some (compile_file file)) files outside ended written session name is
 wrote_for (Some (serve_script serving)) files outside ended written session name is ends =
     rw (is.0, is.1) (wrote_by files outside (of_words serving) serving.script ended written ends)
 wrote_for (Some (make_sample sample)) files outside ended written session name is ends = absurd is
+wrote_for (Some (hide_page file host)) files outside ended written session name is ends = absurd is
+wrote_for (Some (prune_file file)) files outside ended written session name is ends = absurd is
 
 pub sessions_are_histories : SessionsAreHistories
 sessions_are_histories words files outside ended written session name is out = wrote_for (task_of words) files outside ended written session name is out

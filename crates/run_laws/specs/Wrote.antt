@@ -8,7 +8,7 @@ use Rattle.load_spec.specs.Files.{Files}
 use Rattle.session_spec.specs.Loading.{Loaded}
 use Rattle.session_spec.specs.Out.{Outside, Session, of_rules, of_words, setting_of, HasLongFileOf, HoldsScript, HoldsTooMuch, HoldsGiven, HasStarted, HasNotStarted, RefusesSession, Opens, IsBeginning}
 use Rattle.session_spec.specs.Rounds.{rounds_of, whole_rounds_of, short_lines, ended_lines}
-use Rattle.session_spec.specs.Words.{Task, match_files, check_file, compile_file, serve_script, make_sample}
+use Rattle.session_spec.specs.Words.{Task, match_files, check_file, compile_file, serve_script, make_sample, hide_page, prune_file}
 use Rattle.run_laws.specs.History.{IsHistory}
 
 -- the command is this session, and its script has this name
@@ -19,6 +19,8 @@ IsSession (Some (check_file kind file)) session name = ⊥
 IsSession (Some (compile_file file)) session name = ⊥
 IsSession (Some (serve_script serving)) session name = (session ≡ of_words serving) × (name ≡ serving.script)
 IsSession (Some (make_sample sample)) session name = ⊥
+IsSession (Some (hide_page file host)) session name = ⊥
+IsSession (Some (prune_file file)) session name = ⊥
 
 -- ---- rounds
 

@@ -4,9 +4,10 @@ use Rattle.std.specs.List.{position_from}
 use Rattle.std.specs.Str.{bytes_eq}
 use Rattle.std.specs.Str.Parse.{digits_value}
 use Rattle.std.proofs.lemmas.Bool.Decides.{nat_tests}
+use Rattle.hide_spec.specs.Hidden.{is_page_host}
 use Rattle.rule_spec.specs.declared.rule_kind.RuleKind.{RuleKind}
 use Rattle.session_spec.specs.Out.{hosts_needed}
-use Rattle.session_spec.specs.Words.{Installed, folder, list, Task, check_file, Choice, Choices, workers_of, suffixes_in, install, is_file_name, is_number, kind_named, match_of, check_of, compile_of, Sample, make_sample, sample_of, list_at, is_extension_name, workers_named, choice_of, choices_of, with_choice, workers_chosen, suffixes_chosen, once, serving_with, serving_of}
+use Rattle.session_spec.specs.Words.{Installed, folder, list, Task, check_file, Choice, Choices, workers_of, suffixes_in, install, is_file_name, is_number, kind_named, match_of, check_of, compile_of, hide_of, prune_of, Sample, make_sample, sample_of, list_at, is_extension_name, workers_named, choice_of, choices_of, with_choice, workers_chosen, suffixes_chosen, once, serving_with, serving_of}
 use Rattle.session_laws.specs.Laws.{NineHostsAreEnough}
 
 abbrev Few : Option Task → Type 0
@@ -36,6 +37,17 @@ few_of_list : (words : List (List ℕ)) → Few (compile_of words)
 few_of_list [] = omega arith
 few_of_list (file ∷ []) = either_few (is_file_name file) _ _ (omega arith) (omega arith)
 few_of_list (file ∷ more ∷ words) = omega arith
+
+few_of_page : (words : List (List ℕ)) → Few (hide_of words)
+few_of_page [] = omega arith
+few_of_page (file ∷ []) = omega arith
+few_of_page (file ∷ host ∷ []) = either_few (is_file_name file && is_page_host host) _ _ (omega arith) (omega arith)
+few_of_page (file ∷ host ∷ more ∷ words) = omega arith
+
+few_of_pruning : (words : List (List ℕ)) → Few (prune_of words)
+few_of_pruning [] = omega arith
+few_of_pruning (file ∷ []) = either_few (is_file_name file) _ _ (omega arith) (omega arith)
+few_of_pruning (file ∷ more ∷ words) = omega arith
 
 few_of_sample : (sample : Option Sample) → Few (option_map make_sample sample)
 few_of_sample None = omega arith
@@ -155,4 +167,6 @@ nine_are_enough (command ∷ words) =
     (either_few (bytes_eq command (codes "check")) _ _ (few_of_check words)
     (either_few (bytes_eq command (codes "compile")) _ _ (few_of_list words)
     (either_few (bytes_eq command (codes "serve")) _ _ (few_served (choices_of words) (few_choices words))
-    (either_few (bytes_eq command (codes "sample")) _ _ (few_of_sample (sample_of words)) (omega arith)))))
+    (either_few (bytes_eq command (codes "sample")) _ _ (few_of_sample (sample_of words))
+    (either_few (bytes_eq command (codes "hide")) _ _ (few_of_page words)
+    (either_few (bytes_eq command (codes "prune")) _ _ (few_of_pruning words) (omega arith)))))))

@@ -9,5 +9,8 @@ pub mod InTurn
 pub mod Sample
 pub mod SampleExamples
 pub mod Loading
+pub mod Hiding
+pub mod Pruning
 pub mod Out
 pub mod Examples
+pub mod ToolExamples

@@ -19,10 +19,12 @@ use Rattle.update_spec.specs.Update.{NewExtension}
 use Rattle.update_spec.specs.Entries.{RefusedInstall, opening}
 use Rattle.session_spec.specs.Refusals.{install_line, count_line, unsupported_lines}
 use Rattle.session_spec.specs.Answers.{Setting, Serves}
+use Rattle.session_spec.specs.Hiding.{IsHidden, HidesTooMuch}
 use Rattle.session_spec.specs.Loading.{PrintsRefusedRules, HoldsList, PrintsRefusedList, Loaded, Loads, RefusesFile, HasLongFileIn}
+use Rattle.session_spec.specs.Pruning.{IsPruned, RefusesPruning}
 use Rattle.session_spec.specs.Rounds.{rounds_of, whole_rounds_of, short_lines, ended_lines}
 use Rattle.session_spec.specs.Sample.{IsSampled}
-use Rattle.session_spec.specs.Words.{Serving, Task, match_files, check_file, compile_file, serve_script, make_sample, task_of}
+use Rattle.session_spec.specs.Words.{Serving, Task, match_files, check_file, compile_file, serve_script, make_sample, hide_page, prune_file, task_of}
 
 -- What came from outside in a call: how often each thing had failed before it and after it, how often a file had been
 -- started that is read from first to last, and what that file has left. The first pattern host reads files and lines, and
@@ -235,6 +237,9 @@ conduct_of files outside (compile_file name) =
     at_once (IsCompiled files name) (PrintsRefusedList files (HostRose outside 0) name) (HoldsLongFile files name)
 conduct_of files outside (serve_script serving) = in_rounds files outside (of_words serving) serving.script
 conduct_of files outside (make_sample sample) = at_once (IsSampled sample) (λ written. ⊥) ⊥
+conduct_of files outside (hide_page name host) = at_once (IsHidden files name host) (HidesTooMuch files name) (HoldsLongFile files name)
+conduct_of files outside (prune_file name) =
+    at_once (IsPruned files name) (RefusesPruning files (HostRose outside 0) name) (HoldsLongFile files name)
 
 -- some first bytes of what may be written
 pub record IsBeginning (May : List ℕ → Type 0) (written : List ℕ) : Type 0 where
@@ -270,6 +275,8 @@ hosts_of_task (check_file kind name) = 2
 hosts_of_task (compile_file name) = 2
 hosts_of_task (serve_script serving) = serving.workers + 1
 hosts_of_task (make_sample sample) = 2
+hosts_of_task (hide_page name host) = 2
+hosts_of_task (prune_file name) = 2
 
 abbrev pub hosts_needed : Option Task → ℕ
 hosts_needed None = 2

@@ -4,6 +4,7 @@ use Rattle.std.specs.List.{list_all, position_from}
 use Rattle.std.specs.Str.{bytes_eq}
 use Rattle.std.specs.Str.Parse.{digits_value}
 use Rattle.dnr_spec.specs.UrlFilter.{is_digit}
+use Rattle.hide_spec.specs.Hidden.{is_page_host}
 use Rattle.rule_spec.specs.declared.rule_kind.RuleKind.{RuleKind}
 use Rattle.rule_spec.specs.declared.rule_kind.RuleKind.TheVariants.{Static, Dynamic, Session}
 
@@ -27,13 +28,16 @@ pub record Sample : Type 0 where
   pub updates : ℕ
 
 -- `match RULES REQUESTS`, `check KIND RULES`, `compile LIST`,
--- `serve [--workers N] [--psl F] [--ext NAME].. [--list NAME=F].. SCRIPT`, and `sample SEED RULES REQUESTS UPDATES`
+-- `serve [--workers N] [--psl F] [--ext NAME].. [--list NAME=F].. SCRIPT`, `sample SEED RULES REQUESTS UPDATES`,
+-- `hide LIST HOST`, and `prune RULES`
 pub data Task : Type 0 where
   match_files : List ℕ → List ℕ → Task
   check_file : RuleKind → List ℕ → Task
   compile_file : List ℕ → Task
   serve_script : Serving → Task
   make_sample : Sample → Task
+  hide_page : List ℕ → List ℕ → Task
+  prune_file : List ℕ → Task
 
 -- ---- names
 
@@ -179,6 +183,16 @@ sample_of _ = None
 abbrev pub make_sample_of : List (List ℕ) → Option Task
 make_sample_of words = option_map make_sample (sample_of words)
 
+-- ---- `hide` and `prune`
+
+abbrev pub hide_of : List (List ℕ) → Option Task
+hide_of (list ∷ host ∷ []) = if is_file_name list && is_page_host host then Some (hide_page list host) else None
+hide_of _ = None
+
+abbrev pub prune_of : List (List ℕ) → Option Task
+prune_of (rules ∷ []) = if is_file_name rules then Some (prune_file rules) else None
+prune_of _ = None
+
 -- ---- commands
 
 abbrev pub command_of : List ℕ → List (List ℕ) → Option Task
@@ -187,7 +201,9 @@ command_of command words =
     else (if bytes_eq command (codes "check") then check_of words
     else (if bytes_eq command (codes "compile") then compile_of words
     else (if bytes_eq command (codes "serve") then serve_of words
-    else (if bytes_eq command (codes "sample") then make_sample_of words else None))))
+    else (if bytes_eq command (codes "sample") then make_sample_of words
+    else (if bytes_eq command (codes "hide") then hide_of words
+    else (if bytes_eq command (codes "prune") then prune_of words else None))))))
 
 abbrev pub task_of : List (List ℕ) → Option Task
 task_of [] = None

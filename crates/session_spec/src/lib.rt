@@ -7,6 +7,7 @@ mod line_examples;
 mod reply;
 mod sample_examples;
 mod tally;
+mod tool_examples;
 
 pub use examples::{
     allow_prevails_at_equal_priority, blank_lines_count, broken_lines_are_bad, check_takes_a_kind,
@@ -30,3 +31,6 @@ pub use sample_examples::{
     words_are_those_of_pcg,
 };
 pub use tally::Tally;
+pub use tool_examples::{
+    hidden_selectors_are_listed, pruned_rules_are_listed, tools_take_their_words,
+};
