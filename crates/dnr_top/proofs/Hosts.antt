@@ -21,7 +21,8 @@ use Rattle.std.specs.Io.KnownBytes.{Appends}
 use Rattle.session_serve.specs.Position.{Position}
 use Rattle.session_serve.specs.Round.{setting_with}
 use Rattle.session_spec.specs.Words.{Task, task_of}
-use Rattle.dnr_top.specs.Run.{SaysNoLess, MayServe, MayEnd, outside}
+use Rattle.text_commands.specs.Ends.{MayEnd, outside}
+use Rattle.dnr_top.specs.Run.{SaysNoLess, MayServe}
 use Rattle.dnr_top.proofs.Tasks.{out_of}
 
 -- what rose among some hosts rose among them and others, which stay

@@ -2,6 +2,4 @@ pub mod Ended
 pub mod Asked
 pub mod Tasks
 pub mod Hosts
-pub mod Listed
-pub mod Sampled
 pub mod Fresh

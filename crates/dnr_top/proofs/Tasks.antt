@@ -16,76 +16,22 @@ use Rattle.update_spec.specs.declared.refusal.Refusal.{Refusal}
 use Rattle.rule_spec.specs.declared.rule_kind.RuleKind.{RuleKind}
 use Rattle.rule_spec.specs.declared.rule_kind.RuleKind.TheVariants.{Static}
 use Rattle.rule_spec.specs.Rule.{Rule}
-use Rattle.session_load.specs.declared.lists.CompiledList.{CompiledList}
 use Rattle.session_load.specs.declared.stop.Stop.{Stop}
 use Rattle.session_load.specs.declared.stop.Stop.TheVariants as stop
-use Rattle.session_load.specs.Lists.{HoldsCompiled}
-use Rattle.session_load.specs.Loads.{StopsInRules, StopsInList, StopsInServing}
+use Rattle.session_load.specs.Loads.{StopsInRules, StopsInServing}
 use Rattle.session_load.specs.Stops.{Prints, StopsAs}
 use Rattle.session_load.proofs.Stopped.{printed, stops_map}
 use Rattle.session_serve.specs.Serving.{EndsServing}
 use Rattle.session_serve.specs.declared.stop.ServeStop.{ServeStop}
 use Rattle.session_serve.specs.declared.stop.ServeStop.TheVariants as serve
 use Rattle.session_spec.specs.Loading.{PrintsRefusedRules, RefusesFile, HasLongFileIn, Loaded, Loads}
-use Rattle.session_spec.specs.Out.{Outside, HostRose, Session, of_rules, of_words, LoadsFor, IsCompiled, RefusesSession, HasLongFileOf, HasNotStarted, HasStarted, in_rounds, conduct_of, EndsBy, EndsFor, Out}
-use Rattle.session_spec.specs.Refusals.{install_line, count_line, unsupported_lines}
-use Rattle.session_spec.specs.Words.{Serving, Task, task_of, match_files, check_file, compile_file, serve_script}
-use Rattle.compile_spec.specs.Compiled.{CompiledRule, rules_in}
-use Rattle.compile_spec.specs.Report.{report}
-use Rattle.compile_spec.specs.declared.reported.Reported.{Reported}
-use Rattle.json_spec.specs.Written.{written as json_text}
-use Rattle.list_spec.specs.LineKind as list
-use Rattle.dnr_top.specs.Run.{IsRun, EndsStop, EndsWith, IsOpened, PrintsInstall, SaysNoLess, MayServe, MayEnd, status_of, text_of}
-use Rattle.dnr_top.proofs.Ended.{stop_ends, text_ends, served_ends, still_nothing}
-
--- ---- `check`
-
-pub check_ends : (known : Option Files) (o : Outside) (kind : RuleKind) (name : List ℕ) (rules : List Rule) (before now : Option (List ℕ)) (n : ℕ) (ended : Status)
-    → IfSome known (λ files. HoldsRules files kind name rules) → n ≡ length rules → EndsWith before now o.sink (count_line n) ended → MayEnd known (check_file kind name) o before now ended
-check_ends None o kind name rules before now n ended held same ends = tt
-check_ends (Some files) o kind name rules before now n ended held same ends =
-    text_ends o (conduct_of files o (check_file kind name)) before now (count_line n) ended
-    (record { rules = rules; loaded = held; output = ap count_line same }) (inl (record { rules = rules; loaded = held; output = ap count_line same })) ends
-
-pub check_stops : (known : Option Files) (o : Outside) (kind : RuleKind) (name : List ℕ) (before now : Option (List ℕ)) (s : Stop) (ended : Status)
-    → StopsInRules known (HostRose o 0) kind name s → (s ≡ stop.ReadFault → Rose o.shelf.before o.shelf.now) → EndsStop before now o.sink s ended → MayEnd known (check_file kind name) o before now ended
-check_stops None o kind name before now s ended why fault ends = tt
-check_stops (Some files) o kind name before now s ended why fault ends =
-    stop_ends o (conduct_of files o (check_file kind name)) (HoldsLongFile files name) before now s ended (λ line refused. inr refused) (λ long. (long, refl)) refl why fault ends
-
--- ---- `compile`
-
--- the text of a list by its rules and its report, or by its bytes
-same_text : (rules others : List Rule) (reported more : List Reported) → rules ≡ others → reported ≡ more
-    → unsupported_lines reported ++ count_line (length rules) ++ json_text rules ++ codes "\n" ≡ unsupported_lines more ++ count_line (length others) ++ json_text others ++ codes "\n"
-same_text rules others reported more same told =
-    ap (λ r. unsupported_lines r ++ count_line (length rules) ++ json_text rules ++ codes "\n") told
-    ∙ ap (λ r. unsupported_lines more ++ count_line (length r) ++ json_text r ++ codes "\n") same
-
-count_in : (all : List CompiledRule) → length (rules_in all) ≡ length all
-count_in [] = refl
-count_in (one ∷ all) = omega (arith, count_in all)
-
-compiled : (files : Files) (name : List ℕ) (l : CompiledList) → HoldsCompiled files name l → IsCompiled files name (text_of l)
-compiled files name l held = record {
-  bytes = held.bytes;
-  rules = held.compiled.all;
-  held = record { file = held.file; few = held.compiled.few; same = held.compiled.same };
-  same = same_text l.rules.items (rules_in held.compiled.all) l.report.lines (report (list.lines_of held.bytes)) held.compiled.are_rules held.compiled.is_report
-      ∙ ap (λ n. unsupported_lines (report (list.lines_of held.bytes)) ++ count_line n ++ json_text (rules_in held.compiled.all) ++ codes "\n") (count_in held.compiled.all);
-}
-
-pub compile_ends : (known : Option Files) (o : Outside) (name : List ℕ) (l : CompiledList) (before now : Option (List ℕ)) (ended : Status)
-    → IfSome known (λ files. HoldsCompiled files name l) → EndsWith before now o.sink (text_of l) ended → MayEnd known (compile_file name) o before now ended
-compile_ends None o name l before now ended held ends = tt
-compile_ends (Some files) o name l before now ended held ends =
-    text_ends o (conduct_of files o (compile_file name)) before now (text_of l) ended (compiled files name l held) (inl (compiled files name l held)) ends
-
-pub compile_stops : (known : Option Files) (o : Outside) (name : List ℕ) (before now : Option (List ℕ)) (s : Stop) (ended : Status)
-    → StopsInList known (HostRose o 0) name s → (s ≡ stop.ReadFault → Rose o.shelf.before o.shelf.now) → EndsStop before now o.sink s ended → MayEnd known (compile_file name) o before now ended
-compile_stops None o name before now s ended why fault ends = tt
-compile_stops (Some files) o name before now s ended why fault ends =
-    stop_ends o (conduct_of files o (compile_file name)) (HoldsLongFile files name) before now s ended (λ line refused. inr refused) (λ long. (long, refl)) refl why fault ends
+use Rattle.session_spec.specs.Out.{Outside, HostRose, Session, of_rules, of_words, LoadsFor, RefusesSession, HasLongFileOf, HasNotStarted, HasStarted, in_rounds, conduct_of, EndsBy, EndsFor, Out}
+use Rattle.session_spec.specs.Refusals.{install_line}
+use Rattle.session_spec.specs.Words.{Serving, Task, task_of, match_files, serve_script}
+use Rattle.text_commands.specs.Ends.{IsRun, EndsStop, MayEnd}
+use Rattle.text_commands.proofs.Ended.{stop_ends, still_nothing}
+use Rattle.dnr_top.specs.Run.{IsOpened, PrintsInstall, SaysNoLess, MayServe, status_of}
+use Rattle.dnr_top.proofs.Ended.{served_ends}
 
 -- ---- sessions
 

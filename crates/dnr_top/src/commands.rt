@@ -6,27 +6,22 @@ ghost use Rattle.dnr_base.specs.Faults.{Rose};
 ghost use Rattle.session_laws.specs.Turns.{NoneFell};
 ghost use Rattle.session_load.specs.Asked.{MayAskServing};
 ghost use Rattle.session_spec.specs.Out.{Out, hosts_needed};
-ghost use Rattle.session_spec.specs.Words.{match_files, check_file, compile_file, serve_script, task_of};
-ghost use Rattle.session_spec.specs.Refusals.{count_line};
+ghost use Rattle.session_spec.specs.Words.{match_files, serve_script, task_of};
+ghost use Rattle.text_commands.specs.Ends.{MayEnd, count, outside};
 ghost use Rattle.dnr_top.specs.Asked.{MayAskFor};
-ghost use Rattle.dnr_top.specs.Run as run;
-ghost use Rattle.dnr_top.specs.Run.{EndsWith, MayEnd, count, outside};
 
-use crate::compiling::text_of;
-use crate::ending::{stop_with, write_to_end};
-use crate::sampling::make_sample;
 use crate::session::serve;
-use dnr_base::NoMemory;
 use dnr_io::{Shelf, Sink, Status};
 use dnr_words::{Serving, Task, read_words};
-use explain_report::write_count;
 use lookup_pool::Gate;
 use regex_host::RegexHost;
-use rule_spec::RuleKind;
-use session_load::{CompiledList, load_list, load_local, load_rules, load_serving};
+use session_load::{load_local, load_serving};
 use std::alloc::Global;
 use std::sync::Wait;
 use std::thread::Threads;
+use text_commands::{
+    check_rules, compile_list, hide_page, make_sample, prune_rules, stop_with,
+};
 
 // How many workers words may name.
 const MOST_WORKERS: usize = 8;
@@ -42,6 +37,9 @@ const MOST_WORKERS: usize = 8;
 /// - `serve [--workers N] [--psl F] [--ext NAME].. [--list NAME=F].. SCRIPT` installs extensions and filter lists, and
 ///   serves the file SCRIPT: its requests are answered, its updates applied, round by round.
 /// - `sample SEED RULES REQUESTS UPDATES` holds a session that is made from the number SEED, and sums it up.
+/// - `hide LIST HOST` reads the filter list LIST and prints the selectors that a page of HOST hides.
+/// - `prune RULES` reads the static rules of the file RULES and prints those that are left where each that another rule
+///   makes needless is left out.
 ///
 /// Seats answer the requests of `serve`, each in a thread of its own, beside the updates of their round. The gate is told
 /// of each request before a seat decides it, and of each update after it was served.
@@ -85,14 +83,14 @@ pub fn run<R: Threads + Wait + Sync, F: Shelf, O: Sink, H: RegexHost + Send, G: 
         Some(Task::Match(rules, script)) => {
             match_requests(rt, alloc, rules, script, shelf, out, checker, finders, gate)
         }
-        Some(Task::Check(kind, rules)) => {
-            check_rules(alloc, kind, rules, shelf, out, checker, finders)
-        }
-        Some(Task::Compile(list)) => compile_list(alloc, list, shelf, out, checker, finders),
+        Some(Task::Check(kind, rules)) => check_rules(alloc, kind, rules, shelf, out, checker),
+        Some(Task::Compile(list)) => compile_list(alloc, list, shelf, out, checker),
         Some(Task::Serve(serving)) => {
             serve_script(rt, alloc, &serving, shelf, out, checker, finders, gate)
         }
         Some(Task::Sample(sample)) => make_sample(alloc, &sample, out),
+        Some(Task::Hide(list, host)) => hide_page(alloc, list, host, shelf, out),
+        Some(Task::Prune(rules)) => prune_rules(alloc, rules, shelf, out, checker),
         None => Status::Usage,
     }
 }
@@ -172,81 +170,5 @@ fn serve_script<R: Threads + Wait + Sync, F: Shelf, O: Sink, H: RegexHost + Send
             gate,
         ),
         Err(stop) => stop_with(&stop, out),
-    }
-}
-
-fn check_rules<F: Shelf, O: Sink, H: RegexHost>(
-    alloc: Global,
-    kind: RuleKind,
-    name: &str,
-    shelf: &mut F,
-    out: &mut O,
-    checker: &mut H,
-    _finders: &mut [H],
-) -> Status
-    requires { F.allows name.now }
-    ensures no_usage { result ≢ Status.Usage }
-    ensures allowed { MayEnd (F.Source.files shelf.old) (check_file kind name.now)
-        (outside (count (F.Source.faults shelf.old) (F.Source.faults shelf.new))
-        (count (F.Source.starts shelf.old) (F.Source.starts shelf.new)) (count (O.faults out.old) (O.faults out.new))
-        (H.faults checker.old ∷ map H.faults _finders.old) (H.faults checker.new ∷ map H.faults _finders.new)
-        (F.Source.left shelf.new))
-        (O.taken out.old) (O.taken out.new) result }
-    ensures later { NoneFell (H.faults checker.old ∷ map H.faults _finders.old) (H.faults checker.new ∷ map H.faults _finders.new) }
-    ensures read_fault { result ≡ Status.ReadFault → Rose (F.Source.faults shelf.old) (F.Source.faults shelf.new) }
-    ensures write_fault { result ≡ Status.WriteFault → Rose (O.faults out.old) (O.faults out.new) }
-{
-    match load_rules(alloc, name, kind, shelf, checker) {
-        Ok(rules) => count_rules(alloc, rules.len(), out),
-        Err(stop) => stop_with(&stop, out),
-    }
-}
-
-fn compile_list<F: Shelf, O: Sink, H: RegexHost>(
-    alloc: Global,
-    name: &str,
-    shelf: &mut F,
-    out: &mut O,
-    checker: &mut H,
-    _finders: &mut [H],
-) -> Status
-    requires { F.allows name.now }
-    ensures no_usage { result ≢ Status.Usage }
-    ensures allowed { MayEnd (F.Source.files shelf.old) (compile_file name.now)
-        (outside (count (F.Source.faults shelf.old) (F.Source.faults shelf.new))
-        (count (F.Source.starts shelf.old) (F.Source.starts shelf.new)) (count (O.faults out.old) (O.faults out.new))
-        (H.faults checker.old ∷ map H.faults _finders.old) (H.faults checker.new ∷ map H.faults _finders.new)
-        (F.Source.left shelf.new))
-        (O.taken out.old) (O.taken out.new) result }
-    ensures later { NoneFell (H.faults checker.old ∷ map H.faults _finders.old) (H.faults checker.new ∷ map H.faults _finders.new) }
-    ensures read_fault { result ≡ Status.ReadFault → Rose (F.Source.faults shelf.old) (F.Source.faults shelf.new) }
-    ensures write_fault { result ≡ Status.WriteFault → Rose (O.faults out.old) (O.faults out.new) }
-{
-    match load_list(alloc, name, shelf, checker) {
-        Ok(list) => print_list(alloc, &list, out),
-        Err(stop) => stop_with(&stop, out),
-    }
-}
-
-// Writes how many rules a file has, and says how the run ends.
-fn count_rules<O: Sink>(alloc: Global, rules: usize, out: &mut O) -> Status
-    ensures { EndsWith (O.taken out.old) (O.taken out.new)
-        (count (O.faults out.old) (O.faults out.new)) (count_line rules) result }
-{
-    let mut text = String::new(alloc);
-    match write_count(alloc, rules, &mut text) {
-        Ok(()) => write_to_end(text.as_bytes(), Status::Done, out),
-        Err(NoMemory) => Status::NoMemory,
-    }
-}
-
-// Writes a compiled list, and says how the run ends.
-fn print_list<O: Sink>(alloc: Global, list: &CompiledList, out: &mut O) -> Status
-    ensures { EndsWith (O.taken out.old) (O.taken out.new)
-        (count (O.faults out.old) (O.faults out.new)) (run.text_of list.now) result }
-{
-    match text_of(alloc, list) {
-        Ok(text) => write_to_end(&text, Status::Done, out),
-        Err(NoMemory) => Status::NoMemory,
     }
 }

@@ -2,9 +2,6 @@
 #![tactic(auto)]
 
 mod commands;
-mod compiling;
-mod ending;
-mod sampling;
 mod session;
 
 pub use commands::run;

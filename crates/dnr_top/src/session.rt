@@ -6,9 +6,9 @@ ghost use Rattle.session_laws.specs.Turns.{NoneFell, counts_between};
 ghost use Rattle.session_serve.specs.Round.{setting_with};
 ghost use Rattle.session_serve.specs.Serving.{EndsServing};
 ghost use Rattle.session_spec.specs.Refusals.{install_line};
-ghost use Rattle.dnr_top.specs.Run.{IsOpened, MayServe, PrintsInstall, count, outside, status_of};
+ghost use Rattle.text_commands.specs.Ends.{count, outside};
+ghost use Rattle.dnr_top.specs.Run.{IsOpened, MayServe, PrintsInstall, status_of};
 
-use crate::ending::stop_with;
 use dnr_base::NoMemory;
 use dnr_io::{Shelf, Sink, Source, Status};
 use explain_report::write_install_refusal;
@@ -21,6 +21,7 @@ use session_serve::{ServeStop, Session, serve_lines};
 use std::alloc::Global;
 use std::sync::Wait;
 use std::thread::Threads;
+use text_commands::stop_with;
 use update_spec::Refusal;
 
 /// Installs what was loaded, and serves the script with so many of the finders, each for a seat beside the writer. Without

@@ -34,13 +34,14 @@ pub fn write_unsupported(
     ensures kept { OnErr result (string_bytes into.new ≡ string_bytes into.old) }
 {
     let mut text = new_line(alloc)?;
-    push_start(reported.line, reason_code(&reported.reason), &mut text)?;
+    push_unsupported(reported.line, reason_code(&reported.reason), &mut text)?;
     push_name_field(alloc, option_at_fault(&reported.reason), &mut text)?;
     push_word("}\n", &mut text)?;
     append(&text, into)
 }
 
-fn push_start(line: u32, code: &str, into: &mut String) -> Result<(), NoMemory>
+// How the line begins that says so of a line of a list.
+pub(crate) fn push_unsupported(line: u32, code: &str, into: &mut String) -> Result<(), NoMemory>
     ensures { OnOk result (string_bytes into.new
         ≡ string_bytes into.old ++ (codes "{\"line\":" ++ (decimal line
         ++ (codes ",\"unsupported\":\"" ++ (code.now ++ codes "\""))))) }

@@ -1,6 +1,6 @@
 use Rattle.std.proofs.Common.{ℕ, ◌∷◌, map, ap, sym, Err, refl}
 use Rattle.session_laws.proofs.Rises.{none_fell_yet}
-use Rattle.dnr_top.specs.Run.{count, outside}
+use Rattle.text_commands.specs.Ends.{count, outside}
 use Rattle.dnr_top.proofs.Hosts.{since_before, rose_since}
 use Rattle.dnr_top.proofs.Tasks.{match_serves, match_stops}
 use Rattle.dnr_top.proofs.commands.match_requests.Goals as goal

@@ -1,11 +1,11 @@
 use Rattle.std.proofs.Common.{◌∷◌, ap, sym, subst, ◌∙◌, length, map, Some, slice_index_or, string_bytes}
 use Rattle.session_laws.proofs.Rises.{none_fell_yet}
 use Rattle.dnr_words.specs.Seen.{task_seen}
-use Rattle.session_spec.specs.Words.{match_files, check_file, compile_file, serve_script, make_sample}
+use Rattle.session_spec.specs.Words.{match_files, check_file, compile_file, serve_script, make_sample, hide_page, prune_file}
 use Rattle.dnr_top.specs.Asked.{MayAskFor}
-use Rattle.dnr_top.specs.Run.{count, outside}
+use Rattle.text_commands.specs.Ends.{count, outside}
 use Rattle.dnr_top.proofs.Hosts.{run_out, run_hosts}
-use Rattle.dnr_top.proofs.Sampled.{sample_ends}
+use Rattle.text_commands.proofs.Sampled.{sample_ends}
 use Rattle.dnr_top.proofs.Tasks.{no_command}
 use Rattle.dnr_top.proofs.commands.run.Goals as goal
 
@@ -24,29 +24,37 @@ returns-in-Some-Match-clause-hosts g c =
 
 pub returns-in-Some-Check-clause-allowed : goal.returns-in-Some-Check-clause-allowed
 returns-in-Some-Check-clause-allowed g c =
-    run_out g.H.RegexHost.faults (g.F.Source.files c.args.shelf.now) c.args.hosts.now.items c.split_at_mut-checkers.result.0.now c.split_at_mut-checkers.result.1.now c.check_rules.new._finders _
+    let back = c.split_at_mut-checkers.result.1.now in
+    run_out g.H.RegexHost.faults (g.F.Source.files c.args.shelf.now) c.args.hosts.now.items c.split_at_mut-checkers.result.0.now back back _
     c.index-checkers-0.result c.check_rules.new.checker (count (g.F.Source.faults c.args.shelf.now) (g.F.Source.faults c.check_rules.new.shelf)) (count (g.F.Source.starts c.args.shelf.now) (g.F.Source.starts c.check_rules.new.shelf)) (count (g.O.Sink.faults c.args.out.now) (g.O.Sink.faults c.check_rules.new.out))
     (g.F.Source.left c.check_rules.new.shelf) (map string_bytes c.args.words.now) (check_file c.in-Some-Check.kind c.in-Some-Check.rules.now) (g.O.Sink.taken c.args.out.now) (g.O.Sink.taken c.check_rules.new.out) c.check_rules.result
-    (sym (ap length c.deref_mut.ensures.value) ∙ c.deref_mut.ensures.len) (sym c.deref_mut.ensures.value ∙ c.split_at_mut-checkers.ensures.value) c.split_at_mut-checkers.ensures.front_len c.check_rules.ensures.later
-    (sym c.in-Some-Check.ensures ∙ ap (λ t. Some (task_seen t)) c.in-Some-Check.field-0-is) c.check_rules.ensures.allowed
+    (sym (ap length c.deref_mut.ensures.value) ∙ c.deref_mut.ensures.len) (sym c.deref_mut.ensures.value ∙ c.split_at_mut-checkers.ensures.value) c.split_at_mut-checkers.ensures.front_len
+    (c.check_rules.ensures.later, none_fell_yet (map g.H.RegexHost.faults back))
+    (sym c.in-Some-Check.ensures ∙ ap (λ t. Some (task_seen t)) c.in-Some-Check.field-0-is) (c.check_rules.ensures.allowed (map g.H.RegexHost.faults back))
 
 pub returns-in-Some-Check-clause-hosts : goal.returns-in-Some-Check-clause-hosts
 returns-in-Some-Check-clause-hosts g c =
-    run_hosts g.H.RegexHost.faults c.args.hosts.now.items c.split_at_mut-checkers.result.0.now c.split_at_mut-checkers.result.1.now c.check_rules.new._finders _
-    c.index-checkers-0.result c.check_rules.new.checker (sym (ap length c.deref_mut.ensures.value) ∙ c.deref_mut.ensures.len) (sym c.deref_mut.ensures.value ∙ c.split_at_mut-checkers.ensures.value) c.split_at_mut-checkers.ensures.front_len c.check_rules.ensures.later
+    let back = c.split_at_mut-checkers.result.1.now in
+    run_hosts g.H.RegexHost.faults c.args.hosts.now.items c.split_at_mut-checkers.result.0.now back back _
+    c.index-checkers-0.result c.check_rules.new.checker (sym (ap length c.deref_mut.ensures.value) ∙ c.deref_mut.ensures.len) (sym c.deref_mut.ensures.value ∙ c.split_at_mut-checkers.ensures.value) c.split_at_mut-checkers.ensures.front_len
+    (c.check_rules.ensures.later, none_fell_yet (map g.H.RegexHost.faults back))
 
 pub returns-in-Some-Compile-clause-allowed : goal.returns-in-Some-Compile-clause-allowed
 returns-in-Some-Compile-clause-allowed g c =
-    run_out g.H.RegexHost.faults (g.F.Source.files c.args.shelf.now) c.args.hosts.now.items c.split_at_mut-checkers.result.0.now c.split_at_mut-checkers.result.1.now c.compile_list.new._finders _
+    let back = c.split_at_mut-checkers.result.1.now in
+    run_out g.H.RegexHost.faults (g.F.Source.files c.args.shelf.now) c.args.hosts.now.items c.split_at_mut-checkers.result.0.now back back _
     c.index-checkers-0.result c.compile_list.new.checker (count (g.F.Source.faults c.args.shelf.now) (g.F.Source.faults c.compile_list.new.shelf)) (count (g.F.Source.starts c.args.shelf.now) (g.F.Source.starts c.compile_list.new.shelf)) (count (g.O.Sink.faults c.args.out.now) (g.O.Sink.faults c.compile_list.new.out))
     (g.F.Source.left c.compile_list.new.shelf) (map string_bytes c.args.words.now) (compile_file c.in-Some-Compile.list.now) (g.O.Sink.taken c.args.out.now) (g.O.Sink.taken c.compile_list.new.out) c.compile_list.result
-    (sym (ap length c.deref_mut.ensures.value) ∙ c.deref_mut.ensures.len) (sym c.deref_mut.ensures.value ∙ c.split_at_mut-checkers.ensures.value) c.split_at_mut-checkers.ensures.front_len c.compile_list.ensures.later
-    (sym c.in-Some-Compile.ensures ∙ ap (λ t. Some (task_seen t)) c.in-Some-Compile.field-0-is) c.compile_list.ensures.allowed
+    (sym (ap length c.deref_mut.ensures.value) ∙ c.deref_mut.ensures.len) (sym c.deref_mut.ensures.value ∙ c.split_at_mut-checkers.ensures.value) c.split_at_mut-checkers.ensures.front_len
+    (c.compile_list.ensures.later, none_fell_yet (map g.H.RegexHost.faults back))
+    (sym c.in-Some-Compile.ensures ∙ ap (λ t. Some (task_seen t)) c.in-Some-Compile.field-0-is) (c.compile_list.ensures.allowed (map g.H.RegexHost.faults back))
 
 pub returns-in-Some-Compile-clause-hosts : goal.returns-in-Some-Compile-clause-hosts
 returns-in-Some-Compile-clause-hosts g c =
-    run_hosts g.H.RegexHost.faults c.args.hosts.now.items c.split_at_mut-checkers.result.0.now c.split_at_mut-checkers.result.1.now c.compile_list.new._finders _
-    c.index-checkers-0.result c.compile_list.new.checker (sym (ap length c.deref_mut.ensures.value) ∙ c.deref_mut.ensures.len) (sym c.deref_mut.ensures.value ∙ c.split_at_mut-checkers.ensures.value) c.split_at_mut-checkers.ensures.front_len c.compile_list.ensures.later
+    let back = c.split_at_mut-checkers.result.1.now in
+    run_hosts g.H.RegexHost.faults c.args.hosts.now.items c.split_at_mut-checkers.result.0.now back back _
+    c.index-checkers-0.result c.compile_list.new.checker (sym (ap length c.deref_mut.ensures.value) ∙ c.deref_mut.ensures.len) (sym c.deref_mut.ensures.value ∙ c.split_at_mut-checkers.ensures.value) c.split_at_mut-checkers.ensures.front_len
+    (c.compile_list.ensures.later, none_fell_yet (map g.H.RegexHost.faults back))
 
 pub returns-in-Some-Serve-clause-allowed : goal.returns-in-Some-Serve-clause-allowed
 returns-in-Some-Serve-clause-allowed g c =
@@ -84,6 +92,42 @@ returns-in-Some-Sample-clause-hosts g c =
     (sym (ap length c.deref_mut.ensures.value) ∙ c.deref_mut.ensures.len) (sym c.deref_mut.ensures.value ∙ c.split_at_mut-checkers.ensures.value) c.split_at_mut-checkers.ensures.front_len
     (none_fell_yet (g.H.RegexHost.faults (slice_index_or c.split_at_mut-checkers.result.0.now 0 c.index-checkers-0.result) ∷ map g.H.RegexHost.faults c.split_at_mut-checkers.result.1.now))
 
+pub returns-in-Some-Hide-clause-allowed : goal.returns-in-Some-Hide-clause-allowed
+returns-in-Some-Hide-clause-allowed g c =
+    let front = c.split_at_mut-checkers.result.0.now in
+    let back = c.split_at_mut-checkers.result.1.now in
+    let first = slice_index_or front 0 c.index-checkers-0.result in
+    let faults = g.H.RegexHost.faults first ∷ map g.H.RegexHost.faults back in
+    run_out g.H.RegexHost.faults (g.F.Source.files c.args.shelf.now) c.args.hosts.now.items front back back _ c.index-checkers-0.result first
+    (count (g.F.Source.faults c.args.shelf.now) (g.F.Source.faults c.hide_page.new.shelf)) (count (g.F.Source.starts c.args.shelf.now) (g.F.Source.starts c.hide_page.new.shelf)) (count (g.O.Sink.faults c.args.out.now) (g.O.Sink.faults c.hide_page.new.out))
+    (g.F.Source.left c.hide_page.new.shelf) (map string_bytes c.args.words.now) (hide_page c.in-Some-Hide.list.now c.in-Some-Hide.host.now) (g.O.Sink.taken c.args.out.now) (g.O.Sink.taken c.hide_page.new.out) c.hide_page.result
+    (sym (ap length c.deref_mut.ensures.value) ∙ c.deref_mut.ensures.len) (sym c.deref_mut.ensures.value ∙ c.split_at_mut-checkers.ensures.value) c.split_at_mut-checkers.ensures.front_len (none_fell_yet faults)
+    (sym c.in-Some-Hide.ensures ∙ ap (λ t. Some (task_seen t)) c.in-Some-Hide.field-0-is) (c.hide_page.ensures.allowed faults)
+
+pub returns-in-Some-Hide-clause-hosts : goal.returns-in-Some-Hide-clause-hosts
+returns-in-Some-Hide-clause-hosts g c =
+    run_hosts g.H.RegexHost.faults c.args.hosts.now.items c.split_at_mut-checkers.result.0.now c.split_at_mut-checkers.result.1.now c.split_at_mut-checkers.result.1.now _
+    c.index-checkers-0.result (slice_index_or c.split_at_mut-checkers.result.0.now 0 c.index-checkers-0.result)
+    (sym (ap length c.deref_mut.ensures.value) ∙ c.deref_mut.ensures.len) (sym c.deref_mut.ensures.value ∙ c.split_at_mut-checkers.ensures.value) c.split_at_mut-checkers.ensures.front_len
+    (none_fell_yet (g.H.RegexHost.faults (slice_index_or c.split_at_mut-checkers.result.0.now 0 c.index-checkers-0.result) ∷ map g.H.RegexHost.faults c.split_at_mut-checkers.result.1.now))
+
+pub returns-in-Some-Prune-clause-allowed : goal.returns-in-Some-Prune-clause-allowed
+returns-in-Some-Prune-clause-allowed g c =
+    let back = c.split_at_mut-checkers.result.1.now in
+    run_out g.H.RegexHost.faults (g.F.Source.files c.args.shelf.now) c.args.hosts.now.items c.split_at_mut-checkers.result.0.now back back _
+    c.index-checkers-0.result c.prune_rules.new.checker (count (g.F.Source.faults c.args.shelf.now) (g.F.Source.faults c.prune_rules.new.shelf)) (count (g.F.Source.starts c.args.shelf.now) (g.F.Source.starts c.prune_rules.new.shelf)) (count (g.O.Sink.faults c.args.out.now) (g.O.Sink.faults c.prune_rules.new.out))
+    (g.F.Source.left c.prune_rules.new.shelf) (map string_bytes c.args.words.now) (prune_file c.in-Some-Prune.rules.now) (g.O.Sink.taken c.args.out.now) (g.O.Sink.taken c.prune_rules.new.out) c.prune_rules.result
+    (sym (ap length c.deref_mut.ensures.value) ∙ c.deref_mut.ensures.len) (sym c.deref_mut.ensures.value ∙ c.split_at_mut-checkers.ensures.value) c.split_at_mut-checkers.ensures.front_len
+    (c.prune_rules.ensures.later, none_fell_yet (map g.H.RegexHost.faults back))
+    (sym c.in-Some-Prune.ensures ∙ ap (λ t. Some (task_seen t)) c.in-Some-Prune.field-0-is) (c.prune_rules.ensures.allowed (map g.H.RegexHost.faults back))
+
+pub returns-in-Some-Prune-clause-hosts : goal.returns-in-Some-Prune-clause-hosts
+returns-in-Some-Prune-clause-hosts g c =
+    let back = c.split_at_mut-checkers.result.1.now in
+    run_hosts g.H.RegexHost.faults c.args.hosts.now.items c.split_at_mut-checkers.result.0.now back back _
+    c.index-checkers-0.result c.prune_rules.new.checker (sym (ap length c.deref_mut.ensures.value) ∙ c.deref_mut.ensures.len) (sym c.deref_mut.ensures.value ∙ c.split_at_mut-checkers.ensures.value) c.split_at_mut-checkers.ensures.front_len
+    (c.prune_rules.ensures.later, none_fell_yet (map g.H.RegexHost.faults back))
+
 pub returns-in-None-clause-allowed : goal.returns-in-None-clause-allowed
 returns-in-None-clause-allowed g c =
     no_command (g.F.Source.files c.args.shelf.now) _ (map string_bytes c.args.words.now) (g.O.Sink.taken c.args.out.now) (sym c.in-None.ensures)
@@ -106,3 +150,9 @@ check_rules-requires g c = subst (MayAskFor g.F.Shelf.allows (g.F.Source.files c
 
 pub compile_list-requires : goal.compile_list-requires
 compile_list-requires g c = subst (MayAskFor g.F.Shelf.allows (g.F.Source.files c.args.shelf.now)) (sym c.in-Some-Compile.ensures ∙ ap (λ t. Some (task_seen t)) c.in-Some-Compile.field-0-is) c.requires.names
+
+pub hide_page-requires-clause-names : goal.hide_page-requires-clause-names
+hide_page-requires-clause-names g c κs within = subst (MayAskFor g.F.Shelf.allows (g.F.Source.files c.args.shelf.now)) (sym c.in-Some-Hide.ensures ∙ ap (λ t. Some (task_seen t)) c.in-Some-Hide.field-0-is) c.requires.names
+
+pub prune_rules-requires : goal.prune_rules-requires
+prune_rules-requires g c = subst (MayAskFor g.F.Shelf.allows (g.F.Source.files c.args.shelf.now)) (sym c.in-Some-Prune.ensures ∙ ap (λ t. Some (task_seen t)) c.in-Some-Prune.field-0-is) c.requires.names

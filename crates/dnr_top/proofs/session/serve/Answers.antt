@@ -1,6 +1,6 @@
 use Rattle.std.proofs.Common.{◌∷◌, map, ap, Err, refl}
 use Rattle.session_laws.proofs.Rises.{none_fell_yet}
-use Rattle.dnr_top.specs.Run.{count, outside}
+use Rattle.text_commands.specs.Ends.{count, outside}
 use Rattle.dnr_top.proofs.Fresh.{nothing_counted}
 use Rattle.dnr_top.proofs.Hosts.{rose_since, rose_by_start}
 use Rattle.dnr_top.proofs.Tasks.{not_installed, not_started, script_served}

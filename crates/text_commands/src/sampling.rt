@@ -1,8 +1,9 @@
-//! A session that is made from a number.
+// A session that is made from a number.
 ghost use Rattle.std.specs.Prelude.{◌≡◌, ◌≢◌, IfOk, string_bytes};
 ghost use Rattle.dnr_base.specs.Faults.{Rose};
 ghost use Rattle.session_spec.specs.Sample.{IsSampled};
-ghost use Rattle.dnr_top.specs.Run.{EndsSample, count};
+ghost use Rattle.text_commands.specs.Ends.{count};
+ghost use Rattle.text_commands.specs.Texts.{EndsSample};
 
 use crate::ending::write_to_end;
 use dnr_base::NoMemory;

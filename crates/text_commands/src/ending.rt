@@ -1,6 +1,6 @@
-//! How a run ends that writes one text, or stops.
+// How a command ends that writes one text, or stops.
 ghost use Rattle.std.specs.Prelude.{◌≡◌};
-ghost use Rattle.dnr_top.specs.Run.{EndsStop, EndsText, count};
+ghost use Rattle.text_commands.specs.Ends.{EndsStop, EndsText, count};
 
 use dnr_io::{Sink, Status, write_all};
 use session_load::Stop;

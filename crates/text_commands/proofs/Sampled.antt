@@ -8,8 +8,9 @@ use Rattle.session_spec.specs.declared.tally.Tally.{Tally}
 use Rattle.session_spec.specs.Out.{Outside, conduct_of}
 use Rattle.session_spec.specs.Sample.{IsSampled, summary_line}
 use Rattle.session_spec.specs.Words.{Sample, make_sample}
-use Rattle.dnr_top.specs.Run.{EndsSample, MayEnd}
-use Rattle.dnr_top.proofs.Ended.{text_ends, memory_ends}
+use Rattle.text_commands.specs.Ends.{MayEnd}
+use Rattle.text_commands.specs.Texts.{EndsSample}
+use Rattle.text_commands.proofs.Ended.{text_ends, memory_ends}
 
 known_ends : (files : Files) (o : Outside) (sample : Sample) (before now : Option (List ℕ)) (ended : Status)
     → EndsSample sample before now o.sink ended → MayEnd (Some files) (make_sample sample) o before now ended

@@ -1,5 +1,5 @@
 use Rattle.explain_report.proofs.Pieces.{four}
-use Rattle.explain_report.proofs.report.push_start.Goals as goal
+use Rattle.explain_report.proofs.report.push_unsupported.Goals as goal
 
 pub returns : goal.returns
 returns c =

@@ -1,0 +1,4 @@
+pub mod PlainDomains
+pub mod Shadows
+pub mod Pruned
+pub mod Examples

@@ -1,0 +1,4 @@
+pub mod Ended
+pub mod Tasks
+pub mod Listed
+pub mod Sampled
