@@ -25,8 +25,14 @@ impl From<ShelfRefusal> for Stop {
     }
 }
 
-// The bytes of the file of this name, which are not more than a file may have.
-pub(crate) fn fetch<F: Shelf>(alloc: Global, name: &str, shelf: &mut F) -> Result<Vec<u8>, Stop>
+/// The bytes of the file of this name, which are not more than a file may have.
+///
+/// # Errors
+///
+/// - `ReadFault`: the shelf failed, and its count of faults rose.
+/// - `FileTooLong`: the file has more bytes than a file may have.
+/// - `NoMemory`: memory ran out.
+pub fn load_file<F: Shelf>(alloc: Global, name: &str, shelf: &mut F) -> Result<Vec<u8>, Stop>
     requires { F.allows name.now }
     ensures held { IfOk result (TellsFile (F.Source.files shelf.old) name.now) }
     ensures short { IfOk result (λ bytes. length bytes.items ≤ max_file) }

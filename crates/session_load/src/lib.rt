@@ -13,7 +13,8 @@ mod serving;
 mod stop;
 mod suffixes;
 
-pub use lists::{CompiledList, load_list};
+pub use files::load_file;
+pub use lists::{CompiledList, load_list, too_many};
 pub use loaded::Loaded;
 pub use rules::{load_local, load_rules};
 pub use serving::load_serving;

@@ -9,7 +9,7 @@ ghost use Rattle.session_load.specs.Tells.{TellsList};
 ghost use Rattle.session_spec.specs.Refusals.{too_many_rules, host_failed, list_line};
 
 use crate::Stop;
-use crate::files::fetch;
+use crate::files::load_file;
 use abp_compile::{CompileRefusal, Report, compile};
 use dnr_base::NoMemory;
 use dnr_io::Shelf;
@@ -52,7 +52,7 @@ pub fn load_list<F: Shelf, H: RegexHost>(
     ensures later { H.faults host.old ≤ H.faults host.new }
     ensures cause { HasCauseOf Stop.ReadFault (F.Source.faults shelf.old) (F.Source.faults shelf.new) result }
 {
-    match fetch(alloc, name, shelf) {
+    match load_file(alloc, name, shelf) {
         Ok(bytes) => list_in(alloc, name, &bytes, host),
         Err(stop) => Err(stop),
     }
@@ -80,8 +80,9 @@ fn list_in<H: RegexHost>(
     }
 }
 
-// The line that says so, unless memory runs out for it.
-fn too_many(alloc: Global, name: &str, count: usize) -> Stop
+/// Why a command stops at a file that gives so many rules or lines, which are too many: the line that says so, or want of
+/// memory for it.
+pub fn too_many(alloc: Global, name: &str, count: usize) -> Stop
     ensures { Prints (list_line name.now (too_many_rules count)) result }
 {
     let mut line = String::new(alloc);

@@ -9,7 +9,7 @@ ghost use Rattle.session_load.specs.Tells.{TellsSuffixes, TellsSuffixFile};
 ghost use Rattle.session_spec.specs.Refusals.{suffixes_line};
 
 use crate::Stop;
-use crate::files::fetch;
+use crate::files::load_file;
 use dnr_base::NoMemory;
 use dnr_io::Shelf;
 use dnr_spec::SuffixRefusal;
@@ -49,7 +49,7 @@ fn load_file<F: Shelf>(alloc: Global, name: &str, shelf: &mut F) -> Result<Suffi
     ensures starts { F.Source.starts shelf.new ≡ F.Source.starts shelf.old }
     ensures cause { HasCauseOf Stop.ReadFault (F.Source.faults shelf.old) (F.Source.faults shelf.new) result }
 {
-    match fetch(alloc, name, shelf) {
+    match load_file(alloc, name, shelf) {
         Ok(bytes) => suffixes_in(alloc, name, &bytes),
         Err(stop) => Err(stop),
     }

@@ -1,5 +1,5 @@
 -- What `hide` prints: a line for each line of the list that is for hiding and is not used, and then what a page hides.
-use Rattle.std.specs.Prelude.{◌≡◌, ℕ, ◌<◌, ◌≤◌, List, [], ◌∷◌, ◌++◌, length, map, codes, decimal}
+use Rattle.std.specs.Prelude.{◌≡◌, ℕ, ◌<◌, ◌≤◌, List, ◌++◌, length, map, codes, decimal}
 use Rattle.json.specs.Print.{quoted}
 use Rattle.list_spec.specs.LineKind.{lines_of}
 use Rattle.hide_spec.specs.declared.hide_reported.HideReported.{HideReported}
@@ -8,7 +8,7 @@ use Rattle.hide_spec.specs.Hidden.{hidden, hiding_lines, max_hiding}
 use Rattle.hide_spec.specs.Report.{hide_report}
 use Rattle.load_spec.specs.Files.{Files, HoldsFile}
 use Rattle.session_spec.specs.Output.{list_text}
-use Rattle.session_spec.specs.Refusals.{too_many_rules, list_line}
+use Rattle.session_spec.specs.Refusals.{each_line, too_many_rules, list_line}
 
 -- ---- lines
 
@@ -17,8 +17,7 @@ unhidden_line one =
     codes "{\"line\":" ++ (decimal one.line ++ (codes ",\"unsupported\":\"" ++ (hide_code one.reason ++ codes "\"}\n")))
 
 abbrev pub unhidden_lines : List HideReported → List ℕ
-unhidden_lines [] = []
-unhidden_lines (one ∷ others) = unhidden_line one ++ unhidden_lines others
+unhidden_lines reported = each_line unhidden_line reported
 
 abbrev pub selectors_line : List ℕ → List (List ℕ) → List ℕ
 selectors_line host selectors =

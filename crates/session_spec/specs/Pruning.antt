@@ -1,5 +1,5 @@
 -- What `prune` prints: a line for each rule that is left out, how many rules are left, and these rules as JSON.
-use Rattle.std.specs.Prelude.{◌≡◌, ◌⊎◌, ℕ, ◌<◌, ◌≤◌, List, [], ◌∷◌, ◌++◌, length, codes, decimal}
+use Rattle.std.specs.Prelude.{◌≡◌, ◌⊎◌, ℕ, ◌<◌, ◌≤◌, List, ◌++◌, length, codes, decimal}
 use Rattle.rule_spec.specs.declared.rule_kind.RuleKind.TheVariants.{Static}
 use Rattle.rule_spec.specs.Rule.{Rule}
 use Rattle.json_spec.specs.Written.{written as json_text}
@@ -7,7 +7,7 @@ use Rattle.load_spec.specs.Files.{Files, HoldsRules}
 use Rattle.prune_spec.specs.declared.shadow.Shadow.{Shadow}
 use Rattle.prune_spec.specs.Pruned.{kept, max_rules, removals}
 use Rattle.session_spec.specs.Loading.{PrintsRefusedRules}
-use Rattle.session_spec.specs.Refusals.{count_line, too_many_rules, list_line}
+use Rattle.session_spec.specs.Refusals.{count_line, each_line, too_many_rules, list_line}
 
 -- ---- lines
 
@@ -15,8 +15,7 @@ abbrev pub removed_line : Shadow → List ℕ
 removed_line one = codes "{\"removed\":" ++ (decimal one.removed ++ (codes ",\"by\":" ++ (decimal one.by ++ codes "}\n")))
 
 abbrev pub removed_lines : List Shadow → List ℕ
-removed_lines [] = []
-removed_lines (one ∷ others) = removed_line one ++ removed_lines others
+removed_lines removals = each_line removed_line removals
 
 abbrev pub pruned_text : List Rule → List ℕ
 pruned_text rules = removed_lines (removals rules) ++ (count_line (length (kept rules)) ++ (json_text (kept rules) ++ codes "\n"))

@@ -279,6 +279,10 @@ unsupported_line one =
     codes "{\"line\":" ++ decimal one.line ++ codes ",\"unsupported\":\"" ++ reason_code one.reason ++ codes "\""
     ++ name_field (option_at_fault one.reason) ++ codes "}\n"
 
+-- what is printed of each, one line after another
+abbrev pub each_line : {X : Type 0} → (X → List ℕ) → List X → List ℕ
+each_line line [] = []
+each_line line (one ∷ others) = line one ++ each_line line others
+
 abbrev pub unsupported_lines : List Reported → List ℕ
-unsupported_lines [] = []
-unsupported_lines (one ∷ others) = unsupported_line one ++ unsupported_lines others
+unsupported_lines reported = each_line unsupported_line reported
