@@ -13,25 +13,34 @@ use Rattle.url_view.specs.Plain.{is_web, is_named, goes_on, path_len, is_query_b
 
 -- ---- the loop over a path
 
-pub stops : (after_slash : Bool) (bytes : List ℕ) (place : ℕ) → place < length bytes → goes_on after_slash (get_or bytes place 0) ≡ false → path_len after_slash (drop place bytes) ≡ 0
+pub stops : (after_slash : Bool) (bytes : List ℕ) (place : ℕ) → place < length bytes
+    → goes_on after_slash (get_or bytes place 0) ≡ false
+    → path_len after_slash (drop place bytes) ≡ 0
 unfolding path_len
-stops after_slash bytes place inside bad = rw (drop-cons bytes place 0 inside) (cond-false _ _ _ bad)
+stops after_slash bytes place inside bad =
+    rw (drop-cons bytes place 0 inside) (cond-false _ _ _ bad)
 
-pub steps_on : (after_slash : Bool) (bytes : List ℕ) (place : ℕ) → place < length bytes → goes_on after_slash (get_or bytes place 0) ≡ true → path_len after_slash (drop place bytes) ≡ suc (path_len (get_or bytes place 0 == 47) (drop (place + 1) bytes))
+pub steps_on : (after_slash : Bool) (bytes : List ℕ) (place : ℕ) → place < length bytes
+    → goes_on after_slash (get_or bytes place 0) ≡ true
+    → path_len after_slash (drop place bytes) ≡ suc (path_len (get_or bytes place 0 == 47) (drop (place + 1) bytes))
 unfolding path_len
-steps_on after_slash bytes place inside good = rw (drop-cons bytes place 0 inside, add-one) (cond-true _ _ _ good)
+steps_on after_slash bytes place inside good =
+    rw (drop-cons bytes place 0 inside, add-one) (cond-true _ _ _ good)
 
 nothing : (after_slash : Bool) (bytes : List ℕ) → length bytes ≡ 0 → path_len after_slash bytes ≡ 0
 unfolding path_len
 nothing after_slash [] none = refl
 nothing after_slash (b ∷ bytes) none = absurd (omega arith)
 
-pub ends : (after_slash : Bool) (bytes : List ℕ) (place : ℕ) → length bytes ≤ place → path_len after_slash (drop place bytes) ≡ 0
-ends after_slash bytes place beyond = nothing after_slash (drop place bytes) (omega (arith, length-drop place bytes))
+pub ends : (after_slash : Bool) (bytes : List ℕ) (place : ℕ) → length bytes ≤ place
+    → path_len after_slash (drop place bytes) ≡ 0
+ends after_slash bytes place beyond =
+    nothing after_slash (drop place bytes) (omega (arith, length-drop place bytes))
 
 -- ---- what was found
 
-path_taken : (after_slash : Bool) (xs : List ℕ) → path_len after_slash (take (path_len after_slash xs) xs) ≡ length (take (path_len after_slash xs) xs)
+path_taken : (after_slash : Bool) (xs : List ℕ)
+    → path_len after_slash (take (path_len after_slash xs) xs) ≡ length (take (path_len after_slash xs) xs)
 unfolding path_len
 path_taken after_slash [] = refl
 path_taken after_slash (b ∷ xs) =
@@ -40,10 +49,12 @@ path_taken after_slash (b ∷ xs) =
     (λ (bad : (goes_on after_slash b) ≡ false). rw bad refl)
     (cases_Bool (goes_on after_slash b))
 
-prefix_taken : (test : ℕ → Bool) (xs : List ℕ) → prefix_len test (take (prefix_len test xs) xs) ≡ length (take (prefix_len test xs) xs)
+prefix_taken : (test : ℕ → Bool) (xs : List ℕ)
+    → prefix_len test (take (prefix_len test xs) xs) ≡ length (take (prefix_len test xs) xs)
 prefix_taken test xs =
     let front = take (prefix_len test xs) xs in
-    ap (prefix_len test) (sym (append-nil front)) ∙ prefix_len_at test front [] (All-take-prefix_len test xs) tt
+    ap (prefix_len test) (sym (append-nil front))
+    ∙ prefix_len_at test front [] (All-take-prefix_len test xs) tt
 
 query_taken : (xs : List ℕ) → query_len (take (query_len xs) xs) ≡ length (take (query_len xs) xs)
 query_taken [] = refl
@@ -63,12 +74,16 @@ in_parts xs n = sym (take-append-drop n xs)
 
 pub behind : (behind_host path behind_path query fragment : List ℕ) (path_length query_length : ℕ)
     → get_or behind_host 0 0 ≡ 47
-    → path_length ≡ path_len false behind_host → path ≡ take path_length behind_host → behind_path ≡ drop path_length behind_host
-    → query_length ≡ query_len behind_path → query ≡ take query_length behind_path → fragment ≡ drop query_length behind_path → is_fragment fragment ≡ true
+    → path_length ≡ path_len false behind_host → path ≡ take path_length behind_host
+    → behind_path ≡ drop path_length behind_host
+    → query_length ≡ query_len behind_path → query ≡ take query_length behind_path
+    → fragment ≡ drop query_length behind_path → is_fragment fragment ≡ true
     → IsBehind behind_host fragment
 behind behind_host path behind_path query fragment path_length query_length slash path_len_is path_is behind_path_is query_len_is query_is fragment_is whole =
-    let two : behind_host ≡ path ++ behind_path = rw (path_is, behind_path_is) (in_parts behind_host path_length) in
-    let three : behind_path ≡ query ++ fragment = rw (query_is, fragment_is) (in_parts behind_path query_length) in
+    let two : behind_host ≡ path ++ behind_path
+    = rw (path_is, behind_path_is) (in_parts behind_host path_length) in
+    let three : behind_path ≡ query ++ fragment
+    = rw (query_is, fragment_is) (in_parts behind_path query_length) in
     record {
       path = path;
       query = query;
@@ -81,9 +96,12 @@ behind behind_host path behind_path query fragment path_length query_length slas
 
 -- the host
 abbrev pub Named : List ℕ → List ℕ → List ℕ → Type 0
-Named rest host behind_host = (rest ≡ host ++ behind_host) × (list_all is_name_byte host ≡ true) × (is_named host ≡ true)
+Named rest host behind_host =
+    (rest ≡ host ++ behind_host) × (list_all is_name_byte host ≡ true) × (is_named host ≡ true)
 
-pub named : (rest host behind_host : List ℕ) (name_len : ℕ) → name_len ≡ prefix_len is_name_byte rest → host ≡ take name_len rest → behind_host ≡ drop name_len rest → is_named host ≡ true → Named rest host behind_host
+pub named : (rest host behind_host : List ℕ) (name_len : ℕ)
+    → name_len ≡ prefix_len is_name_byte rest → host ≡ take name_len rest
+    → behind_host ≡ drop name_len rest → is_named host ≡ true → Named rest host behind_host
 named rest host behind_host name_len name_is host_is behind_host_is letter = (
   rw (host_is, behind_host_is) (in_parts rest name_len),
   rw (host_is, name_is) (list_all_from_All is_name_byte _ (All-take-prefix_len is_name_byte rest)),
@@ -91,7 +109,8 @@ named rest host behind_host name_len name_is host_is behind_host_is letter = (
 )
 
 pub found : (scheme : Scheme) (text rest host behind_host fragment : List ℕ)
-    → text ≡ scheme_text scheme ++ (codes "://" ++ rest) → is_web scheme ≡ true → Named rest host behind_host → IsBehind behind_host fragment
+    → text ≡ scheme_text scheme ++ (codes "://" ++ rest) → is_web scheme ≡ true
+    → Named rest host behind_host → IsBehind behind_host fragment
     → IsPlain text (length text - length fragment) scheme (record { start = length text - length rest; end = length text - length behind_host })
 found scheme text rest host behind_host fragment spelled web name tail =
     let size = ap length spelled ∙ length-append (scheme_text scheme) (codes "://" ++ rest) in
@@ -103,7 +122,8 @@ found scheme text rest host behind_host fragment spelled web name tail =
       path = tail.path;
       query = tail.query;
       fragment = fragment;
-      spelled = spelled ∙ ap (λ l. scheme_text scheme ++ (codes "://" ++ l)) (name.0 ∙ ap (λ l. host ++ l) tail.spelled);
+      spelled = spelled
+          ∙ ap (λ l. scheme_text scheme ++ (codes "://" ++ l)) (name.0 ∙ ap (λ l. host ++ l) tail.spelled);
       web = web;
       name = name.1;
       named = name.2;
@@ -117,14 +137,16 @@ found scheme text rest host behind_host fragment spelled web name tail =
     }
 
 pub found_origin : (scheme : Scheme) (text rest host behind_host : List ℕ)
-    → text ≡ scheme_text scheme ++ (codes "://" ++ rest) → is_web scheme ≡ true → Named rest host behind_host → length behind_host ≡ 0
+    → text ≡ scheme_text scheme ++ (codes "://" ++ rest) → is_web scheme ≡ true
+    → Named rest host behind_host → length behind_host ≡ 0
     → IsOrigin text (length text + 1) scheme (record { start = length text - length rest; end = length text - length behind_host })
 found_origin scheme text rest host behind_host spelled web name none =
     let size = ap length spelled ∙ length-append (scheme_text scheme) (codes "://" ++ rest) in
     let split_host = ap length name.0 ∙ length-append host behind_host in
     record {
       host = host;
-      spelled = spelled ∙ ap (λ l. scheme_text scheme ++ (codes "://" ++ l)) (name.0 ∙ ap (λ l. host ++ l) (nil_from_length behind_host none) ∙ append-nil host);
+      spelled = spelled
+          ∙ ap (λ l. scheme_text scheme ++ (codes "://" ++ l)) (name.0 ∙ ap (λ l. host ++ l) (nil_from_length behind_host none) ∙ append-nil host);
       web = web;
       name = name.1;
       named = name.2;

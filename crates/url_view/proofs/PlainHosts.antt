@@ -21,7 +21,8 @@ use Rattle.dnr_base.specs.View.{is_name_byte}
 use Rattle.url_view.specs.Plain.{is_web, is_lower_letter, is_named}
 
 name_byte_kept : (b : ℕ) → Passes is_name_byte b → IsKept FORBIDDEN_DOMAIN b
-name_byte_kept b passes = kept_from_passes is_name_byte FORBIDDEN_DOMAIN refl b (grind (arith, nat_tests)) passes
+name_byte_kept b passes =
+    kept_from_passes is_name_byte FORBIDDEN_DOMAIN refl b (grind (arith, nat_tests)) passes
 
 name_byte_lower : (b : ℕ) → Passes is_name_byte b → is_ascii_uppercase b ≡ false
 name_byte_lower b passes = grind (arith, nat_tests)
@@ -32,7 +33,8 @@ no_number : (front : Option (List ℕ)) (last : List ℕ) → is_lower_letter (g
 unfolding parse_number
 no_number front [] letter = absurd (true≢false (sym letter))
 no_number None (b ∷ last) letter = (refl, grind (arith, nat_tests), grind (arith, nat_tests))
-no_number (Some front) (b ∷ last) letter = (cond-false _ (rsplit_once 46 front).1 (b ∷ last) (is_empty_nonempty (b ∷ last) (omega arith)), grind (arith, nat_tests), grind (arith, nat_tests))
+no_number (Some front) (b ∷ last) letter =
+    (cond-false _ (rsplit_once 46 front).1 (b ∷ last) (is_empty_nonempty (b ∷ last) (omega arith)), grind (arith, nat_tests), grind (arith, nat_tests))
 
 not_in_a_number : (host : List ℕ) → is_named host ≡ true → ends_in_a_number host ≡ false
 unfolding ends_in_a_number
@@ -41,7 +43,8 @@ not_in_a_number host named =
     let no = no_number r.0 r.1 named in
     rw (no.0, no.1, no.2) (grind (arith, nat_tests))
 
-pub is_domain : (host : List ℕ) → list_all is_name_byte host ≡ true → is_named host ≡ true → IsDomain host
+pub is_domain : (host : List ℕ) → list_all is_name_byte host ≡ true → is_named host ≡ true
+    → IsDomain host
 is_domain host name named =
     let all = All_from_list_all is_name_byte host name in
     record {
@@ -66,7 +69,8 @@ is_scheme Wss web = record { nonempty = lit< tt; whole = refl; lower = refl }
 is_scheme Ftp web = absurd (true≢false (sym web))
 is_scheme ChromeExtension web = absurd (true≢false (sym web))
 
-pub is_special_scheme : (scheme : Scheme) → is_web scheme ≡ true → scheme_type (scheme_text scheme) ≡ SpecialNotFile
+pub is_special_scheme : (scheme : Scheme) → is_web scheme ≡ true
+    → scheme_type (scheme_text scheme) ≡ SpecialNotFile
 unfolding scheme_type default_port
 is_special_scheme Http web = refl
 is_special_scheme Https web = refl

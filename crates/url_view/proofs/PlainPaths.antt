@@ -15,9 +15,11 @@ use Rattle.url.proofs.SetLemmas.{kept_from_passes}
 use Rattle.url_view.specs.Plain.{is_path_byte, is_dot_byte, path_len, is_query_byte, query_len, is_fragment_byte, is_fragment}
 
 path_byte_kept : (b : ℕ) → is_path_byte b ≡ true → IsKept PATH b
-path_byte_kept b passes = kept_from_passes is_path_byte PATH refl b (grind (arith, nat_tests)) passes
+path_byte_kept b passes =
+    kept_from_passes is_path_byte PATH refl b (grind (arith, nat_tests)) passes
 
-path_byte_whole : (b : ℕ) → is_path_byte b ≡ true → (b == 47) ≡ false → is_slash SpecialNotFile b ≡ false
+path_byte_whole : (b : ℕ) → is_path_byte b ≡ true → (b == 47) ≡ false
+    → is_slash SpecialNotFile b ≡ false
 path_byte_whole b passes other = grind (arith, nat_tests)
 
 -- a segment that begins with neither `.` nor `%` is no dot segment
@@ -47,7 +49,8 @@ nothing_follows after_slash = record {
   each = All-nil (IsSegment SpecialNotFile);
 }
 
-slash_follows : (after_slash : Bool) (b : ℕ) (bytes : List ℕ) → b ≡ 47 → Splits true bytes → Splits after_slash (b ∷ bytes)
+slash_follows : (after_slash : Bool) (b : ℕ) (bytes : List ℕ) → b ≡ 47 → Splits true bytes
+    → Splits after_slash (b ∷ bytes)
 unfolding dot_count
 slash_follows after_slash b bytes slash rest = record {
   first = [];
@@ -59,7 +62,9 @@ slash_follows after_slash b bytes slash rest = record {
   each = All-cons (IsSegment SpecialNotFile) rest.first rest.others (record { escaped = rest.escaped; whole = rest.whole; resolved = rest.resolved refl }) rest.each;
 }
 
-byte_follows : (after_slash : Bool) (b : ℕ) (bytes : List ℕ) → is_path_byte b ≡ true → (b == 47) ≡ false → not (after_slash && is_dot_byte b) ≡ true → Splits false bytes → Splits after_slash (b ∷ bytes)
+byte_follows : (after_slash : Bool) (b : ℕ) (bytes : List ℕ) → is_path_byte b ≡ true
+    → (b == 47) ≡ false → not (after_slash && is_dot_byte b) ≡ true → Splits false bytes
+    → Splits after_slash (b ∷ bytes)
 byte_follows after_slash b bytes passes other dots rest = record {
   first = b ∷ rest.first;
   others = rest.others;
@@ -70,13 +75,16 @@ byte_follows after_slash b bytes passes other dots rest = record {
   each = rest.each;
 }
 
-splits : (after_slash : Bool) (bytes : List ℕ) → path_len after_slash bytes ≡ length bytes → Splits after_slash bytes
+splits : (after_slash : Bool) (bytes : List ℕ) → path_len after_slash bytes ≡ length bytes
+    → Splits after_slash bytes
 unfolding path_len
 splits after_slash [] whole = nothing_follows after_slash
 splits after_slash (b ∷ bytes) whole =
     ⊎_elim
     (λ good.
-    let rest : path_len (b == 47) bytes ≡ length bytes = let e = sym (cond-true _ (suc (path_len (b == 47) bytes)) 0 good) ∙ whole in omega arith in
+    let rest : path_len (b == 47) bytes ≡ length bytes = let e
+    = sym (cond-true _ (suc (path_len (b == 47) bytes)) 0 good)
+    ∙ whole in omega arith in
     let both = and_parts _ _ good in
     ⊎_elim
     (λ slash. slash_follows after_slash b bytes slash (subst (λ t. Splits t bytes) (rw slash refl) (splits (b == 47) bytes rest)))
@@ -95,7 +103,8 @@ below_root path s slash = first_empty s.first s.joined s.whole
         let same : b ≡ 47 = sym (ap (λ l. get_or l 0 0) joined) ∙ slash in
         absurd (true≢false (rw same at (All-head (λ x. is_slash SpecialNotFile x ≡ false) b first whole)))
 
-pub is_segment_list : (path : List ℕ) → path_len false path ≡ length path → get_or path 0 0 ≡ 47 → IsSegmentList SpecialNotFile path
+pub is_segment_list : (path : List ℕ) → path_len false path ≡ length path → get_or path 0 0 ≡ 47
+    → IsSegmentList SpecialNotFile path
 is_segment_list path whole slash =
     let s = splits false path whole in
     record {
@@ -110,7 +119,8 @@ abbrev pub without_mark : List ℕ → Option (List ℕ)
 without_mark [] = None
 without_mark (b ∷ bytes) = Some bytes
 
-whole_prefix : (test : ℕ → Bool) (xs : List ℕ) → prefix_len test xs ≡ length xs → All (Passes test) xs
+whole_prefix : (test : ℕ → Bool) (xs : List ℕ) → prefix_len test xs ≡ length xs
+    → All (Passes test) xs
 whole_prefix test [] whole = All-nil (Passes test)
 whole_prefix test (x ∷ xs) whole =
     ⊎_elim
@@ -118,22 +128,26 @@ whole_prefix test (x ∷ xs) whole =
     (λ bad. absurd (grind (arith, nat_tests)))
     (cases_Bool (test x))
 
-pub query_kept : (query : List ℕ) → query_len query ≡ length query → IfSome (without_mark query) (All (IsKept SPECIAL_QUERY))
+pub query_kept : (query : List ℕ) → query_len query ≡ length query
+    → IfSome (without_mark query) (All (IsKept SPECIAL_QUERY))
 query_kept [] whole = tt
 query_kept (b ∷ bytes) whole =
     All-weaker (Passes is_query_byte) (IsKept SPECIAL_QUERY) (λ x passes. kept_from_passes is_query_byte SPECIAL_QUERY refl x (grind (arith, nat_tests)) passes) bytes
     (whole_prefix is_query_byte bytes (grind (arith, nat_tests)))
 
-pub query_marked : (query : List ℕ) → query_len query ≡ length query → (query ≡ []) ⊎ (get_or query 0 0 ≡ 63)
+pub query_marked : (query : List ℕ) → query_len query ≡ length query
+    → (query ≡ []) ⊎ (get_or query 0 0 ≡ 63)
 query_marked [] whole = inl refl
 query_marked (b ∷ bytes) whole = inr (grind (arith, nat_tests))
 
-pub fragment_kept : (fragment : List ℕ) → is_fragment fragment ≡ true → IfSome (without_mark fragment) (All (IsKept FRAGMENT))
+pub fragment_kept : (fragment : List ℕ) → is_fragment fragment ≡ true
+    → IfSome (without_mark fragment) (All (IsKept FRAGMENT))
 fragment_kept [] whole = tt
 fragment_kept (b ∷ bytes) whole =
     All-weaker (Passes is_fragment_byte) (IsKept FRAGMENT) (λ x passes. kept_from_passes is_fragment_byte FRAGMENT refl x (grind (arith, nat_tests)) passes) bytes
     (All_from_list_all is_fragment_byte bytes (and_parts _ _ whole).1)
 
-pub fragment_marked : (fragment : List ℕ) → is_fragment fragment ≡ true → (fragment ≡ []) ⊎ (get_or fragment 0 0 ≡ 35)
+pub fragment_marked : (fragment : List ℕ) → is_fragment fragment ≡ true
+    → (fragment ≡ []) ⊎ (get_or fragment 0 0 ≡ 35)
 fragment_marked [] whole = inl refl
 fragment_marked (b ∷ bytes) whole = inr (grind (arith, nat_tests))

@@ -1,4 +1,5 @@
-ghost use Rattle.std.specs.Prelude.{◌≡◌, ◌<◌, ◌≤◌, ◌++◌, length, codes, string_bytes, Ok, IfOk, IfErr};
+ghost use Rattle.std.specs.Prelude.{◌≡◌, ◌<◌, ◌≤◌, ◌++◌, length, codes, string_bytes};
+ghost use Rattle.std.specs.Prelude.{Ok, IfOk, IfErr};
 ghost use Rattle.url.specs.Parts.{serialize};
 ghost use Rattle.dnr_spec.specs.UrlView.{max_url, view_of, view_of_full};
 ghost use Rattle.url_view.specs.Plain.{IsPlain, IsOrigin};
@@ -52,7 +53,7 @@ fn copied(alloc: Global, text: &str, plain: Plain) -> Result<View, ViewRefusal>
     }
 }
 
-// The view of a text that ends with its host, as those of origins do: the standard puts `/` behind it.
+// The view of a text that ends with its host, as origins do: the standard puts `/` behind it.
 fn with_slash(alloc: Global, text: &str, origin: Plain) -> Result<View, ViewRefusal>
     requires origin { IsOrigin text.now origin.cut origin.scheme origin.host }
     requires short { length text.now < max_url }

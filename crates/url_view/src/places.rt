@@ -19,12 +19,13 @@ pub struct Plain {
     pub host: Span,
 }
 
-/// Finds the parts of a URL of http, https, ws or wss that is in serialized form already (URL Standard
-/// 4.5, URL serializing), so that it would be read as it stands, or with `/` at its end.
+/// Finds the parts of a URL of http, https, ws or wss that is in serialized form already (URL
+/// Standard 4.5, URL serializing), so that it is read as it stands, or with `/` at its end.
 ///
-/// `None` says nothing of the text. It is the answer wherever more than a look at each byte would be
-/// needed: for another scheme, user information, a port, a host whose last label does not begin with a
-/// letter, a segment that begins with `.` or `%`, and a byte that the standard may lower or escape.
+/// `None` says nothing of the text: it is the answer wherever it takes more than a look at each byte
+/// to tell. So it is for another scheme, user information, a port, a host whose last label does not
+/// begin with a letter, a segment that begins with `.` or `%`, and a byte that the standard may
+/// lower, turn round or escape.
 pub fn find_plain(text: &[u8]) -> Option<Plain>
     ensures rooted { IfSome result (λ p. p.rooted ≡ true → IsPlain text.now p.cut p.scheme p.host) }
     ensures origin { IfSome result (λ p. p.rooted ≡ false → IsOrigin text.now p.cut p.scheme p.host) }

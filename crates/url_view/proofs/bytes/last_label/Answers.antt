@@ -6,7 +6,8 @@ use Rattle.url_view.proofs.bytes.last_label.Goals as goal
 pub returns-in-Some : goal.returns-in-Some
 returns-in-Some c =
     let host = c.args.host.now in
-    let found = rsplit_once_at_last 46 host c.in-Some.place (search rules) (search rules) (search rules) in
+    let found
+    = rsplit_once_at_last 46 host c.in-Some.place (search rules) (search rules) (search rules) in
     rw (found, take_rest)
 
 pub returns-in-None : goal.returns-in-None

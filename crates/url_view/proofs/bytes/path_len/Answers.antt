@@ -7,15 +7,18 @@ loop-place-init c = omega arith
 
 pub returns-then-not-goes_on-clause-value : goal.returns-then-not-goes_on-clause-value
 returns-then-not-goes_on-clause-value c =
-    let none = stops (c.loop-place.before == 47) c.args.bytes.now c.loop-place.place c.loop-place-test.true (search rules) in
+    let none
+    = stops (c.loop-place.before == 47) c.args.bytes.now c.loop-place.place c.loop-place-test.true (search rules) in
     omega (arith, c.loop-place.invariant)
 
 pub loop-place-preserved : goal.loop-place-preserved
 loop-place-preserved c =
-    let more = steps_on (c.loop-place.before == 47) c.args.bytes.now c.loop-place.place c.loop-place-test.true (search rules) in
+    let more
+    = steps_on (c.loop-place.before == 47) c.args.bytes.now c.loop-place.place c.loop-place-test.true (search rules) in
     omega (arith, c.loop-place.invariant)
 
 pub returns-clause-value : goal.returns-clause-value
 returns-clause-value c =
-    let none = ends (c.loop-place.before == 47) c.args.bytes.now c.loop-place.place c.loop-place-test.false in
+    let none
+    = ends (c.loop-place.before == 47) c.args.bytes.now c.loop-place.place c.loop-place-test.false in
     omega (arith, c.loop-place.invariant)
