@@ -15,11 +15,10 @@ use crate::conditions::{
 };
 use dnr_base::{Part, Steps, Text};
 use dnr_rules::{Condition, Rule};
-use suffix_list::third_party;
 use regex_host::{HostRefusal, RegexHost};
 use std::marker::Model;
 use std::sync::ledger::Ledger;
-use suffix_list::SuffixList;
+use suffix_list::{SuffixList, third_party};
 
 // Whether the part is third party.
 fn is_third(part: &Part<'_>, list: &SuffixList) -> bool

@@ -3,6 +3,8 @@ ghost use Rattle.std.specs.Prelude.{◌≡◌};
 ghost use Rattle.std.specs.List.{list_all};
 ghost use Rattle.dnr_base.specs.View as hosts;
 
+use crate::bytes::is_name_byte;
+
 // A name or an IPv6 address.
 pub(crate) fn is_host(host: &str) -> bool
     ensures { result ≡ hosts.is_host host.now }
@@ -20,12 +22,6 @@ fn are_name_bytes(name: &[u8]) -> bool
     ensures { result ≡ list_all hosts.is_name_byte name.now }
 {
     name.iter().all(|byte| is_name_byte(*byte))
-}
-
-fn is_name_byte(byte: u8) -> bool
-    ensures { result ≡ hosts.is_name_byte byte }
-{
-    matches!(byte, b'a'..=b'z' | b'0'..=b'9' | b'-' | b'.' | b'_')
 }
 
 // An IPv6 address between brackets.

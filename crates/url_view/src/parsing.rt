@@ -1,12 +1,15 @@
-ghost use Rattle.std.specs.Prelude.{◌≡◌, Ok, IfOk, IfErr};
+ghost use Rattle.std.specs.Prelude.{◌≡◌, ◌<◌, ◌≤◌, ◌++◌, length, codes, string_bytes};
+ghost use Rattle.std.specs.Prelude.{Ok, IfOk, IfErr};
 ghost use Rattle.url.specs.Parts.{serialize};
-ghost use Rattle.dnr_spec.specs.UrlView.{view_of, view_of_full};
+ghost use Rattle.dnr_spec.specs.UrlView.{max_url, view_of, view_of_full};
+ghost use Rattle.url_view.specs.Plain.{IsPlain, IsOrigin};
 ghost use Rattle.url_view.specs.Refused.{IsRefused};
 
 use crate::hosts::is_host;
+use crate::places::{Plain, find_plain};
 use dnr_base::{Scheme, Span, Text, View};
 use dnr_spec::ViewRefusal;
-use std::alloc::Global;
+use std::alloc::{AllocError, Global};
 use url::{ParseError, Position, Url};
 
 // The most bytes of a URL's text, and of its serialization.
@@ -30,6 +33,56 @@ pub fn parse(alloc: Global, text: &str) -> Result<View, ViewRefusal>
     if text.len() > MAX_URL {
         return Err(ViewRefusal::UrlTooLong);
     }
+    match find_plain(text.as_bytes()) {
+        Some(plain) if plain.rooted => copied(alloc, text, plain),
+        Some(origin) if text.len() < MAX_URL => with_slash(alloc, text, origin),
+        _ => parsed(alloc, text),
+    }
+}
+
+// The view of a text that is its URL's serialization.
+fn copied(alloc: Global, text: &str, plain: Plain) -> Result<View, ViewRefusal>
+    requires plain { IsPlain text.now plain.cut plain.scheme plain.host }
+    requires short { length text.now ≤ max_url }
+    ensures read { IfOk result (λ view. view_of text.now ≡ Ok view) }
+    ensures refused { IfErr result (IsRefused text.now) }
+{
+    match String::from_str(alloc, text) {
+        Ok(full) => Ok(View::build(Text::build(full), plain.cut, plain.scheme, plain.host)),
+        Err(_) => Err(ViewRefusal::NoMemory),
+    }
+}
+
+// The view of a text that ends with its host, as origins do: the standard puts `/` behind it.
+fn with_slash(alloc: Global, text: &str, origin: Plain) -> Result<View, ViewRefusal>
+    requires origin { IsOrigin text.now origin.cut origin.scheme origin.host }
+    requires short { length text.now < max_url }
+    ensures read { IfOk result (λ view. view_of text.now ≡ Ok view) }
+    ensures refused { IfErr result (IsRefused text.now) }
+{
+    match slashed(alloc, text) {
+        Ok(full) => Ok(View::build(Text::build(full), origin.cut, origin.scheme, origin.host)),
+        Err(_) => Err(ViewRefusal::NoMemory),
+    }
+}
+
+// The text and `/`.
+fn slashed(alloc: Global, text: &str) -> Result<String, AllocError>
+    requires { length text.now < max_url }
+    ensures { IfOk result (λ full. string_bytes full ≡ text.now ++ codes "/") }
+{
+    let mut full = String::with_capacity(alloc, text.len() + 1)?;
+    full.push_str(text)?;
+    full.push('/')?;
+    Ok(full)
+}
+
+// The view of any other text.
+fn parsed(alloc: Global, text: &str) -> Result<View, ViewRefusal>
+    requires { length text.now ≤ max_url }
+    ensures read { IfOk result (λ view. view_of text.now ≡ Ok view) }
+    ensures refused { IfErr result (IsRefused text.now) }
+{
     match Url::parse(alloc, text) {
         Ok(url) => from_url(url),
         // A URL overflows past 4 GB, which a text of this length never reaches.
