@@ -19,9 +19,7 @@ use session_load::{load_local, load_serving};
 use std::alloc::Global;
 use std::sync::Wait;
 use std::thread::Threads;
-use text_commands::{
-    check_rules, compile_list, hide_page, make_sample, prune_rules, stop_with,
-};
+use text_commands::{check_rules, compile_list, hide_page, make_sample, prune_rules, stop_with};
 
 // How many workers words may name.
 const MOST_WORKERS: usize = 8;

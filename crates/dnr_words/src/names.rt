@@ -36,7 +36,9 @@ fn is_name_byte(byte: u8) -> bool
 pub(crate) fn is_page_host(word: &str) -> bool
     ensures { result ≡ pages.is_page_host word.now }
 {
-    word.as_bytes().split(|byte| *byte == b'.').all(is_host_label)
+    word.as_bytes()
+        .split(|byte| *byte == b'.')
+        .all(is_host_label)
 }
 
 fn is_host_label(label: &[u8]) -> bool

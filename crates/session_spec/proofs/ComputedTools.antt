@@ -1,5 +1,7 @@
 -- The examples of `hide` and `prune` are computed.
 use Rattle.std.specs.Prelude.{refl}
+use Rattle.std.specs.Char.{encode_utf8}
+use Rattle.std.specs.Str.{is_utf8, chars}
 use Rattle.serde_json.proofs.OnLiterals.{serde_json_on_literals}
 use Rattle.hide_spec.specs.Hidden.{hidden}
 use Rattle.hide_spec.specs.Report.{hide_report}
@@ -10,7 +12,7 @@ pub tools_take_their_words : ToolsTakeTheirWords
 tools_take_their_words = (refl, refl, refl, refl, refl, refl)
 
 pub hidden_selectors_are_listed : HiddenSelectorsAreListed
-unfolding hidden hide_report
+unfolding hidden hide_report is_utf8 chars encode_utf8
 hidden_selectors_are_listed = (refl, refl, refl)
 
 pub pruned_rules_are_listed : PrunedRulesAreListed
