@@ -62,3 +62,7 @@ IsCalmLoad before now (Err (BadFile refusal)) = IsCalmFile before now (Err refus
 IsCalmLoad before now (Err ReadFault) = now ≡ before
 IsCalmLoad before now (Err FileTooLong) = now ≡ before
 IsCalmLoad before now (Err NoMemory) = now ≡ before
+
+-- the rules were read in some bytes as a list of this kind, so each has an id of its own
+abbrev pub AreRead : RuleKind → Vec Rule Global → Type 0
+AreRead kind rules = (bytes : List ℕ) × (rules_of kind bytes ≡ Ok rules.items)

@@ -3,7 +3,7 @@ ghost use Rattle.std.specs.Prelude.{◌≡◌, ◌≤◌, Ok, IfOk, IfErr, IfSom
 ghost use Rattle.dnr_base.specs.Faults.{Rose, HasCauseOf};
 ghost use Rattle.json_spec.specs.RulesFile as spec;
 ghost use Rattle.load_spec.specs.Files.{HoldsRules};
-ghost use Rattle.rules_file.specs.Load.{IsCalmLoad, IsNoMemoryApart, IsStopped, Refuses, is_memory};
+ghost use Rattle.rules_file.specs.Load.{AreRead, IsCalmLoad, IsNoMemoryApart, IsStopped, Refuses, is_memory};
 
 use crate::{FileRefusal, read_rules_file};
 use dnr_io::{Shelf, ShelfRefusal};
@@ -52,6 +52,7 @@ pub fn load_rules<F: Shelf, H: RegexHost>(
 ) -> Result<Vec<Rule>, LoadRefusal>
     requires { F.allows name.now }
     ensures ok { IfOk result (λ rules. IfSome (F.Source.files shelf.old) (λ files. HoldsRules files kind name.now rules.items)) }
+    ensures read { IfOk result (AreRead kind) }
     ensures refused { IfErr result (λ refusal. IfSome (F.Source.files shelf.old) (λ files.
         Refuses files kind name.now (Rose (H.faults host.old) (H.faults host.new)) refusal)) }
     ensures apart { IfErr result IsNoMemoryApart }
@@ -75,6 +76,7 @@ fn read_rules<H: RegexHost>(
     host: &mut H,
 ) -> Result<Vec<Rule>, LoadRefusal>
     ensures ok { IfOk result (λ rules. spec.rules_of kind bytes.now ≡ Ok rules.items) }
+    ensures read { IfOk result (AreRead kind) }
     ensures refused { IfErr result (IsStopped kind bytes.now (Rose (H.faults host.old) (H.faults host.new))) }
     ensures apart { IfErr result IsNoMemoryApart }
     ensures calm { IsCalmLoad (H.faults host.old) (H.faults host.new) result }
