@@ -3,6 +3,7 @@ ghost use Rattle.std.specs.Prelude.{◌≡◌, ◌≤◌, ◌++◌, IfOk, IfErr,
 ghost use Rattle.dnr_base.specs.Faults.{Rose, HasCauseOf};
 ghost use Rattle.rule_spec.specs.declared.rule_kind.RuleKind.TheVariants.{Static};
 ghost use Rattle.rules_file.specs.Answers.{refusal_seen};
+ghost use Rattle.rules_file.specs.Load.{AreRead};
 ghost use Rattle.session_load.specs.Loads.{StopsInRules};
 ghost use Rattle.session_load.specs.Stops.{Prints};
 ghost use Rattle.session_load.specs.Tells.{TellsLocal, TellsRules};
@@ -39,6 +40,7 @@ pub fn load_rules<F: Shelf, H: RegexHost>(
 ) -> Result<Vec<Rule>, Stop>
     requires { F.allows name.now }
     ensures rules { IfOk result (TellsRules (F.Source.files shelf.old) kind name.now) }
+    ensures read { IfOk result (AreRead kind) }
     ensures stops { IfErr result (StopsInRules (F.Source.files shelf.old)
         (Rose (H.faults host.old) (H.faults host.new)) kind name.now) }
     ensures files { F.Source.files shelf.new ≡ F.Source.files shelf.old }
