@@ -2,3 +2,4 @@ pub mod Ended
 pub mod Tasks
 pub mod Listed
 pub mod Sampled
+pub mod Ids

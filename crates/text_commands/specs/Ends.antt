@@ -71,3 +71,12 @@ MayEndBy known task shelf started sink checker left before now ended =
 abbrev pub MayEndAlone : Option Files → Task → Count → Count → Count → Option (List ℕ) → Option (List ℕ) → Option (List ℕ) → Status → Type 0
 MayEndAlone known task shelf started sink left before now ended =
     (hosts : List ℕ) → MayEnd known task (outside shelf started sink hosts hosts left) before now ended
+
+-- ---- what was read
+
+-- a text was written that is what the command prints, or a line that says what is refused; or memory ran out
+abbrev pub EndsAtOnce : (List ℕ → Type 0) → (List ℕ → Type 0) → Option (List ℕ) → Option (List ℕ) → Count → Status → Type 0
+EndsAtOnce Prints Refuses before now sink ended =
+    ((text : List ℕ) × Prints text × EndsText before now sink text status.Done ended)
+    ⊎ ((line : List ℕ) × Refuses line × EndsText before now sink line status.Refused ended)
+    ⊎ ((ended ≡ status.NoMemory) × (now ≡ before))

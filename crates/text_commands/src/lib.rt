@@ -7,9 +7,13 @@
 mod checking;
 mod compiling;
 mod ending;
+mod hiding;
+mod pruning;
 mod sampling;
 
 pub use checking::check_rules;
 pub use compiling::compile_list;
 pub use ending::{stop_with, write_to_end};
+pub use hiding::hide_page;
+pub use pruning::prune_rules;
 pub use sampling::make_sample;
