@@ -22,7 +22,7 @@ pub record Told : Type 0 where
   pub outcome : Outcome
 
 abbrev told : Hop → Told
-told hop = record { url = hop.view.full; outcome = hop.verdict.outcome }
+told hop = record { url = hop.url; outcome = hop.verdict.outcome }
 
 abbrev at : List ℕ → Outcome → Told
 at url outcome = record { url = url; outcome = outcome }

@@ -15,9 +15,9 @@ use Rattle.rule_spec.specs.State.{State}
 use Rattle.follow_spec.specs.declared.end.End.{End}
 use Rattle.follow_spec.specs.declared.end.End.TheVariants.{Settled, Unreadable, Repeated, Bound}
 
--- what becomes of the request where it is sent to this URL
+-- what becomes of the request where it is sent to this URL, which stands here as it is serialized, with its fragment
 pub record Hop : Type 0 where
-  pub view : View
+  pub url : List ℕ
   pub verdict : Verdict
 
 pub record Trace : Type 0 where
@@ -46,9 +46,9 @@ view_if (Err refusal) = None
 abbrev pub next_view : Verdict → Option View
 next_view verdict = option_and_then (λ target. view_if (view_of target)) verdict.target
 
--- one of the hops was sent to this URL, with its fragment
+-- one of the hops was sent to this URL
 abbrev pub was_sent : List Hop → View → Bool
-was_sent hops view = list_any (λ hop. bytes_eq hop.view.full view.full) hops
+was_sent hops view = list_any (λ hop. bytes_eq hop.url view.full) hops
 
 -- a trace ends behind these hops, or goes on with a hop to a URL
 pub data Next : Type 0 where
@@ -73,7 +73,7 @@ sent_to view request = record request { view = view }
 
 -- the hops before this request, and its own
 abbrev pub with_hop : List SuffixRule → State → List Hop → Request → List Hop
-with_hop suffixes state hops request = hops ++ record { view = request.view; verdict = scan suffixes state request } ∷ []
+with_hop suffixes state hops request = hops ++ record { url = request.view.full; verdict = scan suffixes state request } ∷ []
 
 abbrev pub continued : (List Hop → Request → Trace) → List Hop → Request → Next → Trace
 continued go hops request (ends end) = record { hops = hops; end = end }
