@@ -186,7 +186,7 @@ make_sample_of words = option_map make_sample (sample_of words)
 -- ---- `hide` and `prune`
 
 abbrev pub hide_of : List (List ℕ) → Option Task
-hide_of (list ∷ host ∷ []) = if is_file_name list && is_page_host host then Some (hide_page list host) else None
+hide_of (file ∷ host ∷ []) = if is_file_name file && is_page_host host then Some (hide_page file host) else None
 hide_of _ = None
 
 abbrev pub prune_of : List (List ℕ) → Option Task
