@@ -3,3 +3,4 @@ pub mod ServeOptions
 pub mod Pairs
 pub mod Numerals
 pub mod Samples
+pub mod HostLabels

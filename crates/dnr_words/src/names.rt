@@ -36,21 +36,21 @@ fn is_name_byte(byte: u8) -> bool
 pub(crate) fn is_page_host(word: &str) -> bool
     ensures { result ≡ pages.is_page_host word.now }
 {
-    word.as_bytes()
-        .split(|byte| *byte == b'.')
-        .all(is_host_label)
-}
-
-fn is_host_label(label: &[u8]) -> bool
-    ensures { result ≡ pages.is_host_label label.now }
-{
-    !label.is_empty() && are_host_bytes(label)
-}
-
-fn are_host_bytes(bytes: &[u8]) -> bool
-    ensures { result ≡ list_all pages.is_host_byte bytes.now }
-{
-    bytes.iter().all(|byte| is_host_byte(*byte))
+    let mut begun = false;
+    for byte in word.as_bytes() {
+        if *byte == b'.' {
+            if !begun {
+                return false;
+            }
+            begun = false;
+        } else {
+            if !is_host_byte(*byte) {
+                return false;
+            }
+            begun = true;
+        }
+    }
+    begun
 }
 
 fn is_host_byte(byte: u8) -> bool

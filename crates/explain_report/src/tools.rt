@@ -4,7 +4,7 @@ ghost use Rattle.session_spec.specs.Hiding as hiding;
 ghost use Rattle.session_spec.specs.Pruning as pruning;
 
 use crate::report::push_unsupported;
-use crate::text::{append, new_line, push_number_field, push_quoted, push_text_field, push_word};
+use crate::text::{append, new_line, push_number, push_quoted, push_text_field, push_word};
 use crate::written::{Written, push_list};
 use dnr_base::{NoMemory, Text};
 use hide_spec::HideReported;
@@ -66,8 +66,10 @@ pub fn write_removed(alloc: Global, removal: &Shadow, into: &mut String) -> Resu
     ensures kept { OnErr result (string_bytes into.new ≡ string_bytes into.old) }
 {
     let mut text = new_line(alloc)?;
-    push_number_field("{\"removed\":", removal.removed, &mut text)?;
-    push_number_field(",\"by\":", removal.by, &mut text)?;
+    push_word("{\"removed\":", &mut text)?;
+    push_number(removal.removed, &mut text)?;
+    push_word(",\"by\":", &mut text)?;
+    push_number(removal.by, &mut text)?;
     push_word("}\n", &mut text)?;
     append(&text, into)
 }
