@@ -3,8 +3,6 @@
 Browsers say in `Sec-Fetch-Dest` and `Sec-Fetch-Mode` what a request is for (Fetch Metadata Request Headers, W3C), but only
 to hosts that they trust by `https`. Of other requests the type is told from what else they carry.
 """
-from urllib.parse import urlsplit
-
 METHODS = {"connect", "delete", "get", "head", "options", "patch", "post", "put"}
 BY_DESTINATION = {
     "document": "main_frame",
@@ -114,9 +112,3 @@ def question(url, method, header):
     if referer and kind != "main_frame":
         asked["frames"] = [{"url": None}, {"url": referer}]
     return asked
-
-
-def site_of(url):
-    """The scheme and host of a URL, for words to a person."""
-    parts = urlsplit(url)
-    return f"{parts.scheme}://{parts.netloc}"
