@@ -364,6 +364,8 @@ class Broker:
     def ask_again(self, question):
         """Puts a question back in front, unless engines ended with it again and again."""
         question.tries += 1
+        if question.client is Nobody:
+            return
         if question.kind == "update":
             self.updating = False
             if question.tries < TRIES:
@@ -383,7 +385,7 @@ class Broker:
             self.say(f"the exchange came to nothing: {said}")
             told = loaded(last.encode()) if last.startswith("{") else {"refused": "engine", "status": status}
             coming.exchange.reply(dumped(told)[1:])
-        elif not self.counts["engines"]:
+        elif not self.counts["engines"] and status > 0:
             raise Failed(said)
         else:
             self.pauses = min(self.pauses + 1, 6)

@@ -80,7 +80,12 @@ class Broker:
             stderr=self.said,
             env={**os.environ, **dict(environment)},
         )
-        wait_for(lambda: self.process.poll() is not None or os.path.exists(self.socket), what="the broker's socket")
+        wait_for(lambda: self.process.poll() is not None or self.answers(), what="the broker's socket")
+
+    def answers(self):
+        """Whether clients can connect."""
+        with socket.socket(socket.AF_UNIX) as probe:
+            return probe.connect_ex(self.socket) == 0
 
     def client(self):
         """A connection to it."""
