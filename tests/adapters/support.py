@@ -53,7 +53,7 @@ def free_port():
         return probe.getsockname()[1]
 
 
-def wait_for(condition, seconds=20, what="it"):
+def wait_for(condition, seconds=60, what="it"):
     """Waits until a condition holds."""
     until = time.monotonic() + seconds
     while not condition():

@@ -184,7 +184,7 @@ class OverTheProgram(unittest.TestCase):
     def test_an_engine_that_stands_still_is_replaced(self):
         broker = self.start("--deadline", "1")
         with broker.client() as client:
-            client.ask(asked("even2.test"))
+            wait_for(lambda: client.ask(asked("even2.test")).get("rule"), what="an engine")
             os.kill(broker.engines()[0], signal.SIGSTOP)
             told = client.ask(asked("even3.test"))
             self.assertEqual((told["verdict"], told["cause"]), ("block", {"late": True}))

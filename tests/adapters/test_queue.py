@@ -51,6 +51,7 @@ class Queue(unittest.TestCase):
         for setting, verdict in (("closed", "block"), ("open", "none")):
             broker = self.start("--deadline", "0.4", "--undecided", setting)
             with broker.client() as client:
+                wait_for(lambda: client.ask({"cmd": "counts"})["counts"]["engines"] == 1, what="an engine")
                 told = client.ask(asked("sleeps.test"))
                 self.assertEqual((told["verdict"], told["setting"], told["cause"]), (verdict, setting, {"late": True}))
                 wait_for(lambda: client.ask({"cmd": "counts"})["counts"]["engines"] == 2, what="another engine")
