@@ -14,7 +14,7 @@ from typing import NamedTuple
 
 from clients import Client
 from dnr_lines.lines import VERDICTS, dumped, loaded
-from engine import LINES, Doubt, Engine
+from engine import LINES, UPDATES, Doubt, Engine
 from questions import BadLine, Question, read
 
 ROUND, ROUND_BYTES = 1_000, 4_000_000
@@ -259,8 +259,8 @@ class Broker:
             return
         if self.updates and self.updates[0].kind == "exchange":
             self.exchange(self.updates.popleft())
-        elif self.engine.line > self.settings.lines:
-            self.say(f"a fresh engine takes over after {self.engine.line:,} lines")
+        elif self.engine.line > self.settings.lines or self.engine.count > UPDATES:
+            self.say(f"a fresh engine takes over after {self.engine.line:,} lines and {self.engine.count:,} updates")
             self.start(self.journal.installed)
         elif self.updates and self.engine.idle:
             self.updating = True

@@ -8,8 +8,8 @@ from collections import deque
 from dnr_lines.lines import SYNC, cut
 
 PIPE = 1 << 20
-# Lines of a session are numbered up to 2^32 - 1; an engine is replaced by a fresh one long before.
-LINES = 4_000_000_000
+# A session has at most 2^32 - 1 lines and 1,000,000 updates; an engine is replaced by a fresh one before.
+LINES, UPDATES = 4_000_000_000, 900_000
 
 
 class Doubt(Exception):
