@@ -89,12 +89,16 @@ def url_of(url, method, kind):
     return url
 
 
-def initiator_of(header):
-    """Who asks: `Origin` where it is sent, else `Referer`, as they stand; nobody where the origin is opaque."""
+def initiator_of(url, header):
+    """Who asks: `Origin` where it is sent, else `Referer`, as they stand; nobody where the origin is opaque.
+
+    Where neither is sent, and the browser says that the site asks itself, it is the site.
+    """
     origin = header("Origin")
     if origin:
         return None if origin == "null" else origin
-    return header("Referer") or None
+    own = url if header("Sec-Fetch-Site") in ("same-origin", "same-site") else None
+    return header("Referer") or own
 
 
 def question(url, method, header):
@@ -105,7 +109,7 @@ def question(url, method, header):
     """
     kind = type_of(url, method, header)
     asked = {"url": url_of(url, method, kind), "type": kind, "method": method_of(method)}
-    initiator = initiator_of(header)
+    initiator = initiator_of(asked["url"], header)
     if initiator:
         asked["initiator"] = initiator
     referer = header("Referer")
