@@ -3,6 +3,8 @@
 Browsers say in `Sec-Fetch-Dest` and `Sec-Fetch-Mode` what a request is for (Fetch Metadata Request Headers, W3C), but only
 to hosts that they trust by `https`. Of other requests the type is told from what else they carry.
 """
+import re
+
 METHODS = {"connect", "delete", "get", "head", "options", "patch", "post", "put"}
 BY_DESTINATION = {
     "document": "main_frame",
@@ -81,7 +83,11 @@ def type_of(url, method, header):
 
 
 def url_of(url, method, kind):
-    """The URL in the form that rules see: of a tunnel the site, of a WebSocket the scheme `ws` or `wss`."""
+    """The URL in the form that rules see: of a tunnel the site, of a WebSocket the scheme `ws` or `wss`.
+
+    Bytes past ASCII are escaped, as the URL Standard escapes those of UTF-8.
+    """
+    url = re.sub("[\x80-\xff]", lambda byte: f"%{ord(byte[0]):02X}", url)
     if method == "CONNECT" and "://" not in url:
         return f"https://{url}/"
     if kind == "websocket" and url.startswith("http"):
@@ -102,7 +108,7 @@ def initiator_of(url, header):
 
 
 def question(url, method, header):
-    """The line that asks for a request.
+    """The line that asks for a request. URL and header values are read as Latin-1: each byte is a character.
 
     The page that `Referer` names stands as a frame under one that nobody knows, so exceptions for whole pages hold on it;
     of a page itself no frames are said.

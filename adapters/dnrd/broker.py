@@ -10,6 +10,7 @@ import shutil
 import time
 from collections import Counter, deque
 from functools import partial
+from itertools import islice
 from typing import NamedTuple
 
 from clients import Client
@@ -18,6 +19,8 @@ from engine import LINES, UPDATES, Doubt, Engine
 from questions import BadLine, Question, read
 
 ROUND, ROUND_BYTES = 1_000, 4_000_000
+# So many updates of a fresh engine stand in a round, so that making them holds up nobody.
+RESTORED = 4
 TRIES = 3
 WORD = re.compile(rb'"verdict":"(%s)"[,}]' % "|".join(VERDICTS).encode())
 
@@ -42,10 +45,11 @@ class Nobody:
 
 
 class Coming(NamedTuple):
-    """An engine that is being brought to a state, to take the place of another; `exchange` is the question that wants it."""
+    """An engine that is being brought to a state by `lines`; `exchange` is the question that wants it, if one does."""
 
     engine: Engine
     installed: object
+    lines: object
     exchange: object = None
 
 
@@ -61,11 +65,9 @@ class Broker:
         self.selector = selectors.DefaultSelector()
         self.selector.register(listener, selectors.EVENT_READ, partial(self.connect, listener))
         self.engine = self.coming = self.ending = None
-        self.waiting, self.updates, self.updating = deque(), deque(), False
-        self.touched, self.counts = set(), Counter()
+        self.waiting, self.updates, self.updating, self.updated_last = deque(), deque(), False, False
+        self.touched, self.counts, self.dying = set(), Counter(), []
         self.pauses, self.not_before, self.checked = 0, 0.0, 0.0
-        kinds = {"request": settings.deadline}
-        self.seconds = {kind: kinds.get(kind, settings.patience) for kind in ("request", "update", "exchange", "counts", "sync")}
         self.stopping = False
         self.bell, self.ringing = os.pipe()
         self.selector.register(self.bell, selectors.EVENT_READ, lambda _: os.read(self.bell, 1))
@@ -95,6 +97,7 @@ class Broker:
         if not self.coming:
             self.change(now)
         if self.engine and self.engine.idle and self.waiting:
+            self.updated_last = False
             self.begin_round(self.next_questions())
         while self.touched:
             self.touched.pop().flush()
@@ -122,7 +125,7 @@ class Broker:
     def take(self, client, line, now):
         """Takes in one line of a client."""
         try:
-            question = read(client, line, now, self.seconds)
+            question = read(client, line, now + self.settings.deadline)
         except BadLine as bad:
             self.by_setting(Question(client, bad.name, line, "request", now), bad.cause)
             return
@@ -189,7 +192,7 @@ class Broker:
             self.ending = None
             self.end(engine)
         elif engine.idle and self.coming and engine is self.coming.engine:
-            self.switch()
+            self.restore()
 
     def settle(self, engine, question, answer):
         """Takes one answer, or raises `Doubt` and leaves the question with the engine."""
@@ -221,6 +224,8 @@ class Broker:
 
     def tell(self, question, told, rest, word):
         """Hands a verdict to who asked."""
+        if question.client is Nobody:
+            return
         self.counts[word] += 1
         if question.relaxed:
             self.counts["relaxed"] += 1
@@ -262,8 +267,8 @@ class Broker:
         elif self.engine.line > self.settings.lines or self.engine.count > UPDATES:
             self.say(f"a fresh engine takes over after {self.engine.line:,} lines and {self.engine.count:,} updates")
             self.start(self.journal.installed)
-        elif self.updates and self.engine.idle:
-            self.updating = True
+        elif self.updates and self.engine.idle and not (self.waiting and self.updated_last):
+            self.updating = self.updated_last = True
             self.begin_round([self.updates.popleft()])
 
     def updated(self, engine, question, answer):
@@ -306,10 +311,22 @@ class Broker:
         room = self.journal.room(installed)
         engine = Engine(self.settings.program, [*workers, *installed.words()], room)
         engine.room = room
-        self.coming = Coming(engine, installed, exchange)
+        self.coming = Coming(engine, installed, installed.lines(), exchange)
         self.selector.register(engine.output, selectors.EVENT_READ, partial(self.hear, engine))
+        self.restore(first=True)
+
+    def restore(self, first=False):
+        """Hands the engine that comes the next of the updates that it is to make; without any it takes over.
+
+        The first round is asked in any case: its `sync` is answered when the files are read.
+        """
+        engine = self.coming.engine
+        updates = [Question(Nobody, b"", line, "restore", 0) for line in islice(self.coming.lines, RESTORED)]
+        if not updates and not first:
+            self.switch()
+            return
         try:
-            engine.ask([Question(Nobody, b"", line, "restore", 0) for line in installed.lines()])
+            engine.ask(updates)
             self.watch(engine)
         except Doubt as doubt:
             self.lose(engine, str(doubt))
@@ -330,7 +347,8 @@ class Broker:
     def exchanged(self, coming):
         """Keeps an exchange that was made, and replies."""
         name = loaded(coming.exchange.line)["extension"]
-        if any(coming.installed.item(name) is not it and (it.enabled or it.disabled) for it in [self.journal.installed.item(name)]):
+        before = self.journal.installed.item(name)
+        if before.enabled or before.disabled:
             self.say(f"{name} was exchanged: which of its rulesets and rules were enabled or disabled is as in its new files")
         try:
             self.journal.add_exchange(coming.installed, name)
@@ -344,6 +362,7 @@ class Broker:
             if pipe in self.selector.get_map():
                 self.selector.unregister(pipe)
         engine.close()
+        self.dying.append(engine.process)
         shutil.rmtree(engine.room, ignore_errors=True)
 
     def lose(self, engine, reason):
@@ -383,9 +402,9 @@ class Broker:
         said = last or reason
         if coming.exchange:
             self.say(f"the exchange came to nothing: {said}")
-            told = loaded(last.encode()) if last.startswith("{") else {"refused": "engine", "status": status}
+            told = loaded(last.encode()) if last.startswith("{") else {"refused": "engine", "why": reason}
             coming.exchange.reply(dumped(told)[1:])
-        elif not self.counts["engines"] and status > 0:
+        elif not self.counts["engines"] and (last.startswith("{") or (status or 0) > 0):
             raise Failed(said)
         else:
             self.pauses = min(self.pauses + 1, 6)
@@ -395,6 +414,7 @@ class Broker:
     def check(self, now):
         """Looks for questions that have waited too long, and for an engine that gives nothing."""
         self.checked = now
+        self.dying = [process for process in self.dying if process.poll() is None]
         for engine in (self.engine, self.ending, self.coming and self.coming.engine):
             if engine and not engine.idle:
                 patient = self.updating or (self.coming and engine is self.coming.engine)
@@ -415,4 +435,6 @@ class Broker:
         """Ends all engines."""
         for engine in filter(None, (self.engine, self.ending, self.coming and self.coming.engine)):
             self.end(engine)
+        for process in self.dying:
+            process.wait()
         self.selector.close()

@@ -32,7 +32,13 @@ class Engine:
 
     def __init__(self, program, words, room):
         self.process = subprocess.Popen(
-            [program, "serve", *words, "/dev/stdin"], cwd=room, bufsize=0, stdin=subprocess.PIPE, stdout=subprocess.PIPE
+            [program, "serve", *words, "/dev/stdin"],
+            cwd=room,
+            bufsize=0,
+            stdin=subprocess.PIPE,
+            stdout=subprocess.PIPE,
+            # (a signal to the broker from a terminal is not one to the engine)
+            start_new_session=True,
         )
         self.input, self.output = self.process.stdin.fileno(), self.process.stdout.fileno()
         for pipe in (self.input, self.output):
@@ -41,7 +47,8 @@ class Engine:
         self.line = 0
         self.number(0, 0)
         self.asked, self.synced = deque(), True
-        self.unwritten, self.unread = b"", b""
+        self.unwritten, self.unread, self.odd = b"", b"", b""
+        self.ended = False
         self.moved = time.monotonic()
 
     def number(self, count, shift):
@@ -82,12 +89,14 @@ class Engine:
         except BlockingIOError:
             return
         if not chunk:
+            self.ended = True
             raise Doubt(f"it ended with status {self.status()}")
         self.moved = time.monotonic()
         lines, self.unread = cut(self.unread, chunk)
         for text in lines:
             beginning = b'{"line":%d,' % (self.line + 1)
             if self.synced or not text.startswith(beginning) or not text.endswith(b"}"):
+                self.odd = text
                 raise Doubt(f"line {self.line + 1} was to be answered, and it wrote {text[:80]!r}")
             self.line += 1
             if self.asked:
@@ -102,25 +111,18 @@ class Engine:
         self.synced = True
 
     def last_words(self):
-        """What an engine that has ended wrote and nobody took, and its status."""
-        status = self.status()
-        try:
-            left = os.read(self.output, PIPE)
-        except OSError:
-            left = b""
-        return (self.unread + left).decode(errors="replace").strip(), status
+        """The line that was no answer, or else what was left of one, and the status where it has ended."""
+        return (self.odd or self.unread).decode(errors="replace").strip(), self.status()
 
     def status(self):
-        """The status of an engine whose output has ended; one that still runs is killed."""
+        """The status of an engine that has ended, and None where it hasn't. Where its output has ended it soon does."""
         try:
-            return self.process.wait(0.5)
+            return self.process.wait(0.5 if self.ended else 0)
         except subprocess.TimeoutExpired:
-            self.process.kill()
-            return self.process.wait()
+            return None
 
     def close(self):
-        """Ends the engine."""
+        """Ends the engine; its process is to be waited for later."""
         self.process.kill()
         self.process.stdin.close()
         self.process.stdout.close()
-        self.process.wait()

@@ -3,12 +3,9 @@
 Lists and extensions that the words named stay as words of `dnr serve`, in their order. What updates did to them is kept
 as what it came to, not as the updates: a rule that was added and removed again is nowhere.
 """
-import json
-
 from dnr_lines.lines import LONGEST, dumped
 
-RULES_A_LINE = 500
-ENTRIES_A_BATCH = 256
+RULES_A_LINE = 200
 
 
 class Item:
@@ -99,23 +96,20 @@ class Installed:
         ids |= set(update.get("disableRuleIds", ()))
         ids -= set(update.get("enableRuleIds", ()))
 
-    def updates(self):
-        """The lines that bring a fresh engine, started with `words`, to this state.
+    def lines(self):
+        """The lines, in bytes, that bring a fresh engine, started with `words`, to this state.
 
         No limit is passed on the way that holds at its end: rulesets are disabled before others are enabled.
         """
-        yield from (rulesets_line(item, False) for item in self.items if item.kind != "install")
+        named = [item for item in self.items if item.kind != "install"]
+        yield from (rulesets_line(item, False) for item in named if False in item.enabled.values())
         yield from (install_line(item) for item in self.items if item.kind == "install")
-        yield from (rulesets_line(item, True) for item in self.items if item.kind != "install")
+        yield from (rulesets_line(item, True) for item in named if True in item.enabled.values())
         for item in self.items:
             for name, ids in item.disabled.items():
-                yield {"cmd": "static", "extension": item.name, "rulesetId": name, "disableRuleIds": sorted(ids)}
+                yield dumped({"cmd": "static", "extension": item.name, "rulesetId": name, "disableRuleIds": sorted(ids)})
             yield from rules_lines("dynamic", item.name, item.dynamic)
             yield from rules_lines("session", item.name, item.session)
-
-    def lines(self):
-        """The same as bytes, without those that ask for nothing."""
-        return [dumped(update) for update in self.updates() if asks_for_something(update)]
 
 
 def exchange_rules(rules, update):
@@ -128,30 +122,29 @@ def exchange_rules(rules, update):
 def rulesets_line(item, enabled):
     """The update that enables, or disables, what was chosen so."""
     key = "enableRulesetIds" if enabled else "disableRulesetIds"
-    return {"cmd": "rulesets", "extension": item.name, key: [it for it, on in item.enabled.items() if on == enabled]}
+    return dumped({"cmd": "rulesets", "extension": item.name, key: [it for it, on in item.enabled.items() if on == enabled]})
 
 
 def install_line(item):
     """The update that installs an extension with its rulesets as they are enabled now."""
     rulesets = [{**it, "enabled": item.enabled.get(it["id"], it["enabled"])} for it in item.rulesets]
     line = {"cmd": "install", "extension": item.name, "rulesets": rulesets}
-    return line if item.permissions is None else {**line, "hostPermissions": item.permissions}
+    return dumped(line if item.permissions is None else {**line, "hostPermissions": item.permissions})
 
 
 def rules_lines(command, name, rules):
     """The updates that add these rules, each short enough for a line."""
     chunk, size = [], 0
-    for rule in rules.values():
-        length = len(json.dumps(rule))
-        if chunk and (len(chunk) == RULES_A_LINE or size + length > LONGEST // 2):
-            yield {"cmd": command, "extension": name, "addRules": chunk}
+    for text in map(dumped, rules.values()):
+        if chunk and (len(chunk) == RULES_A_LINE or size + len(text) > LONGEST // 2):
+            yield rules_line(command, name, chunk)
             chunk, size = [], 0
-        chunk.append(rule)
-        size += length
+        chunk.append(text)
+        size += len(text)
     if chunk:
-        yield {"cmd": command, "extension": name, "addRules": chunk}
+        yield rules_line(command, name, chunk)
 
 
-def asks_for_something(update):
-    """Whether an update changes anything."""
-    return any(value for key, value in update.items() if key not in ("cmd", "extension", "rulesetId")) or update["cmd"] == "install"
+def rules_line(command, name, texts):
+    """The update that adds rules of which these are the texts."""
+    return b'{"cmd":"%s","extension":"%s","addRules":[%s]}' % (command.encode(), name.encode(), b",".join(texts))

@@ -24,10 +24,11 @@ class Trouble(Exception):
 
 
 def rules_files(folder):
-    """The rules files that a manifest names, as far as it can be read; what is wrong with it `dnr` says better."""
+    """The rules files in a folder that its manifest names, as far as it can be read; what is wrong with it `dnr` says better."""
     try:
         resources = json.loads((folder / "manifest.json").read_bytes())["declarative_net_request"]["rule_resources"]
-        return [resource["path"] for resource in resources]
+        paths = [Path(resource["path"]) for resource in resources]
+        return [path for path in paths if not path.is_absolute() and ".." not in path.parts]
     except (OSError, ValueError, LookupError, TypeError):
         return []
 

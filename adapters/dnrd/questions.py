@@ -43,8 +43,8 @@ def kind_of(command):
     return command if command in OTHERS else None
 
 
-def read(client, line, now, patience):
-    """The question that a line of a client holds. `patience` gives, for each kind, how many seconds it may wait.
+def read(client, line, until):
+    """The question that a line of a client holds, which may wait until that time where it is a request.
 
     The line is handed on as it stands: to `dnr` the `id` is a key that it doesn't know.
     """
@@ -58,4 +58,4 @@ def read(client, line, now, patience):
     kind = kind_of(command) if isinstance(command, str) else None
     if kind is None:
         raise BadLine(name, {"bad": "command", "path": "cmd"})
-    return Question(client, name, line, kind, now + patience[kind])
+    return Question(client, name, line, kind, until)

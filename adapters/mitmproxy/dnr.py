@@ -68,6 +68,12 @@ def text_of(name_or_value):
     return name_or_value.decode("latin-1")
 
 
+def header_of(headers):
+    """A function that gives the value of a header, or None."""
+    values = {text_of(name).lower(): text_of(value) for name, value in headers.fields}
+    return lambda name: values.get(name.lower())
+
+
 def bytes_of(text):
     """The bytes of a header that a rule sets."""
     try:
@@ -151,7 +157,8 @@ class Dnr:
         """Asks for a request before it is sent."""
         if flow.response:
             return
-        line = question(flow.request.url, flow.request.method, flow.request.headers.get)
+        url = flow.request.url.encode("utf-8", "surrogateescape").decode("latin-1")
+        line = question(url, flow.request.method, header_of(flow.request.headers))
         line["requestHeaders"] = pairs(flow.request.headers)
         decision = await self.decision(line)
         flow.response = answer_of(decision)

@@ -57,7 +57,8 @@ class ProxyCases:
         """The answer to a request through the proxy, and whether it reached the server."""
         before = len(self.server.seen)
         answer = curl(self.proxy, f"http://{path}", *words)
-        return answer, len(self.server.seen) > before
+        host = path.partition("/")[0]
+        return answer, any(it.startswith(host) for it in self.server.seen[before:])
 
     def test_what_no_rule_is_for_passes(self):
         answer, reached = self.asked("plain.localhost/x")
@@ -111,6 +112,13 @@ class ProxyCases:
             answer, reached = self.asked("blocked.localhost/x", "--header", header)
             self.assertEqual((answer.status, reached), (403, False), header)
             self.assertEqual(self.asked("plain.localhost/x", "--header", header)[0].status, 200, header)
+
+    def test_a_url_past_ascii_is_asked_as_it_is(self):
+        for path in (b"/\xe9", "/\u00e9".encode(), b"/x?\xff"):
+            statuses = [curl(self.proxy, b"http://%s.localhost%s" % (host, path)).status for host in (b"plain", b"blocked")]
+            # (mitmproxy takes no such URL)
+            self.assertIn(statuses, ([200, 403], [400, 400]), path)
+        self.assertFalse(any("blocked" in it for it in self.server.seen if "allowed" not in it))
 
     def test_a_malformed_referer_passes_nothing_that_is_blocked(self):
         for referer in ("http://a!b.example/", "about:blank", "nonsense", "http://[::1", "https://"):
