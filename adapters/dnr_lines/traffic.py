@@ -38,7 +38,12 @@ BY_ENDING = {
     **dict.fromkeys(("mp4", "webm", "mp3", "ogg", "m4a", "m4v", "ts", "m3u8"), "media"),
 }
 # Beginnings of `Accept` as browsers send them where a destination is not told.
-BY_ACCEPT = (("text/html", "main_frame"), ("text/css", "stylesheet"), ("image/", "image"), ("text/event-stream", "xmlhttprequest"))
+BY_ACCEPT = (
+    ("text/html", "main_frame"),
+    ("text/css", "stylesheet"),
+    ("image/", "image"),
+    ("text/event-stream", "xmlhttprequest"),
+)
 
 
 def method_of(method):

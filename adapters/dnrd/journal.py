@@ -24,7 +24,7 @@ class Trouble(Exception):
 
 
 def rules_files(folder):
-    """The rules files in a folder that its manifest names, as far as it can be read; what is wrong with it `dnr` says better."""
+    """The rules files in a folder that its manifest names, as far as it can be read; `dnr` says what is wrong with it."""
     try:
         resources = json.loads((folder / "manifest.json").read_bytes())["declarative_net_request"]["rule_resources"]
         paths = [Path(resource["path"]) for resource in resources]

@@ -130,7 +130,7 @@ class Dnr:
         loader.add_option("dnr_socket", str, "/run/dnrd/socket", "where the broker listens")
         loader.add_option("dnr_undecided", str, "closed", "what becomes of requests while no broker answers: closed or open")
         loader.add_option("dnr_seconds", int, 5, "how long the broker may take")
-        loader.add_option("dnr_responses", bool, True, "whether responses are asked, too, as rules with conditions on them need")
+        loader.add_option("dnr_responses", bool, True, "whether responses are asked for, too, since rules may test them")
 
     def configure(self, updated):
         """Takes the options in."""

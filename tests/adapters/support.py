@@ -174,7 +174,7 @@ class Answer:
 def curl(proxy, url, *words):
     """Asks for a URL through a proxy on the loopback."""
     done = subprocess.run(
-        ["curl", "--silent", "--show-error", "--include", "--max-time", "20", "--proxy", f"http://127.0.0.1:{proxy}", *words, url],
+        ["curl", "--silent", "--include", "--max-time", "20", "--proxy", f"http://127.0.0.1:{proxy}", *words, url],
         stdout=subprocess.PIPE,
         stderr=subprocess.PIPE,
         check=False,

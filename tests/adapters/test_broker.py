@@ -98,14 +98,14 @@ class OverTheProgram(unittest.TestCase):
             with broker.client() as client:
                 for number in range(100):
                     if number % 25 == 10:
-                        update = {"cmd": "dynamic", "extension": "easy", "addRules": [rule(place * 100 + number + 1, f"n{number}.p{place}.test")]}
-                        told = client.ask({"id": "u", **update})
+                        added = rule(place * 100 + number + 1, f"n{number}.p{place}.test")
+                        told = client.ask({"id": "u", "cmd": "dynamic", "extension": "easy", "addRules": [added]})
                         if "accepted" not in told:
                             threads.wrong.append(told)
                     host = draw.choice((f"even{place}.test", f"n{draw.randrange(100)}.p{place}.test"))
                     told = client.ask(asked(host, number))
-                    added = host[0] == "n" and int(host[1:].split(".")[0]) in range(10, number + 1, 25)
-                    wanted = "block" if added or host == f"even{place}.test" and place % 2 == 0 else "none"
+                    is_added = host[0] == "n" and int(host[1:].split(".")[0]) in range(10, number + 1, 25)
+                    wanted = "block" if is_added or host == f"even{place}.test" and place % 2 == 0 else "none"
                     if (told["id"], told["verdict"], "setting" in told) != (number, wanted, False):
                         threads.wrong.append((host, number, told))
                     done[place] += 1
@@ -215,7 +215,8 @@ class OverTheProgram(unittest.TestCase):
             file.write(b'{"number":5,"update":{"cmd":"dyn')
         broker = self.start()
         with broker.client() as client:
-            told = [client.ask(asked(host))["verdict"] for host in ("d.test", "s.test", "other.test", "even2.test", "blocked.localhost")]
+            hosts = ("d.test", "s.test", "other.test", "even2.test", "blocked.localhost")
+            told = [client.ask(asked(host))["verdict"] for host in hosts]
             self.assertEqual(told, ["block", "none", "block", "none", "none"])
             self.assertEqual(client.ask({"cmd": "sync", "id": 1}), {"id": 1, "sync": 4})
         broker.stop()
@@ -252,16 +253,18 @@ def updates(draw, count):
         extension = draw.choice(("easy", "guard", "more"))
         rules = [rule(draw.randrange(1, 20), f"h{draw.randrange(30)}.test", priority=draw.randrange(1, 4)) for _ in range(2)]
         changed = {"extension": extension, "removeRuleIds": [draw.randrange(1, 20)], "addRules": rules}
+        ruleset = {"id": "m", "enabled": draw.random() < 0.5, "rules": [rule(1, "h1.test")]}
+        switched = {draw.choice(("disableRuleIds", "enableRuleIds")): [1]}
         one = draw.choice(
             (
                 {"cmd": "dynamic", **changed},
                 {"cmd": "session", **changed},
                 {"cmd": "batch", "updates": [{"cmd": "dynamic", **changed}, {"cmd": "session", **changed}]},
-                {"cmd": "install", "extension": "more", "rulesets": [{"id": "m", "enabled": draw.random() < 0.5, "rules": [rule(1, "h1.test")]}]},
+                {"cmd": "install", "extension": "more", "rulesets": [ruleset]},
                 {"cmd": "uninstall", "extension": "more"},
                 {"cmd": "rulesets", "extension": "more", "enableRulesetIds": ["m"]},
                 {"cmd": "static", "extension": "more", "rulesetId": "m", "disableRuleIds": [1]},
-                {"cmd": "static", "extension": "easy", "rulesetId": "list", draw.choice(("disableRuleIds", "enableRuleIds")): [1]},
+                {"cmd": "static", "extension": "easy", "rulesetId": "list", **switched},
             )
         )
         yield {"id": number, **one}

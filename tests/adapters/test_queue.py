@@ -31,7 +31,8 @@ class Queue(unittest.TestCase):
         with self.start().client() as client:
             client.ask(block(1, "a.test"))
             self.assertEqual(client.ask(asked("dies.test"))["verdict"], "none")
-            self.assertEqual(client.ask(asked("a.test")), {"id": 1, "generation": 1, "verdict": "block", "rule": ["a", "_dynamic", 1]})
+            wanted = {"id": 1, "generation": 1, "verdict": "block", "rule": ["a", "_dynamic", 1]}
+            self.assertEqual(client.ask(asked("a.test")), wanted)
 
     def test_an_answer_that_is_left_out_gives_no_wrong_one(self):
         with self.start().client() as client:
@@ -73,7 +74,8 @@ class Queue(unittest.TestCase):
 
     def test_lines_that_cannot_be_asked_are_no_leave_to_pass(self):
         with self.start().client() as client:
-            for line, cause in ((b"{", "json"), (b"[]", "json"), (b'{"cmd":"zzz","id":1}', "command"), (b'{"cmd":1}', "command")):
+            lines = {b"{": "json", b"[]": "json", b'{"cmd":"zzz","id":1}': "command", b'{"cmd":1}': "command"}
+            for line, cause in lines.items():
                 client.connection.sendall(line + b"\n")
                 told = client.reply()
                 self.assertEqual((told["verdict"], told["cause"]["bad"]), ("block", cause), line)

@@ -32,11 +32,12 @@ ASKED = [
     ("http://a.test/x", "GET", {"X-Requested-With": "XMLHttpRequest"}, {"type": "xmlhttprequest"}),
     ("http://a.test/x", "BREW", {}, {"type": "other", "method": "other"}),
     ("http://a.test/x", "GET", {"Origin": "http://b.test", "Referer": "http://c.test/"}, {"initiator": "http://b.test"}),
-    ("http://a.test/x", "GET", {"Referer": "http://c.test/d"}, {"initiator": "http://c.test/d", "frames": [{"url": None}, {"url": "http://c.test/d"}]}),
+    ("http://a.test/x", "GET", {"Referer": "http://c.test/d"}, {"initiator": "http://c.test/d"}),
+    ("http://a.test/x", "GET", {"Referer": "http://c.test/d"}, {"frames": [{"url": None}, {"url": "http://c.test/d"}]}),
     ("http://a.test/x", "GET", {"Origin": "null"}, {"initiator": None}),
     ("http://a.test/x", "GET", {"Sec-Fetch-Site": "same-origin"}, {"initiator": "http://a.test/x"}),
     ("http://a.test/x", "GET", {"Sec-Fetch-Site": "cross-site"}, {"initiator": None}),
-    ("http://a.test/", "GET", {"Accept": "text/html", "Referer": "http://c.test/"}, {"frames": None, "initiator": "http://c.test/"}),
+    ("http://a.test/", "GET", {"Accept": "text/html", "Referer": "http://c.test/"}, {"frames": None}),
 ]
 
 

@@ -1,7 +1,7 @@
 """Lines of a filter list that are read as something else than they look like."""
 import re
 
-from dnr_tools.known import OPTIONS, OTHER_NAMES, meant
+from dnr_tools.known import FURTHER_OPTIONS, OPTIONS, OTHER_NAMES, meant
 from dnr_tools.never import never
 from dnr_tools.words import UNSUPPORTED
 
@@ -66,7 +66,7 @@ def looks_like_options(text):
     for at in (match.start() for match in re.finditer(r"\$", text)):
         pieces = text[at + 1 :].split(",")
         first = pieces[0].lstrip("~").partition("=")[0].lower()
-        if first in OPTIONS or first in OTHER_NAMES or first in ("popup", "csp", "redirect", "removeparam", "important", "replace"):
+        if first in OPTIONS or first in OTHER_NAMES or first in FURTHER_OPTIONS:
             wrong = next((piece for piece in pieces if not ENTRY.fullmatch(piece)), "")
             why = f"{wrong} is no option" if wrong else "an entry is empty"
             return f"{text[at:]} is read as a part of the pattern, since {why}"

@@ -5,6 +5,14 @@ TYPES = """main_frame sub_frame stylesheet script image font object xmlhttpreque
 webbundle other""".split()
 METHODS = "connect delete get head options patch post put other".split()
 ACTIONS = "block redirect allow upgradeScheme modifyHeaders allowAllRequests".split()
+# The words that fields of a condition may have, or their entries.
+WORDS = {
+    "resourceTypes": TYPES,
+    "excludedResourceTypes": TYPES,
+    "requestMethods": METHODS,
+    "excludedRequestMethods": METHODS,
+    "domainType": ["firstParty", "thirdParty"],
+}
 HEADER_TEST = {"header": None, "values": None, "excludedValues": None}
 HEADER_CHANGE = {"header": None, "operation": None, "value": None}
 PAIR = {"key": None, "value": None, "replaceOnly": None}
@@ -19,8 +27,10 @@ TRANSFORM["queryTransform"] = {"removeParams": None, "addOrReplaceParams": [PAIR
 REDIRECT = {"extensionPath": None, "url": None, "regexSubstitution": None, "transform": TRANSFORM}
 ACTION = {"type": None, "redirect": REDIRECT, "requestHeaders": [HEADER_CHANGE], "responseHeaders": [HEADER_CHANGE]}
 RULE = {"id": None, "priority": None, "condition": CONDITION, "action": ACTION}
-OPTIONS = """script image stylesheet object xmlhttprequest ping websocket font media subdocument other third-party domain match-case
-document""".split()
+OPTIONS = """script image stylesheet object xmlhttprequest ping websocket font media subdocument other third-party domain
+match-case document""".split()
+# Options of uBlock Origin and Adblock Plus that no rule can say.
+FURTHER_OPTIONS = "popup csp redirect removeparam important replace rewrite permissions header badfilter".split()
 # What uBlock Origin calls options that Adblock Plus has under another name.
 OTHER_NAMES = {
     "3p": "third-party",

@@ -7,6 +7,7 @@ from dnr_tools.words import some
 SCHEMES = ("http://", "https://", "ws://", "wss://", "ftp://", "chrome-extension://")
 # The URL Standard writes none of these in what stands before a fragment.
 NOT_IN_URLS = re.compile(r'[\x00-\x20"<>#\x7f]')
+ODD_WORDS = {"#": "a fragment, which is cut off", " ": "a space, which stands as %20"}
 BEHIND_DOMAIN_ANCHOR = re.compile(r"[A-Za-z0-9._\[*^-]|$")
 PLAIN_HOST = re.compile(r"\|\|([a-z0-9_-]+(?:\.[a-z0-9_-]+)*)[/^].*", re.I)
 
@@ -56,8 +57,7 @@ def by_pattern(condition):
     text = condition.get("urlFilter", "")
     odd = NOT_IN_URLS.search(text)
     if odd:
-        shown = {"#": "a fragment, which is cut off", " ": "a space, which stands as %20"}.get(odd[0], f"{odd[0]!r}, which is escaped")
-        return f"no URL that rules see has {shown}"
+        return f"no URL that rules see has {ODD_WORDS.get(odd[0]) or repr(odd[0]) + ', which is escaped'}"
     heeds_case = condition.get("isUrlFilterCaseSensitive") is True
     if text.startswith("||"):
         return by_domain_anchor(text[2:], heeds_case)
