@@ -1,0 +1,61 @@
+"""What clients ask: a line, its `id`, and the reply that it gets."""
+from dnr_lines.lines import QUESTIONS, UPDATES, dumped, loaded
+
+# What a question keeps when it is asked again: neither headers nor frames, and nobody asks.
+KEPT = ("cmd", "url", "type", "method", "tab")
+OTHERS = ("exchange", "counts", "sync")
+
+
+class BadLine(Exception):
+    """A line that can't be asked: its `id` as JSON, and a cause in the words of `dnr`."""
+
+    def __init__(self, name, cause):
+        super().__init__(cause)
+        self.name, self.cause = name, cause
+
+
+class Question:
+    """One line of a client. `kind` is "request", "update", "exchange", "counts" or "sync"."""
+
+    __slots__ = ("client", "name", "line", "kind", "until", "tries", "relaxed")
+
+    def __init__(self, client, name, line, kind, until):
+        self.client, self.name, self.line, self.kind, self.until = client, name, line, kind, until
+        self.tries, self.relaxed = 0, False
+
+    def relax(self):
+        """Makes this the same question without headers and frames, asked by nobody."""
+        whole = loaded(self.line)
+        self.line = dumped({key: whole[key] for key in KEPT if key in whole})
+        self.relaxed = True
+
+    def reply(self, rest):
+        """Tells the client what comes behind the `id`, in bytes that end with a brace."""
+        self.client.reply(b'{"id":%s,%s' % (self.name, rest))
+
+
+def kind_of(command):
+    """What a line asks for, or None."""
+    if command in QUESTIONS:
+        return "request"
+    if command in UPDATES:
+        return "update"
+    return command if command in OTHERS else None
+
+
+def read(client, line, until):
+    """The question that a line of a client holds, which may wait until that time where it is a request.
+
+    The line is handed on as it stands: to `dnr` the `id` is a key that it doesn't know.
+    """
+    try:
+        whole = loaded(line)
+    except ValueError:
+        raise BadLine(b"null", {"bad": "json"}) from None
+    name = whole.get("id")
+    name = dumped(name) if name.__class__ in (str, int) else b"null"
+    command = whole.get("cmd", "request")
+    kind = kind_of(command) if isinstance(command, str) else None
+    if kind is None:
+        raise BadLine(name, {"bad": "command", "path": "cmd"})
+    return Question(client, name, line, kind, until)
