@@ -32,7 +32,7 @@ pub(crate) fn load_suffixes<F: Shelf>(
     ensures cause { HasCauseOf Stop.ReadFault (F.Source.faults shelf.old) (F.Source.faults shelf.new) result }
 {
     match name {
-        Some(name) => load_file(alloc, name, shelf),
+        Some(name) => load_suffix_file(alloc, name, shelf),
         None => match no_suffixes(alloc) {
             Ok(list) => Ok(list),
             Err(NoMemory) => Err(Stop::NoMemory),
@@ -40,7 +40,7 @@ pub(crate) fn load_suffixes<F: Shelf>(
     }
 }
 
-fn load_file<F: Shelf>(alloc: Global, name: &str, shelf: &mut F) -> Result<SuffixList, Stop>
+fn load_suffix_file<F: Shelf>(alloc: Global, name: &str, shelf: &mut F) -> Result<SuffixList, Stop>
     requires { F.allows name.now }
     ensures suffixes { IfOk result (TellsSuffixFile (F.Source.files shelf.old) name.now) }
     ensures stops { IfErr result (StopsInSuffixFile (F.Source.files shelf.old) name.now) }
