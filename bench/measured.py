@@ -2,11 +2,32 @@
 import json
 import os
 import resource
+import shutil
 import subprocess
+import sys
+from pathlib import Path
 
+TOP = Path(__file__).resolve().parent.parent
 RUNS = 3
 # A process that Python starts would count Python's own memory as its peak.
 TIME = "/usr/bin/time"
+
+
+def built_program():
+    """The program that DNR_PROGRAM names, or else the one that ./build made here."""
+    named = os.environ.get("DNR_PROGRAM")
+    if not named:
+        return TOP / "crates/dnr/out/dnr"
+    return Path(named if "/" in named else shutil.which(named) or named).absolute()
+
+
+PROGRAM = built_program()
+
+
+def want_program(who):
+    """Ends where there is no built program."""
+    if not os.access(PROGRAM, os.X_OK):
+        sys.exit(f"{who}: {PROGRAM} is not there; ./build builds the program, and DNR_PROGRAM names one that was built elsewhere")
 
 
 def seconds_of_children():

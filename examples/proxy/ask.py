@@ -1,14 +1,14 @@
 #!/usr/bin/env python3
 """Asks `dnr serve` what becomes of requests while it runs, as a proxy or a browser would: examples/proxy/ask.py
 
-The engine reads its script from a named pipe. It answers a round of lines when the round has ended, and a `sync` ends one:
-so each question is a line and a `sync`, and the answer comes at once. Updates go the same way.
+The engine reads its script from /dev/stdin, a pipe of this program: so it ends when this program does. It answers a round of
+lines when the round has ended, and a `sync` ends one: so each question is a line and a `sync`, and the answer comes at once.
+Updates go the same way.
 """
+import contextlib
 import json
-import os
 import subprocess
 import sys
-import tempfile
 import time
 from pathlib import Path
 
@@ -20,29 +20,25 @@ class Engine:
     """A running engine. `words` are those of `dnr serve` but for the script; names are looked up in `folder`."""
 
     def __init__(self, words, folder):
-        self.room = tempfile.TemporaryDirectory()
-        pipe = os.path.join(self.room.name, "script")
-        os.mkfifo(pipe)
-        self.process = subprocess.Popen(
-            [DNR, "serve", *words, pipe], cwd=folder, stdin=subprocess.DEVNULL, stdout=subprocess.PIPE
-        )
-        # (this waits until the engine opens the pipe)
-        self.script = open(pipe, "wb", buffering=0)
+        words = [DNR, "serve", *words, "/dev/stdin"]
+        self.process = subprocess.Popen(words, cwd=folder, stdin=subprocess.PIPE, stdout=subprocess.PIPE)
 
     def ask(self, line):
         """Hands the engine one line of a script, an object, and gives its answer."""
-        self.script.write(json.dumps(line).encode() + b'\n{"cmd":"sync"}\n')
-        answer = json.loads(self.process.stdout.readline())
+        with contextlib.suppress(BrokenPipeError):
+            self.process.stdin.write(json.dumps(line).encode() + b'\n{"cmd":"sync"}\n')
+            self.process.stdin.flush()
+        answer = self.process.stdout.readline()
+        if not answer:
+            raise SystemExit(f"the engine ended, with status {self.process.wait()}")
+        # (the answer of the sync)
         self.process.stdout.readline()
-        return answer
+        return json.loads(answer)
 
     def close(self):
         """Ends the script, and gives the engine's status."""
-        self.script.close()
-        status = self.process.wait()
-        self.process.stdout.close()
-        self.room.cleanup()
-        return status
+        self.process.stdin.close()
+        return self.process.wait()
 
 
 def main():
