@@ -1,0 +1,165 @@
+"""Writes docs/MEASURED.md, its picture, and the table of README.md, of the files that bench/all wrote of one day."""
+import hashlib
+import sys
+from importlib.machinery import SourceFileLoader
+from pathlib import Path
+
+sys.dont_write_bytecode = True
+plot = SourceFileLoader("plot", str(Path(__file__).resolve().parent / "plot")).load_module()
+BEGIN, END = "<!-- made by bench/all -->\n", "<!-- to here -->\n"
+
+
+def sum_of(path):
+    return hashlib.sha256(Path(path).read_bytes()).hexdigest()
+
+
+def table(head, rows):
+    """A table of Markdown."""
+    lines = [head, ["---"] * len(head), *rows]
+    return "".join("| " + " | ".join(map(str, row)) + " |\n" for row in lines)
+
+
+def number(value, form, unit=""):
+    """A value as it is told, or nothing where it was not measured."""
+    return f"{float(value):{form}}{unit}" if value != "" else ""
+
+
+def seconds(value):
+    """Seconds in the unit that fits them."""
+    value = float(value)
+    for unit, most in (("s", 0.1), ("ms", 1e-3)):
+        if value >= most:
+            value = value if unit == "s" else 1e3 * value
+            return f"{value:.{1 if value >= 10 else 2}f} {unit}"
+    return f"{1e6 * max(value, 0):.0f} µs"
+
+
+def row_of(row, others):
+    """A row of requests, with what `dnr` takes by what each plain program does."""
+    mine = next(it for it in others if it["program"] == "dnr" and it["rules"] == row["rules"])
+    ratio = [
+        f"{float(mine[column]) / float(row[column]):.2f}" if row is not mine and mine[column] and row[column] and float(row[column]) else ""
+        for column in ("request_us", "request_instructions")
+    ]
+    return [
+        f"{int(row['rules']):,}",
+        row["program"],
+        number(row["request_us"], ".2f", " µs"),
+        ratio[0],
+        number(row["request_instructions"], ",.0f"),
+        ratio[1],
+        seconds(row["load_s"]),
+        number(row["peak_mib"], ".1f", " MiB"),
+    ]
+
+
+REQUEST_HEAD = ["rules", "program", "a request", "dnr by it", "instructions", "dnr by it", "loading", "peak"]
+
+
+def document(results, day):
+    """The text of docs/MEASURED.md."""
+    rows = {name: plot.rows_of(results, day, name) for name in ("requests", "filters", "lists", "limits", "workers", "machine")}
+    of = {it["what"]: it["is"] for it in rows["machine"]}
+    parts = [
+        f"""# Measured
+
+Figures of one state on one machine: the program built of commit `{of["commit"]}`, measured on {of["day"]} by
+
+```
+bench/all
+```
+
+which wrote them into [bench/results](../bench/results) as files that begin with `{day}`, and made this page, its picture and the table of the [README](../README.md) of these files.
+Nothing of this is promised, and what is proved says nothing of time or memory.
+
+""",
+        table(
+            ["what", ""],
+            [
+                ["processor", f"{of['processor']}, {of['processors']} of them"],
+                ["memory", f"{of['memory_gb']} GB"],
+                ["system", of["system"]],
+                ["other work at the beginning and the end", f"{of['load_before']} and {of['load_after']} processes that wanted a processor, in the mean of a minute"],
+                ["toolchain", f"`{of['toolchain']}`" if of["toolchain"] else "not on this machine"],
+                ["the program, its SHA-256", f"`{of['program_sha256']}`"],
+                ["plain programs", f"{of['rustc']}, `-O`" if of["rustc"] else "not measured, since rustc was missing"],
+                ["instructions", f"{of['valgrind']}, cachegrind" if of["valgrind"] else "not counted, since valgrind was missing"],
+                ["lists", of["lists"] + (f", of Debian's uBlock Origin {of['lists_package']}" if of["lists_package"] else "") if of["lists"] else "none"],
+            ],
+        ),
+        """
+![Time and instructions a request, memory and loading against the number of rules; requests a second by workers; updates](measured.svg)
+
+A time is one of the processor, so that other work counts little, and the least of some runs in which the programs take turns; where it is by the clock it says so.
+
+## Requests
+
+""",
+        f"""Rules and requests are drawn from the seed {of["seed"]}, as `bench/run` says: each rule with a urlFilter and, as in filter lists, some of types, a party, domains and methods; {int(of["requests"]):,} requests as pages ask for them.
+Reading a request's line and writing its answer are in these figures.
+Beside `dnr match` stand plain Rust programs that find rules by the rarest of their words, as Brave's engine does. One reads lines by `serde_json` and `url`, as most Rust programs do, and the other by hand, with little checking. Neither checks the rules that it loads. All write the same bytes.
+A ratio is the figure of `dnr` by that of the program in its row: below 1 `dnr` needs less.
+
+""",
+        table(REQUEST_HEAD, [row_of(it, rows["requests"]) for it in rows["requests"]]),
+    ]
+    if rows["filters"]:
+        parts += [
+            """
+## Requests over the filters of lists
+
+The same with all filters of the lists, each a rule of its own, and requests of which a fifth go to hosts that filters name.
+What plain programs do not read is left out: regular expressions, filters that heed case, and other actions than block and allow.
+
+""",
+            table(REQUEST_HEAD, [row_of(it, rows["filters"]) for it in rows["filters"]]),
+        ]
+    if rows["lists"]:
+        parts += [
+            "\n## Filter lists\n\n`serve all` has each list as an extension. A list may give many filters as one rule.\n\n",
+            table(
+                ["what", "lines", "rules", "time", "peak"],
+                [[it["what"], f"{int(it['lines']):,}", f"{int(it['rules']):,}", seconds(it["seconds"]), number(it["peak_mib"], ".1f", " MiB")] for it in rows["lists"]],
+            ),
+        ]
+    parts += [
+        """
+## Updates, long scripts and hostile lines
+
+Of updates the time is less that of the same session without them. Where each rule is added when the last was, it is by the clock, from the line that a program writes into a pipe to the answer that it reads.
+
+""",
+        table(["what", "time", "peak"], [[it["what"], seconds(it["seconds"]), number(it["peak_mib"], ".1f", " MiB")] for it in rows["limits"]]),
+        f"""
+## Workers
+
+By the clock, so other work on the machine shows here. {"The rules of the lists" if of["lists"] else "Rules that are drawn"}, as one ruleset, and {int(of["requests"]):,} requests; with updates there is one every 100 lines.
+What the machine has to give is told by programs side by side, which share nothing.
+
+""",
+        table(["what", "requests a second", "times one worker"], [[it["what"], f"{int(it['requests_a_second']):,}", it["times_one_worker"]] for it in rows["workers"] if it["requests_a_second"]]),
+        "\n",
+        "".join(f"- {it['what'][0].upper()}{it['what'][1:]}: {it['times_one_worker']}.\n" for it in rows["workers"] if not it["requests_a_second"]),
+    ]
+    return "".join(parts)
+
+
+def short_table(results, day):
+    """The table of README: what a request takes without rules, with some and with all."""
+    rows = plot.rows_of(results, day, "requests")
+    counts = sorted({int(it["rules"]) for it in rows})
+    wanted = {counts[0], *counts[-3:-2], counts[-1]}
+    found = [row_of(it, rows) for it in rows if int(it["rules"]) in wanted]
+    return table([REQUEST_HEAD[it] for it in (0, 1, 2, 4, 6, 7)], [[row[it] for it in (0, 1, 2, 4, 6, 7)] for row in found])
+
+
+def write(results, day, docs, readme=None):
+    """Writes the page and its picture into a folder, and the table into README between its two marks."""
+    docs.mkdir(parents=True, exist_ok=True)
+    (docs / "MEASURED.md").write_text(document(results, day))
+    (docs / "measured.svg").write_text(plot.picture(results, day))
+    if readme:
+        before, _, rest = readme.read_text().partition(BEGIN)
+        _, _, behind = rest.partition(END)
+        if behind:
+            readme.write_text(before + BEGIN + short_table(results, day) + END + behind)
