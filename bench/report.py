@@ -58,7 +58,7 @@ REQUEST_HEAD = ["rules", "program", "a request", "dnr by it", "instructions", "d
 
 def document(results, day):
     """The text of docs/MEASURED.md."""
-    rows = {name: plot.rows_of(results, day, name) for name in ("requests", "filters", "lists", "limits", "workers", "machine")}
+    rows = {name: plot.rows_of(results, day, name) for name in ("requests", "filters", "lists", "limits", "workers", "broker", "machine")}
     of = {it["what"]: it["is"] for it in rows["machine"]}
     parts = [
         f"""# Measured
@@ -141,6 +141,12 @@ What the machine has to give is told by programs side by side, which share nothi
         "\n",
         "".join(f"- {it['what'][0].upper()}{it['what'][1:]}: {it['times_one_worker']}.\n" for it in rows["workers"] if not it["requests_a_second"]),
     ]
+    if rows["broker"]:
+        head = list(rows["broker"][0])
+        parts += [
+            "\n## Through the broker and the proxies\n\nWhat `bench/broker` measured, by the clock.\n\n",
+            table(head, [[it[name] for name in head] for it in rows["broker"]]),
+        ]
     return "".join(parts)
 
 
