@@ -53,7 +53,7 @@ def row_of(row, others):
     ]
 
 
-REQUEST_HEAD = ["rules", "program", "a request", "dnr by it", "instructions", "dnr by it", "loading", "peak"]
+REQUEST_HEAD = ["rules", "program", "a request", "ratio", "instructions", "ratio", "loading", "peak"]
 
 
 def document(results, day):
@@ -156,16 +156,21 @@ def short_table(results, day):
     counts = sorted({int(it["rules"]) for it in rows})
     wanted = {counts[0], *counts[-3:-2], counts[-1]}
     found = [row_of(it, rows) for it in rows if int(it["rules"]) in wanted]
-    return table([REQUEST_HEAD[it] for it in (0, 1, 2, 4, 6, 7)], [[row[it] for it in (0, 1, 2, 4, 6, 7)] for row in found])
+    # (all but the loading)
+    return table([*REQUEST_HEAD[:6], REQUEST_HEAD[7]], [[*row[:6], row[7]] for row in found])
+
+
+def with_table(text, made):
+    """The text of README with this table between its two marks."""
+    before, _, rest = text.partition(BEGIN)
+    _, _, behind = rest.partition(END)
+    return before + BEGIN + made + END + behind if behind else text
 
 
 def write(results, day, docs, readme=None):
-    """Writes the page and its picture into a folder, and the table into README between its two marks."""
+    """Writes the page and its picture into a folder, and the table into README."""
     docs.mkdir(parents=True, exist_ok=True)
     (docs / "MEASURED.md").write_text(document(results, day))
     (docs / "measured.svg").write_text(plot.picture(results, day))
     if readme:
-        before, _, rest = readme.read_text().partition(BEGIN)
-        _, _, behind = rest.partition(END)
-        if behind:
-            readme.write_text(before + BEGIN + short_table(results, day) + END + behind)
+        readme.write_text(with_table(readme.read_text(), short_table(results, day)))
