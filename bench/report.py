@@ -37,17 +37,17 @@ def seconds(value):
 def row_of(row, others):
     """A row of requests, with what `dnr` takes by what each plain program does."""
     mine = next(it for it in others if it["program"] == "dnr" and it["rules"] == row["rules"])
-    ratio = [
-        f"{float(mine[column]) / float(row[column]):.2f}" if row is not mine and mine[column] and row[column] and float(row[column]) else ""
-        for column in ("request_us", "request_instructions")
-    ]
+
+    def ratio(column):
+        return f"{float(mine[column]) / float(row[column]):.2f}" if row is not mine and mine[column] and row[column] else ""
+
     return [
         f"{int(row['rules']):,}",
         row["program"],
         number(row["request_us"], ".2f", " µs"),
-        ratio[0],
+        ratio("request_us"),
         number(row["request_instructions"], ",.0f"),
-        ratio[1],
+        ratio("request_instructions"),
         seconds(row["load_s"]),
         number(row["peak_mib"], ".1f", " MiB"),
     ]
@@ -56,12 +56,15 @@ def row_of(row, others):
 REQUEST_HEAD = ["rules", "program", "a request", "ratio", "instructions", "ratio", "loading", "peak"]
 
 
-def document(results, day):
-    """The text of docs/MEASURED.md."""
-    rows = {name: plot.rows_of(results, day, name) for name in ("requests", "filters", "lists", "limits", "workers", "broker", "machine")}
-    of = {it["what"]: it["is"] for it in rows["machine"]}
-    parts = [
-        f"""# Measured
+def peak_of(row):
+    return number(row["peak_mib"], ".1f", " MiB")
+
+
+def machine_part(of, day):
+    """What the figures are figures of. `of` is what bench/all wrote of the machine."""
+    package = f", of Debian's uBlock Origin {of['lists_package']}" if of["lists_package"] else ""
+    load = f"{of['load_before']} and {of['load_after']} processes that wanted a processor, in the mean of a minute"
+    head = f"""# Measured
 
 Figures of one state on one machine: the program built of commit `{of["commit"]}`, measured on {of["day"]} by
 
@@ -72,82 +75,110 @@ bench/all
 which wrote them into [bench/results](../bench/results) as files that begin with `{day}`, and made this page, its picture and the table of the [README](../README.md) of these files.
 Nothing of this is promised, and what is proved says nothing of time or memory.
 
-""",
-        table(
-            ["what", ""],
-            [
-                ["processor", f"{of['processor']}, {of['processors']} of them"],
-                ["memory", f"{of['memory_gb']} GB"],
-                ["system", of["system"]],
-                ["other work at the beginning and the end", f"{of['load_before']} and {of['load_after']} processes that wanted a processor, in the mean of a minute"],
-                ["toolchain", f"`{of['toolchain']}`" if of["toolchain"] else "not on this machine"],
-                ["the program, its SHA-256", f"`{of['program_sha256']}`"],
-                ["plain programs", f"{of['rustc']}, `-O`" if of["rustc"] else "not measured, since rustc was missing"],
-                ["instructions", f"{of['valgrind']}, cachegrind" if of["valgrind"] else "not counted, since valgrind was missing"],
-                ["lists", of["lists"] + (f", of Debian's uBlock Origin {of['lists_package']}" if of["lists_package"] else "") if of["lists"] else "none"],
-            ],
-        ),
-        """
+"""
+    told = [
+        ["processor", f"{of['processor']}, {of['processors']} of them"],
+        ["memory", f"{of['memory_gb']} GB"],
+        ["system", of["system"]],
+        ["other work, before and behind", load],
+        ["toolchain", f"`{of['toolchain']}`" if of["toolchain"] else "not on this machine"],
+        ["the program, its SHA-256", f"`{of['program_sha256']}`"],
+        ["plain programs", f"{of['rustc']}, `-O`" if of["rustc"] else "not measured, since rustc was missing"],
+        ["instructions", f"{of['valgrind']}, cachegrind" if of["valgrind"] else "not counted, since valgrind was missing"],
+        ["lists", of["lists"] + package if of["lists"] else "none"],
+    ]
+    tail = """
 ![Time and instructions a request, memory and loading against the number of rules; requests a second by workers; updates](measured.svg)
 
 A time is one of the processor, so that other work counts little, and the least of some runs in which the programs take turns; where it is by the clock it says so.
+"""
+    return head + table(["what", ""], told) + tail
 
+
+def requests_part(rows, of):
+    head = f"""
 ## Requests
 
-""",
-        f"""Rules and requests are drawn from the seed {of["seed"]}, as `bench/run` says: each rule with a urlFilter and, as in filter lists, some of types, a party, domains and methods; {int(of["requests"]):,} requests as pages ask for them.
+Rules and requests are drawn from the seed {of["seed"]}, as `bench/run` says: each rule with a urlFilter and, as in filter lists, some of types, a party, domains and methods; {int(of["requests"]):,} requests as pages ask for them.
 Reading a request's line and writing its answer are in these figures.
 Beside `dnr match` stand plain Rust programs that find rules by the rarest of their words, as Brave's engine does. One reads lines by `serde_json` and `url`, as most Rust programs do, and the other by hand, with little checking. Neither checks the rules that it loads. All write the same bytes.
 A ratio is the figure of `dnr` by that of the program in its row: below 1 `dnr` needs less.
 
-""",
-        table(REQUEST_HEAD, [row_of(it, rows["requests"]) for it in rows["requests"]]),
-    ]
-    if rows["filters"]:
-        parts += [
-            """
+"""
+    return head + table(REQUEST_HEAD, [row_of(it, rows) for it in rows])
+
+
+def filters_part(rows, of):
+    head = """
 ## Requests over the filters of lists
 
-The same with all filters of the lists, each a rule of its own, and requests of which a fifth go to hosts that filters name.
+The same with filters of the lists, some of them and then all, each a rule of its own, and requests of which a fifth go to hosts that filters name.
 What plain programs do not read is left out: regular expressions, filters that heed case, and other actions than block and allow.
 
-""",
-            table(REQUEST_HEAD, [row_of(it, rows["filters"]) for it in rows["filters"]]),
-        ]
-    if rows["lists"]:
-        parts += [
-            "\n## Filter lists\n\n`serve all` has each list as an extension. A list may give many filters as one rule.\n\n",
-            table(
-                ["what", "lines", "rules", "time", "peak"],
-                [[it["what"], f"{int(it['lines']):,}", f"{int(it['rules']):,}", seconds(it["seconds"]), number(it["peak_mib"], ".1f", " MiB")] for it in rows["lists"]],
-            ),
-        ]
-    parts += [
-        """
+"""
+    return head + table(REQUEST_HEAD, [row_of(it, rows) for it in rows])
+
+
+def lists_part(rows, of):
+    head = """
+## Filter lists
+
+`serve all` has each list as an extension. A list may give many filters as one rule.
+
+"""
+    told = [[it["what"], f"{int(it['lines']):,}", f"{int(it['rules']):,}", seconds(it["seconds"]), peak_of(it)] for it in rows]
+    return head + table(["what", "lines", "rules", "time", "peak"], told)
+
+
+def limits_part(rows, of):
+    head = """
 ## Updates, long scripts and hostile lines
 
 Of updates the time is less that of the same session without them. Where each rule is added when the last was, it is by the clock, from the line that a program writes into a pipe to the answer that it reads.
 
-""",
-        table(["what", "time", "peak"], [[it["what"], seconds(it["seconds"]), number(it["peak_mib"], ".1f", " MiB")] for it in rows["limits"]]),
-        f"""
+"""
+    return head + table(["what", "time", "peak"], [[it["what"], seconds(it["seconds"]), peak_of(it)] for it in rows])
+
+
+def workers_part(rows, of):
+    head = f"""
 ## Workers
 
 By the clock, so other work on the machine shows here. {"The rules of the lists" if of["lists"] else "Rules that are drawn"}, as one ruleset, and {int(of["requests"]):,} requests; with updates there is one every 100 lines.
 What the machine has to give is told by programs side by side, which share nothing.
 
-""",
-        table(["what", "requests a second", "times one worker"], [[it["what"], f"{int(it['requests_a_second']):,}", it["times_one_worker"]] for it in rows["workers"] if it["requests_a_second"]]),
-        "\n",
-        "".join(f"- {it['what'][0].upper()}{it['what'][1:]}: {it['times_one_worker']}.\n" for it in rows["workers"] if not it["requests_a_second"]),
-    ]
-    if rows["broker"]:
-        head = list(rows["broker"][0])
-        parts += [
-            "\n## Through the broker and the proxies\n\nWhat `bench/broker` measured, by the clock.\n\n",
-            table(head, [[it[name] for name in head] for it in rows["broker"]]),
-        ]
-    return "".join(parts)
+"""
+    speeds = [it for it in rows if it["requests_a_second"]]
+    told = [[it["what"], f"{int(it['requests_a_second']):,}", it["times_one_worker"]] for it in speeds]
+    others = [f"- {it['what'][0].upper()}{it['what'][1:]}: {it['times_one_worker']}.\n" for it in rows if it not in speeds]
+    return head + table(["what", "requests a second", "times one worker"], told) + "\n" + "".join(others)
+
+
+def broker_part(rows, of):
+    head = """
+## Through the broker and the proxies
+
+What `bench/broker` measured, by the clock.
+
+"""
+    return head + table(list(rows[0]), [list(it.values()) for it in rows])
+
+
+PARTS = {
+    "requests": requests_part,
+    "filters": filters_part,
+    "lists": lists_part,
+    "limits": limits_part,
+    "workers": workers_part,
+    "broker": broker_part,
+}
+
+
+def document(results, day):
+    """The text of docs/MEASURED.md, with a part for each file of that day."""
+    of = {it["what"]: it["is"] for it in plot.rows_of(results, day, "machine")}
+    rows = {name: plot.rows_of(results, day, name) for name in PARTS}
+    return machine_part(of, day) + "".join(part(rows[name], of) for name, part in PARTS.items() if rows[name])
 
 
 def short_table(results, day):
