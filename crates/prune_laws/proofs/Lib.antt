@@ -1,0 +1,12 @@
+pub mod Domains
+pub mod Fold
+pub mod Wider
+pub mod Removal
+pub mod Maps
+pub mod Bare
+pub mod Single
+pub mod States
+pub mod Shadowed
+pub mod Rest
+pub mod Through
+pub mod Found
