@@ -1,0 +1,10 @@
+pub mod Domains
+pub mod Dots
+pub mod Faults
+pub mod Longest
+pub mod Members
+pub mod Named
+pub mod Pages
+pub mod Separators
+pub mod Spaces
+pub mod Walk

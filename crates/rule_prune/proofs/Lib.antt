@@ -1,0 +1,11 @@
+pub mod Turned
+pub mod Sets
+pub mod Faults
+pub mod Known
+pub mod Earlier
+pub mod Nearest
+pub mod Places
+pub mod Tables
+pub mod Rules
+pub mod Walked
+pub mod Sought
