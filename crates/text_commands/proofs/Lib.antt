@@ -3,3 +3,4 @@ pub mod Tasks
 pub mod Listed
 pub mod Sampled
 pub mod Ids
+pub mod Pruned

@@ -3,25 +3,30 @@ use Rattle.std.proofs.Common.{◌≡◌, ℕ, List, [], ◌∷◌, ◌++◌, len
 use Rattle.std.specs.Prelude.{IfSome}
 use Rattle.dnr_base.specs.Faults.{Rose}
 use Rattle.dnr_spec.specs.declared.status.Status.{Status}
-use Rattle.load_spec.specs.Files.{Files, HoldsRules, HoldsLongFile}
+use Rattle.load_spec.specs.Files.{Files, HoldsFile, HoldsRules, HoldsLongFile}
 use Rattle.rule_spec.specs.declared.rule_kind.RuleKind.{RuleKind}
+use Rattle.rule_spec.specs.declared.rule_kind.RuleKind.TheVariants.{Static}
 use Rattle.rule_spec.specs.Rule.{Rule}
 use Rattle.session_load.specs.declared.lists.CompiledList.{CompiledList}
 use Rattle.session_load.specs.declared.stop.Stop.{Stop}
 use Rattle.session_load.specs.declared.stop.Stop.TheVariants as stop
 use Rattle.session_load.specs.Lists.{HoldsCompiled}
-use Rattle.session_load.specs.Loads.{StopsInRules, StopsInList}
+use Rattle.session_load.specs.Loads.{StopsInFile, StopsInRules, StopsInList}
 use Rattle.session_spec.specs.Out.{Outside, HostRose, IsCompiled, conduct_of}
+use Rattle.session_load.proofs.Stopped.{stops_map}
+use Rattle.session_spec.specs.Hiding.{HidesTooMuch}
+use Rattle.session_spec.specs.Loading.{PrintsRefusedRules}
+use Rattle.session_spec.specs.Pruning.{RefusesPruning}
 use Rattle.session_spec.specs.Refusals.{count_line, unsupported_lines}
-use Rattle.session_spec.specs.Words.{check_file, compile_file}
+use Rattle.session_spec.specs.Words.{check_file, compile_file, hide_page, prune_file}
 use Rattle.compile_spec.specs.Compiled.{CompiledRule, rules_in}
 use Rattle.compile_spec.specs.Report.{report}
 use Rattle.compile_spec.specs.declared.reported.Reported.{Reported}
 use Rattle.json_spec.specs.Written.{written as json_text}
 use Rattle.list_spec.specs.LineKind as list
-use Rattle.text_commands.specs.Ends.{EndsStop, EndsWith, MayEnd}
-use Rattle.text_commands.specs.Texts.{text_of}
-use Rattle.text_commands.proofs.Ended.{stop_ends, text_ends}
+use Rattle.text_commands.specs.Ends.{EndsAtOnce, EndsStop, EndsWith, MayEnd}
+use Rattle.text_commands.specs.Texts.{HidesTooMany, HoldsTooMany, ShowsPage, ShowsRest, text_of}
+use Rattle.text_commands.proofs.Ended.{once_ends, stop_ends, text_ends}
 
 -- ---- `check`
 
@@ -71,3 +76,41 @@ pub compile_stops : (known : Option Files) (o : Outside) (name : List ℕ) (befo
 compile_stops None o name before now s ended why fault ends = tt
 compile_stops (Some files) o name before now s ended why fault ends =
     stop_ends o (conduct_of files o (compile_file name)) (HoldsLongFile files name) before now s ended (λ line refused. inr refused) (λ long. (long, refl)) refl why fault ends
+
+-- ---- `hide`
+
+pub hide_ends : (known : Option Files) (o : Outside) (name host bytes : List ℕ) (before now : Option (List ℕ)) (ended : Status)
+    → IfSome known (λ files. HoldsFile files name bytes) → EndsAtOnce (ShowsPage (list.lines_of bytes) host) (HidesTooMany name (list.lines_of bytes)) before now o.sink ended
+    → MayEnd known (hide_page name host) o before now ended
+hide_ends None o name host bytes before now ended held ends = tt
+hide_ends (Some files) o name host bytes before now ended held ends =
+    once_ends o (conduct_of files o (hide_page name host)) before now ended (ShowsPage (list.lines_of bytes) host) (HidesTooMany name (list.lines_of bytes))
+    (λ text shows. record { bytes = bytes; file = held; few = shows.0; same = shows.1 })
+    (λ line says. record { bytes = bytes; file = held; beyond = says.0; same = says.1 })
+    (λ text done. inl done) (λ line refused. inr refused) ends
+
+pub hide_stops : (known : Option Files) (o : Outside) (name host : List ℕ) (before now : Option (List ℕ)) (s : Stop) (ended : Status)
+    → StopsInFile known name s → (s ≡ stop.ReadFault → Rose o.shelf.before o.shelf.now) → EndsStop before now o.sink s ended → MayEnd known (hide_page name host) o before now ended
+hide_stops None o name host before now s ended why fault ends = tt
+hide_stops (Some files) o name host before now s ended why fault ends =
+    stop_ends o (conduct_of files o (hide_page name host)) (HoldsLongFile files name) before now s ended (λ line refused. inr refused) (λ long. (long, refl)) refl
+    (stops_map (λ line. ⊥) (HidesTooMuch files name) (HoldsLongFile files name) (HoldsLongFile files name) s (λ line none. absurd none) (λ long. long) why) fault ends
+
+-- ---- `prune`
+
+pub prune_ends : (known : Option Files) (o : Outside) (name : List ℕ) (rules : List Rule) (before now : Option (List ℕ)) (ended : Status)
+    → IfSome known (λ files. HoldsRules files Static name rules) → EndsAtOnce (ShowsRest rules) (HoldsTooMany name rules) before now o.sink ended → MayEnd known (prune_file name) o before now ended
+prune_ends None o name rules before now ended held ends = tt
+prune_ends (Some files) o name rules before now ended held ends =
+    once_ends o (conduct_of files o (prune_file name)) before now ended (ShowsRest rules) (HoldsTooMany name rules)
+    (λ text shows. record { rules = rules; loaded = held; few = shows.0; same = shows.1 })
+    (λ line says. inr (record { rules = rules; loaded = held; beyond = says.0; same = says.1 }))
+    (λ text done. inl done) (λ line refused. inr refused) ends
+
+pub prune_stops : (known : Option Files) (o : Outside) (name : List ℕ) (before now : Option (List ℕ)) (s : Stop) (ended : Status)
+    → StopsInRules known (HostRose o 0) Static name s → (s ≡ stop.ReadFault → Rose o.shelf.before o.shelf.now) → EndsStop before now o.sink s ended → MayEnd known (prune_file name) o before now ended
+prune_stops None o name before now s ended why fault ends = tt
+prune_stops (Some files) o name before now s ended why fault ends =
+    stop_ends o (conduct_of files o (prune_file name)) (HoldsLongFile files name) before now s ended (λ line refused. inr refused) (λ long. (long, refl)) refl
+    (stops_map (PrintsRefusedRules files (HostRose o 0) Static name) (RefusesPruning files (HostRose o 0) name) (HoldsLongFile files name) (HoldsLongFile files name) s
+    (λ line refused. inl refused) (λ long. long) why) fault ends

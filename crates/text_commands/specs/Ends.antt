@@ -1,5 +1,5 @@
 -- How a command may end, by what was read and written on the way.
-use Rattle.std.specs.Prelude.{◌≡◌, ◌⊎◌, ℕ, List, ◌∷◌, Option, unwrap_or, IfSome, string_bytes}
+use Rattle.std.specs.Prelude.{◌≡◌, ◌⊎◌, ℕ, List, [], ◌∷◌, Option, unwrap_or, IfSome, string_bytes}
 use Rattle.std.specs.Io.KnownBytes.{Appends}
 use Rattle.dnr_base.specs.Faults.{Rose, Count}
 use Rattle.dnr_io.specs.Sink.{AppendsPart}

@@ -6,6 +6,8 @@ use Rattle.dnr_spec.specs.declared.status.Status.TheVariants as status
 use Rattle.rule_spec.specs.Rule.{Rule}
 use Rattle.hide_spec.specs.Hidden.{hiding_lines, max_hiding}
 use Rattle.json_spec.specs.Written.{written as json_text}
+use Rattle.prune_spec.specs.declared.prune_refusal.PruneRefusal.{PruneRefusal}
+use Rattle.prune_spec.specs.declared.prune_refusal.PruneRefusal.TheVariants.{TooManyRules, NoMemory}
 use Rattle.prune_spec.specs.Pruned.{max_rules}
 use Rattle.session_load.specs.declared.lists.CompiledList.{CompiledList}
 use Rattle.session_spec.specs.Hiding.{hidden_text}
@@ -42,3 +44,8 @@ ShowsRest rules text = (length rules ≤ max_rules) × (text ≡ pruned_text rul
 -- the line that says that they are
 abbrev pub HoldsTooMany : List ℕ → List Rule → List ℕ → Type 0
 HoldsTooMany name rules line = (max_rules < length rules) × (line ≡ list_line name (too_many_rules (length rules)))
+
+-- the refusal of too many rules says how many they are
+abbrev pub CountsTooMany : List Rule → PruneRefusal → Type 0
+CountsTooMany rules (TooManyRules count) = (count ≡ length rules) × (max_rules < length rules)
+CountsTooMany rules NoMemory = Unit {0}

@@ -64,7 +64,7 @@ fn text_of(alloc: Global, list: &CompiledList) -> Result<Vec<u8>, NoMemory>
     Ok(text)
 }
 
-#[tactic(auto, using(crate::proofs::Listed::one_more_line, crate::proofs::Listed::all_lines))]
+#[tactic(auto, using(crate::proofs::Listed::one_more_unsupported, crate::proofs::Listed::all_unsupported))]
 fn head_of(alloc: Global, reported: &[Reported], rules: usize) -> Result<String, NoMemory>
     ensures { IfOk result (λ head. string_bytes head ≡ unsupported_lines reported.now ++ count_line rules) }
 {

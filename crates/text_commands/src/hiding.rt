@@ -46,7 +46,7 @@ pub fn hide_page<F: Shelf, O: Sink>(
 // What the list of these bytes hides, or that it has too many lines.
 fn hide_by<O: Sink>(alloc: Global, name: &str, bytes: &[u8], host: &str, out: &mut O) -> Status
     requires { length bytes.now ≤ max_file }
-    ensures ends { EndsAtOnce (ShowsPage (lines_of bytes.now) host.now) (HidesTooMany name.now (lines_of bytes.now))
+    ensures { EndsAtOnce (ShowsPage (lines_of bytes.now) host.now) (HidesTooMany name.now (lines_of bytes.now))
         (O.taken out.old) (O.taken out.new) (count (O.faults out.old) (O.faults out.new)) result }
 {
     match HideList::read(alloc, bytes) {
@@ -73,7 +73,7 @@ fn print_page<O: Sink>(
     }
 }
 
-#[tactic(auto, using(crate::proofs::Listed::one_more_line, crate::proofs::Listed::all_lines))]
+#[tactic(auto, using(crate::proofs::Listed::one_more_unhidden, crate::proofs::Listed::all_unhidden))]
 fn page_text(
     alloc: Global,
     list: &HideList,

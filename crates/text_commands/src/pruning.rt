@@ -1,5 +1,5 @@
 // `prune`: which rules of a file another rule makes needless.
-ghost use Rattle.std.specs.Prelude.{◌≡◌, ◌≢◌, ◌≤◌, ◌++◌, length, codes, IfOk, string_bytes};
+ghost use Rattle.std.specs.Prelude.{◌≡◌, ◌≢◌, ◌≤◌, ◌++◌, length, codes, IfErr, IfOk, string_bytes};
 ghost use Rattle.dnr_base.specs.Faults.{Rose};
 ghost use Rattle.json_spec.specs.Written.{written as json_text};
 ghost use Rattle.prune_spec.specs.Pruned.{IdsDiffer};
@@ -7,7 +7,7 @@ ghost use Rattle.session_spec.specs.Pruning.{pruned_text, removed_lines};
 ghost use Rattle.session_spec.specs.Refusals.{count_line};
 ghost use Rattle.session_spec.specs.Words.{prune_file};
 ghost use Rattle.text_commands.specs.Ends.{EndsAtOnce, MayEndBy, count};
-ghost use Rattle.text_commands.specs.Texts.{HoldsTooMany, ShowsRest};
+ghost use Rattle.text_commands.specs.Texts.{CountsTooMany, HoldsTooMany, ShowsRest};
 
 use crate::ending::{stop_with, write_to_end};
 use dnr_base::NoMemory;
@@ -64,12 +64,17 @@ fn print_rest<O: Sink>(alloc: Global, name: &str, rules: &[Rule], out: &mut O) -
 // What `prune` prints of rules that are not too many.
 fn text_of(alloc: Global, rules: &[Rule]) -> Result<Vec<u8>, PruneRefusal>
     requires { IdsDiffer rules.now }
+    ensures text { IfOk result (λ text. ShowsRest rules.now text.items) }
+    ensures refused { IfErr result (CountsTooMany rules.now) }
 {
     let removals = find(alloc, rules)?;
     let Ok(rest) = check(alloc, rules, &removals) else {
         return Err(PruneRefusal::NoMemory);
     };
-    Ok(rest_text(alloc, &removals, &rest)?)
+    match rest_text(alloc, &removals, &rest) {
+        Ok(text) => Ok(text),
+        Err(NoMemory) => Err(PruneRefusal::NoMemory),
+    }
 }
 
 // The removals, the count of the rest, and the rest.
@@ -84,7 +89,7 @@ fn rest_text(alloc: Global, removals: &[Shadow], rest: &[Rule]) -> Result<Vec<u8
     Ok(text)
 }
 
-#[tactic(auto, using(crate::proofs::Listed::one_more_line, crate::proofs::Listed::all_lines))]
+#[tactic(auto, using(crate::proofs::Listed::one_more_removed, crate::proofs::Listed::all_removed))]
 fn head_of(alloc: Global, removals: &[Shadow], rules: usize) -> Result<String, NoMemory>
     ensures { IfOk result (λ head. string_bytes head ≡ removed_lines removals.now ++ count_line rules) }
 {
