@@ -4,3 +4,4 @@ pub mod Listed
 pub mod Sampled
 pub mod Ids
 pub mod Pruned
+pub mod Pages

@@ -41,3 +41,11 @@ one_more_removed all next one inside is = one_more_line removed_line all next on
 
 pub all_removed : (all : List Shadow) (next : ℕ) → length all ≤ next → removed_lines (take next all) ≡ removed_lines all
 all_removed all next end = all_lines removed_line all next end
+
+pub next_unhidden : (all : List HideReported) (next : ℕ) (one : HideReported) (before now : List ℕ) → next < length all → one ≡ get_or all next one
+    → before ≡ unhidden_lines (take next all) → now ≡ before ++ unhidden_line one → now ≡ unhidden_lines (take (next + 1) all)
+next_unhidden all next one before now inside is so_far appended = appended ∙ ap (λ t. t ++ unhidden_line one) so_far ∙ sym (one_more_unhidden all next one inside is)
+
+pub next_removed : (all : List Shadow) (next : ℕ) (one : Shadow) (before now : List ℕ) → next < length all → one ≡ get_or all next one
+    → before ≡ removed_lines (take next all) → now ≡ before ++ removed_line one → now ≡ removed_lines (take (next + 1) all)
+next_removed all next one before now inside is so_far appended = appended ∙ ap (λ t. t ++ removed_line one) so_far ∙ sym (one_more_removed all next one inside is)
