@@ -151,8 +151,8 @@ check_rules-requires g c = subst (MayAskFor g.F.Shelf.allows (g.F.Source.files c
 pub compile_list-requires : goal.compile_list-requires
 compile_list-requires g c = subst (MayAskFor g.F.Shelf.allows (g.F.Source.files c.args.shelf.now)) (sym c.in-Some-Compile.ensures ∙ ap (λ t. Some (task_seen t)) c.in-Some-Compile.field-0-is) c.requires.names
 
-pub hide_page-requires-clause-names : goal.hide_page-requires-clause-names
-hide_page-requires-clause-names g c κs within = subst (MayAskFor g.F.Shelf.allows (g.F.Source.files c.args.shelf.now)) (sym c.in-Some-Hide.ensures ∙ ap (λ t. Some (task_seen t)) c.in-Some-Hide.field-0-is) c.requires.names
+pub hide_page-requires : goal.hide_page-requires
+hide_page-requires g c = subst (MayAskFor g.F.Shelf.allows (g.F.Source.files c.args.shelf.now)) (sym c.in-Some-Hide.ensures ∙ ap (λ t. Some (task_seen t)) c.in-Some-Hide.field-0-is) c.requires.names
 
 pub prune_rules-requires : goal.prune_rules-requires
 prune_rules-requires g c = subst (MayAskFor g.F.Shelf.allows (g.F.Source.files c.args.shelf.now)) (sym c.in-Some-Prune.ensures ∙ ap (λ t. Some (task_seen t)) c.in-Some-Prune.field-0-is) c.requires.names
