@@ -166,11 +166,13 @@ class Broker:
 
     def watch(self, engine):
         """Waits for room in the engine's pipe exactly while there is something to write."""
-        watched = engine.input in self.selector.get_map()
-        if engine.unwritten and not watched:
+        if bool(engine.unwritten) == engine.watched:
+            return
+        if engine.unwritten:
             self.selector.register(engine.input, selectors.EVENT_WRITE, partial(self.write, engine))
-        elif watched and not engine.unwritten:
+        else:
             self.selector.unregister(engine.input)
+        engine.watched = not engine.watched
 
     def write(self, engine, _):
         """Writes what is left of a round."""
@@ -358,9 +360,9 @@ class Broker:
 
     def end(self, engine):
         """Lets go of an engine."""
-        for pipe in (engine.output, engine.input):
-            if pipe in self.selector.get_map():
-                self.selector.unregister(pipe)
+        self.selector.unregister(engine.output)
+        if engine.watched:
+            self.selector.unregister(engine.input)
         engine.close()
         self.dying.append(engine.process)
         shutil.rmtree(engine.room, ignore_errors=True)

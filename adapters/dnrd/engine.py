@@ -27,6 +27,7 @@ def widen(pipe):
 class Engine:
     """A running program. It has one round at most: some questions and the `sync` behind them.
 
+    `watched` says whether a selector waits for room in its pipe.
     `count` is the number of updates that it accepted, and `shift` what is added to it in what clients are told.
     """
 
@@ -48,7 +49,7 @@ class Engine:
         self.number(0, 0)
         self.asked, self.synced = deque(), True
         self.unwritten, self.unread, self.odd = b"", b"", b""
-        self.ended = False
+        self.ended = self.watched = False
         self.moved = time.monotonic()
 
     def number(self, count, shift):

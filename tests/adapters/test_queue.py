@@ -24,6 +24,8 @@ class Queue(unittest.TestCase):
         """Starts a broker."""
         folder = self.enterContext(room())
         (folder / "list.txt").touch()
+        if "--deadline" not in words:
+            words += ("--deadline", "60")
         environment = {"DNR_PROGRAM": SCRIPTED, "SCRIPTED_ROOM": folder}
         return self.enterContext(Broker(folder, "--list", "a=list.txt", *words, environment=environment))
 
