@@ -79,6 +79,7 @@ class Broker:
 
     def run(self):
         """Serves until `stop` is called. Raises `Failed` where no engine can be started at first."""
+        self.turn()
         while not self.stopping:
             for key, mask in self.selector.select(self.pause()):
                 key.data(mask)

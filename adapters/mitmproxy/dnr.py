@@ -59,8 +59,12 @@ class Channel:
         await self.connect()
         self.number += 1
         waiting = self.waiting[self.number] = asyncio.get_running_loop().create_future()
-        self.writer.write(dumped({"id": self.number, **line}) + b"\n")
-        return await asyncio.wait_for(waiting, seconds)
+        number = self.number
+        self.writer.write(dumped({"id": number, **line}) + b"\n")
+        try:
+            return await asyncio.wait_for(waiting, seconds)
+        finally:
+            self.waiting.pop(number, None)
 
 
 def text_of(name_or_value):
