@@ -177,6 +177,8 @@ class Broker:
 
     def write(self, engine, _):
         """Writes what is left of a round."""
+        if engine.closed:
+            return
         try:
             engine.write()
             self.watch(engine)
@@ -185,6 +187,8 @@ class Broker:
 
     def hear(self, engine, _):
         """Takes the answers that an engine wrote."""
+        if engine.closed:
+            return
         try:
             for question, answer in engine.answers():
                 self.settle(engine, question, answer)

@@ -27,6 +27,7 @@ def widen(pipe):
 class Engine:
     """A running program. It has one round at most: some questions and the `sync` behind them.
 
+    `closed` says that it was let go, and an event of its pipes at hand is to be passed over;
     `watched` says whether a selector waits for room in its pipe.
     `count` is the number of updates that it accepted, and `shift` what is added to it in what clients are told.
     """
@@ -49,7 +50,7 @@ class Engine:
         self.number(0, 0)
         self.asked, self.synced = deque(), True
         self.unwritten, self.unread, self.odd = b"", b"", b""
-        self.ended = self.watched = False
+        self.ended = self.watched = self.closed = False
         self.moved = time.monotonic()
 
     def number(self, count, shift):
@@ -124,6 +125,7 @@ class Engine:
 
     def close(self):
         """Ends the engine; its process is to be waited for later."""
+        self.closed = True
         self.process.kill()
         self.process.stdin.close()
         self.process.stdout.close()
