@@ -33,6 +33,7 @@ class Engine:
     """
 
     def __init__(self, program, words, room):
+        self.room = room
         self.process = subprocess.Popen(
             [program, "serve", *words, "/dev/stdin"],
             cwd=room,
@@ -111,6 +112,13 @@ class Engine:
         if answer != b'"sync":%d}' % self.count:
             raise Doubt(f"{self.count} updates were accepted, and it says {answer[:80]!r}")
         self.synced = True
+
+    def accepts(self, answer):
+        """Whether this answer says that the next update was accepted; it is counted then."""
+        if answer != b'"accepted":%d}' % (self.count + 1):
+            return False
+        self.number(self.count + 1, self.shift)
+        return True
 
     def last_words(self):
         """The line that was no answer, or else what was left of one, and the status where it has ended."""
