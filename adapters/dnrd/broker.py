@@ -6,21 +6,18 @@ is known to be by one count of updates, and is held to that.
 import os
 import re
 import selectors
-import shutil
 import time
 from collections import Counter, deque
 from functools import partial
-from itertools import islice
 from typing import NamedTuple
 
 from clients import Client
 from dnr_lines.lines import VERDICTS, dumped, loaded
-from engine import LINES, UPDATES, Doubt, Engine
-from questions import BadLine, Question, read
+from engine import LINES, UPDATES
+from questions import NOBODY, BadLine, Question, read
+from succession import Succession
 
 ROUND, ROUND_BYTES = 1_000, 4_000_000
-# So many updates of a fresh engine stand in a round, so that making them holds up nobody.
-RESTORED = 4
 TRIES = 3
 WORD = re.compile(rb'"verdict":"(%s)"[,}]' % "|".join(VERDICTS).encode())
 
@@ -36,38 +33,17 @@ class Settings(NamedTuple):
     lines: int = LINES
 
 
-class Nobody:
-    """Who a question belongs to whose client has had its reply."""
-
-    @staticmethod
-    def reply(_):
-        """Drops a reply."""
-
-
-class Coming(NamedTuple):
-    """An engine that is being brought to a state by `lines`; `exchange` is the question that wants it, if one does."""
-
-    engine: Engine
-    installed: object
-    lines: object
-    exchange: object = None
-
-
-class Failed(Exception):
-    """The first engine can't be started."""
-
-
 class Broker:
-    """One broker over a journal. `engine` answers, `coming` is to take its place, `ending` answers its last round."""
+    """One broker over a journal. Requests wait in `waiting`, updates and exchanges in `updates`."""
 
     def __init__(self, settings, journal, listener, say):
         self.settings, self.journal, self.say = settings, journal, say
         self.selector = selectors.DefaultSelector()
         self.selector.register(listener, selectors.EVENT_READ, partial(self.connect, listener))
-        self.engine = self.coming = self.ending = None
+        self.engines = Succession(settings, journal, self.selector, say, self)
         self.waiting, self.updates, self.updating, self.updated_last = deque(), deque(), False, False
-        self.touched, self.counts, self.dying = set(), Counter(), []
-        self.pauses, self.not_before, self.checked = 0, 0.0, 0.0
+        self.touched, self.counts, self.checked = set(), Counter(), 0.0
+        self.tick = min(0.1, settings.deadline / 4)
         self.stopping = False
         self.bell, self.ringing = os.pipe()
         self.selector.register(self.bell, selectors.EVENT_READ, lambda _: os.read(self.bell, 1))
@@ -79,26 +55,24 @@ class Broker:
 
     def run(self):
         """Serves until `stop` is called. Raises `Failed` where no engine can be started at first."""
+        self.turn()
         while not self.stopping:
-            for key, mask in self.selector.select(self.pause()):
+            quiet = self.engines.quiet and not self.waiting and not self.updates
+            for key, mask in self.selector.select(None if quiet else self.tick):
                 key.data(mask)
             self.turn()
-
-    def pause(self):
-        """How long to wait for the next event: as long as it takes where nothing is open."""
-        quiet = self.engine and self.engine.idle and not (self.coming or self.ending or self.waiting or self.updates)
-        return None if quiet else min(0.1, self.settings.deadline / 4)
 
     def turn(self):
         """What is to be done after some events."""
         now = time.monotonic()
-        if now - self.checked > min(0.1, self.settings.deadline / 4):
+        if now - self.checked > self.tick:
             self.check(now)
-        if not self.coming:
+        if not self.engines.coming:
             self.change(now)
-        if self.engine and self.engine.idle and self.waiting:
+        engine = self.engines.engine
+        if engine and engine.idle and self.waiting:
             self.updated_last = False
-            self.begin_round(self.next_questions())
+            self.engines.ask(engine, self.next_questions())
         while self.touched:
             self.touched.pop().flush()
 
@@ -139,7 +113,8 @@ class Broker:
     def state(self):
         """What `counts` tells."""
         return {
-            "counts": {name: self.counts[name] for name in (*VERDICTS, "relaxed", "closed", "open", "late", "engines")},
+            "counts": {name: self.counts[name] for name in (*VERDICTS, "relaxed", "closed", "open", "late")},
+            "engines": self.engines.begun,
             "generation": self.journal.number,
             "installed": [item.name for item in self.journal.installed.items],
         }
@@ -156,56 +131,11 @@ class Broker:
             size += len(questions[-1].line)
         return questions
 
-    def begin_round(self, questions):
-        """Asks the engine these."""
-        try:
-            self.engine.ask(questions)
-            self.watch(self.engine)
-        except Doubt as doubt:
-            self.lose(self.engine, str(doubt))
-
-    def watch(self, engine):
-        """Waits for room in the engine's pipe exactly while there is something to write."""
-        watched = engine.input in self.selector.get_map()
-        if engine.unwritten and not watched:
-            self.selector.register(engine.input, selectors.EVENT_WRITE, partial(self.write, engine))
-        elif watched and not engine.unwritten:
-            self.selector.unregister(engine.input)
-
-    def write(self, engine, _):
-        """Writes what is left of a round."""
-        try:
-            engine.write()
-            self.watch(engine)
-        except Doubt as doubt:
-            self.lose(engine, str(doubt))
-
-    def hear(self, engine, _):
-        """Takes the answers that an engine wrote."""
-        try:
-            for question, answer in engine.answers():
-                self.settle(engine, question, answer)
-        except Doubt as doubt:
-            self.lose(engine, str(doubt))
-            return
-        if engine.idle and engine is self.ending:
-            self.ending = None
-            self.end(engine)
-        elif engine.idle and self.coming and engine is self.coming.engine:
-            self.restore()
-
     def settle(self, engine, question, answer):
-        """Takes one answer, or raises `Doubt` and leaves the question with the engine."""
+        """Takes one answer, and whether it is one."""
         if question.kind == "request":
-            done = self.verdict(engine, question, answer)
-        elif question.kind == "update":
-            done = self.updated(engine, question, answer)
-        else:
-            done = answer == b'"accepted":%d}' % (engine.count + 1)
-            engine.number(engine.count + 1, engine.shift)
-        if not done:
-            engine.asked.appendleft(question)
-            raise Doubt(f"to line {engine.line} it wrote {answer[:120]!r}")
+            return self.verdict(engine, question, answer)
+        return self.updated(engine, question, answer)
 
     def verdict(self, engine, question, answer):
         """Takes the answer to a request, and whether it is one."""
@@ -224,7 +154,7 @@ class Broker:
 
     def tell(self, question, told, rest, word):
         """Hands a verdict to who asked."""
-        if question.client is Nobody:
+        if question.client is NOBODY:
             return
         self.counts[word] += 1
         if question.relaxed:
@@ -234,7 +164,7 @@ class Broker:
 
     def undecided(self, question, answer):
         """Asks a question again that `dnr` didn't decide, without what may have kept it from that; then the setting counts."""
-        if question.client is Nobody:
+        if question.client is NOBODY:
             return
         if question.relaxed:
             self.by_setting(question, loaded(b"{" + answer))
@@ -254,27 +184,26 @@ class Broker:
 
     def change(self, now):
         """Begins the next update or exchange, where no other is under way."""
-        if not self.engine:
-            if now >= self.not_before:
-                self.start(self.journal.installed)
+        engine = self.engines.engine
+        if not engine:
+            self.engines.start_if_due(now)
             return
         while self.updates and self.updates[0].kind == "sync":
             self.updates.popleft().reply(b'"sync":%d}' % self.journal.number)
-        if self.updating or self.ending:
+        if self.updating or self.engines.ending:
             return
         if self.updates and self.updates[0].kind == "exchange":
             self.exchange(self.updates.popleft())
-        elif self.engine.line > self.settings.lines or self.engine.count > UPDATES:
-            self.say(f"a fresh engine takes over after {self.engine.line:,} lines and {self.engine.count:,} updates")
-            self.start(self.journal.installed)
-        elif self.updates and self.engine.idle and not (self.waiting and self.updated_last):
+        elif engine.line > self.settings.lines or engine.count > UPDATES:
+            self.say(f"a fresh engine takes over after {engine.line:,} lines and {engine.count:,} updates")
+            self.engines.start(self.journal.installed)
+        elif self.updates and engine.idle and not (self.waiting and self.updated_last):
             self.updating = self.updated_last = True
-            self.begin_round([self.updates.popleft()])
+            self.engines.ask(engine, [self.updates.popleft()])
 
     def updated(self, engine, question, answer):
         """Takes the answer to an update, and whether it is one."""
-        if answer == b'"accepted":%d}' % (engine.count + 1):
-            engine.number(engine.count + 1, engine.shift)
+        if engine.accepts(answer):
             try:
                 self.journal.add_update(question.line)
             except OSError as error:
@@ -301,48 +230,7 @@ class Broker:
             question.reply(dumped({"refused": "no-file", "file": file, "why": str(error)})[1:])
             return
         source = file if isinstance(file, str) else item.source
-        self.start(installed.with_exchanged(name, source, stored), question)
-
-    # Engines.
-
-    def start(self, installed, exchange=None):
-        """Starts an engine and hands it the updates that bring it to a state."""
-        workers = ["--workers", str(self.settings.workers)] if self.settings.workers > 1 else []
-        room = self.journal.room(installed)
-        engine = Engine(self.settings.program, [*workers, *installed.words()], room)
-        engine.room = room
-        self.coming = Coming(engine, installed, installed.lines(), exchange)
-        self.selector.register(engine.output, selectors.EVENT_READ, partial(self.hear, engine))
-        self.restore(first=True)
-
-    def restore(self, first=False):
-        """Hands the engine that comes the next of the updates that it is to make; without any it takes over.
-
-        The first round is asked in any case: its `sync` is answered when the files are read.
-        """
-        engine = self.coming.engine
-        updates = [Question(Nobody, b"", line, "restore", 0) for line in islice(self.coming.lines, RESTORED)]
-        if not updates and not first:
-            self.switch()
-            return
-        try:
-            engine.ask(updates)
-            self.watch(engine)
-        except Doubt as doubt:
-            self.lose(engine, str(doubt))
-
-    def switch(self):
-        """Lets the engine that came take the place of the one before it, which answers its last round."""
-        coming, self.coming = self.coming, None
-        if self.engine and self.engine.idle:
-            self.end(self.engine)
-        elif self.engine:
-            self.ending = self.engine
-        self.engine, self.pauses = coming.engine, 0
-        self.counts["engines"] += 1
-        if coming.exchange:
-            self.exchanged(coming)
-        self.engine.number(self.engine.count, self.journal.number - self.engine.count)
+        self.engines.start(installed.with_exchanged(name, source, stored), question)
 
     def exchanged(self, coming):
         """Keeps an exchange that was made, and replies."""
@@ -356,34 +244,16 @@ class Broker:
             self.say(f"the exchange of {name} isn't in the journal: {error.strerror}")
         coming.exchange.reply(b'"accepted":%d}' % self.journal.number)
 
-    def end(self, engine):
-        """Lets go of an engine."""
-        for pipe in (engine.output, engine.input):
-            if pipe in self.selector.get_map():
-                self.selector.unregister(pipe)
-        engine.close()
-        self.dying.append(engine.process)
-        shutil.rmtree(engine.room, ignore_errors=True)
+    def not_exchanged(self, coming, told):
+        """Replies why an exchange was not made."""
+        coming.exchange.reply(dumped(told)[1:])
 
-    def lose(self, engine, reason):
-        """Ends an engine that can't be relied on; what it had not answered is asked again."""
-        last, status = engine.last_words()
-        self.end(engine)
-        if self.coming and engine is self.coming.engine:
-            self.come_to_nothing(last, status, reason)
-            return
-        self.say(f"the engine is ended after {engine.line:,} lines, since {reason}; another one is asked")
-        if engine is self.engine:
-            self.engine = None
-        else:
-            self.ending = None
-        for question in reversed(engine.asked):
-            self.ask_again(question)
+    # What takes too long, or goes wrong.
 
     def ask_again(self, question):
         """Puts a question back in front, unless engines ended with it again and again."""
         question.tries += 1
-        if question.client is Nobody:
+        if question.client is NOBODY:
             return
         if question.kind == "update":
             self.updating = False
@@ -396,45 +266,21 @@ class Broker:
         else:
             self.by_setting(question, {"engine": "ended"})
 
-    def come_to_nothing(self, last, status, reason):
-        """What follows where an engine didn't come so far as to answer."""
-        coming, self.coming = self.coming, None
-        said = last or reason
-        if coming.exchange:
-            self.say(f"the exchange came to nothing: {said}")
-            told = loaded(last.encode()) if last.startswith("{") else {"refused": "engine", "why": reason}
-            coming.exchange.reply(dumped(told)[1:])
-        elif not self.counts["engines"] and (last.startswith("{") or (status or 0) > 0):
-            raise Failed(said)
-        else:
-            self.pauses = min(self.pauses + 1, 6)
-            self.not_before = time.monotonic() + 0.1 * 2**self.pauses
-            self.say(f"no engine could be started: {said}; the next try is in {0.1 * 2**self.pauses:.1f} s")
-
     def check(self, now):
-        """Looks for questions that have waited too long, and for an engine that gives nothing."""
+        """Looks for questions that have waited too long, and for engines that give nothing."""
         self.checked = now
-        self.dying = [process for process in self.dying if process.poll() is None]
-        for engine in (self.engine, self.ending, self.coming and self.coming.engine):
-            if engine and not engine.idle:
-                patient = self.updating or (self.coming and engine is self.coming.engine)
-                limit = self.settings.patience if patient else self.settings.deadline
-                if now - engine.moved > limit:
-                    self.lose(engine, f"it gave nothing for {limit:g} s")
+        self.engines.check(now, self.updating)
         late = [question for question in self.waiting if question.until < now]
         if late:
             self.waiting = deque(question for question in self.waiting if question.until >= now)
-        for engine in filter(None, (self.engine, self.ending)):
-            late += [it for it in engine.asked if it.kind == "request" and it.until < now and it.client is not Nobody]
+        for engine in self.engines.engines():
+            late += [it for it in engine.asked if it.kind == "request" and it.until < now and it.client is not NOBODY]
         for question in late:
             self.counts["late"] += 1
             self.by_setting(question, {"late": True})
-            question.client = Nobody
+            question.client = NOBODY
 
     def close(self):
         """Ends all engines."""
-        for engine in filter(None, (self.engine, self.ending, self.coming and self.coming.engine)):
-            self.end(engine)
-        for process in self.dying:
-            process.wait()
+        self.engines.close()
         self.selector.close()

@@ -27,10 +27,13 @@ def widen(pipe):
 class Engine:
     """A running program. It has one round at most: some questions and the `sync` behind them.
 
+    `closed` says that it was let go, and an event of its pipes at hand is to be passed over;
+    `watched` says whether a selector waits for room in its pipe.
     `count` is the number of updates that it accepted, and `shift` what is added to it in what clients are told.
     """
 
     def __init__(self, program, words, room):
+        self.room = room
         self.process = subprocess.Popen(
             [program, "serve", *words, "/dev/stdin"],
             cwd=room,
@@ -48,7 +51,7 @@ class Engine:
         self.number(0, 0)
         self.asked, self.synced = deque(), True
         self.unwritten, self.unread, self.odd = b"", b"", b""
-        self.ended = False
+        self.ended = self.watched = self.closed = False
         self.moved = time.monotonic()
 
     def number(self, count, shift):
@@ -110,6 +113,13 @@ class Engine:
             raise Doubt(f"{self.count} updates were accepted, and it says {answer[:80]!r}")
         self.synced = True
 
+    def accepts(self, answer):
+        """Whether this answer says that the next update was accepted; it is counted then."""
+        if answer != b'"accepted":%d}' % (self.count + 1):
+            return False
+        self.number(self.count + 1, self.shift)
+        return True
+
     def last_words(self):
         """The line that was no answer, or else what was left of one, and the status where it has ended."""
         return (self.odd or self.unread).decode(errors="replace").strip(), self.status()
@@ -123,6 +133,7 @@ class Engine:
 
     def close(self):
         """Ends the engine; its process is to be waited for later."""
+        self.closed = True
         self.process.kill()
         self.process.stdin.close()
         self.process.stdout.close()

@@ -14,8 +14,18 @@ class BadLine(Exception):
         self.name, self.cause = name, cause
 
 
+class Nobody:
+    """Who a question belongs to that no client asked, or whose client has had its reply."""
+
+    def reply(self, _):
+        """Drops a reply."""
+
+
+NOBODY = Nobody()
+
+
 class Question:
-    """One line of a client. `kind` is "request", "update", "exchange", "counts" or "sync"."""
+    """One line of a client. `kind` is "request", "update", "exchange", "counts" or "sync", or "restore"."""
 
     __slots__ = ("client", "name", "line", "kind", "until", "tries", "relaxed")
 

@@ -25,14 +25,16 @@ class Channel:
 
     def __init__(self, path):
         self.path, self.writer, self.number, self.waiting = path, None, 0, {}
+        self.connecting = asyncio.Lock()
 
     async def connect(self):
         """Connects, where there is no connection."""
-        if self.writer is None:
-            reader, self.writer = await asyncio.open_unix_connection(self.path, limit=LONGEST_REPLY)
-            asyncio.ensure_future(self.hear(reader))
+        async with self.connecting:
+            if self.writer is None:
+                reader, self.writer = await asyncio.open_unix_connection(self.path, limit=LONGEST_REPLY)
+                asyncio.ensure_future(self.hear(reader, self.writer))
 
-    async def hear(self, reader):
+    async def hear(self, reader, writer):
         """Takes replies until the connection ends; what is open then has none."""
         try:
             while line := await reader.readline():
@@ -42,12 +44,12 @@ class Channel:
                     waiting.set_result(reply)
         except (OSError, ValueError):
             pass
-        self.close()
+        if writer is self.writer:
+            self.close()
 
     def close(self):
         """Lets go of the connection."""
-        if self.writer:
-            self.writer.close()
+        self.writer.close()
         self.writer = None
         for waiting in self.waiting.values():
             if not waiting.done():
@@ -59,8 +61,12 @@ class Channel:
         await self.connect()
         self.number += 1
         waiting = self.waiting[self.number] = asyncio.get_running_loop().create_future()
-        self.writer.write(dumped({"id": self.number, **line}) + b"\n")
-        return await asyncio.wait_for(waiting, seconds)
+        number = self.number
+        self.writer.write(dumped({"id": number, **line}) + b"\n")
+        try:
+            return await asyncio.wait_for(waiting, seconds)
+        finally:
+            self.waiting.pop(number, None)
 
 
 def text_of(name_or_value):

@@ -2,6 +2,8 @@
 
 Hosts end in `.localhost`; each proxy is set up so that they lead to the server of the test.
 """
+from concurrent.futures import ThreadPoolExecutor
+
 from support import curl, write_json
 
 RULES = [
@@ -130,6 +132,12 @@ class ProxyCases:
         before = len(self.server.seen)
         answer = curl(self.proxy, "https://blocked.localhost/x")
         self.assertEqual((answer.status, len(self.server.seen)), (403, before))
+
+    def test_twenty_clients_at_once(self):
+        paths = ["blocked.localhost/x", "blocked.localhost/allowed/x", "moved.localhost/x", "plain.localhost/x"] * 10
+        with ThreadPoolExecutor(20) as pool:
+            statuses = list(pool.map(lambda path: curl(self.proxy, f"http://{path}").status, paths))
+        self.assertEqual(statuses, [403, 200, 307, 200] * 10)
 
     def test_without_a_broker_nothing_passes(self):
         self.broker.stop()

@@ -24,6 +24,8 @@ class Queue(unittest.TestCase):
         """Starts a broker."""
         folder = self.enterContext(room())
         (folder / "list.txt").touch()
+        if "--deadline" not in words:
+            words += ("--deadline", "60")
         environment = {"DNR_PROGRAM": SCRIPTED, "SCRIPTED_ROOM": folder}
         return self.enterContext(Broker(folder, "--list", "a=list.txt", *words, environment=environment))
 
@@ -52,10 +54,10 @@ class Queue(unittest.TestCase):
         for setting, verdict in (("closed", "block"), ("open", "none")):
             broker = self.start("--deadline", "0.4", "--undecided", setting)
             with broker.client() as client:
-                wait_for(lambda: client.ask({"cmd": "counts"})["counts"]["engines"] == 1, what="an engine")
+                wait_for(lambda: client.ask({"cmd": "counts"})["engines"] == 1, what="an engine")
                 told = client.ask(asked("sleeps.test"))
                 self.assertEqual((told["verdict"], told["setting"], told["cause"]), (verdict, setting, {"late": True}))
-                wait_for(lambda: client.ask({"cmd": "counts"})["counts"]["engines"] == 2, what="another engine")
+                wait_for(lambda: client.ask({"cmd": "counts"})["engines"] == 2, what="another engine")
                 self.assertEqual(client.ask(asked("sleeps.test"))["verdict"], "none")
 
     def test_a_fault_is_asked_again_and_then_the_setting_counts(self):

@@ -1,0 +1,204 @@
+"""Which engine answers: one at a time, and now and then another that is brought to take its place."""
+import selectors
+import shutil
+import time
+from functools import partial
+from itertools import islice
+from typing import NamedTuple
+
+from dnr_lines.lines import loaded
+from engine import Doubt, Engine
+from questions import NOBODY, Question
+
+# So many updates of a fresh engine stand in a round, so that making them holds up nobody.
+RESTORED = 4
+
+
+class Failed(Exception):
+    """The first engine can't be started."""
+
+
+class Coming(NamedTuple):
+    """An engine that is being brought to a state by `lines`; `exchange` is the question that wants it, if one does."""
+
+    engine: Engine
+    installed: object
+    lines: object
+    exchange: object = None
+
+
+def refusal(last, reason):
+    """What a client is told of an engine that didn't come to answer: what the program wrote, where it is a refusal."""
+    try:
+        told = loaded(last.encode())
+    except ValueError:
+        told = {}
+    return told if "refused" in told else {"refused": "engine", "why": reason}
+
+
+class Succession:
+    """`engine` answers, `coming` is to take its place, and `ending` answers its last round; each may be None.
+
+    The owner has `settle`, which takes an answer or raises `Doubt`; `ask_again`, which takes what was left unanswered; and
+    `exchanged` and `not_exchanged`, which are told what became of an exchange.
+    """
+
+    def __init__(self, settings, journal, selector, say, owner):
+        self.settings, self.journal, self.selector, self.say, self.owner = settings, journal, selector, say, owner
+        self.engine = self.coming = self.ending = None
+        self.begun, self.dying = 0, []
+        self.failures, self.not_before = 0, 0.0
+
+    @property
+    def quiet(self):
+        """Whether there is an engine, and nothing is under way."""
+        return self.engine and self.engine.idle and not self.coming and not self.ending
+
+    def engines(self):
+        """All engines that run."""
+        return list(filter(None, (self.engine, self.ending, self.coming and self.coming.engine)))
+
+    def start(self, installed, exchange=None):
+        """Starts an engine and hands it the updates that bring it to a state."""
+        workers = ["--workers", str(self.settings.workers)] if self.settings.workers > 1 else []
+        room = self.journal.room(installed)
+        engine = Engine(self.settings.program, [*workers, *installed.words()], room)
+        self.coming = Coming(engine, installed, installed.lines(), exchange)
+        self.selector.register(engine.output, selectors.EVENT_READ, partial(self.hear, engine))
+        # (its `sync` is answered when the files are read)
+        self.ask(engine, self.restoring())
+
+    def start_if_due(self, now):
+        """Starts an engine where there is none, unless the last one could not be started a moment ago."""
+        if now >= self.not_before:
+            self.start(self.journal.installed)
+
+    def restoring(self):
+        """The next updates that the engine which comes is to make."""
+        return [Question(NOBODY, b"", line, "restore", 0) for line in islice(self.coming.lines, RESTORED)]
+
+    def ask(self, engine, questions):
+        """Begins a round of an engine."""
+        try:
+            engine.ask(questions)
+            self.watch(engine)
+        except Doubt as doubt:
+            self.lose(engine, str(doubt))
+
+    def watch(self, engine):
+        """Waits for room in the engine's pipe exactly while there is something to write."""
+        if bool(engine.unwritten) == engine.watched:
+            return
+        if engine.unwritten:
+            self.selector.register(engine.input, selectors.EVENT_WRITE, partial(self.write, engine))
+        else:
+            self.selector.unregister(engine.input)
+        engine.watched = not engine.watched
+
+    def write(self, engine, _):
+        """Writes what is left of a round."""
+        if engine.closed:
+            return
+        try:
+            engine.write()
+            self.watch(engine)
+        except Doubt as doubt:
+            self.lose(engine, str(doubt))
+
+    def hear(self, engine, _):
+        """Takes the answers that an engine wrote."""
+        if engine.closed:
+            return
+        try:
+            for question, answer in engine.answers():
+                self.settle(engine, question, answer)
+        except Doubt as doubt:
+            self.lose(engine, str(doubt))
+            return
+        if engine.idle and engine is self.ending:
+            self.ending = None
+            self.end(engine)
+        elif engine.idle and self.coming and engine is self.coming.engine:
+            updates = self.restoring()
+            if updates:
+                self.ask(engine, updates)
+            else:
+                self.switch()
+
+    def settle(self, engine, question, answer):
+        """Takes one answer, or raises `Doubt` and leaves the question with the engine."""
+        if question.kind == "restore":
+            done = engine.accepts(answer)
+        else:
+            done = self.owner.settle(engine, question, answer)
+        if not done:
+            engine.asked.appendleft(question)
+            raise Doubt(f"to line {engine.line} it wrote {answer[:120]!r}")
+
+    def switch(self):
+        """Lets the engine that came take the place of the one before it, which answers its last round."""
+        coming, self.coming = self.coming, None
+        if self.engine and self.engine.idle:
+            self.end(self.engine)
+        elif self.engine:
+            self.ending = self.engine
+        self.engine, self.failures = coming.engine, 0
+        self.begun += 1
+        if coming.exchange:
+            self.owner.exchanged(coming)
+        self.engine.number(self.engine.count, self.journal.number - self.engine.count)
+
+    def end(self, engine):
+        """Lets go of an engine."""
+        self.selector.unregister(engine.output)
+        if engine.watched:
+            self.selector.unregister(engine.input)
+        engine.close()
+        self.dying.append(engine.process)
+        shutil.rmtree(engine.room, ignore_errors=True)
+
+    def lose(self, engine, reason):
+        """Ends an engine that can't be relied on; what it had not answered is asked again."""
+        last, status = engine.last_words()
+        self.end(engine)
+        if self.coming and engine is self.coming.engine:
+            self.come_to_nothing(last, status, reason)
+            return
+        self.say(f"the engine is ended after {engine.line:,} lines, since {reason}; another one is asked")
+        if engine is self.engine:
+            self.engine = None
+        else:
+            self.ending = None
+        for question in reversed(engine.asked):
+            self.owner.ask_again(question)
+
+    def come_to_nothing(self, last, status, reason):
+        """What follows where an engine didn't come so far as to answer."""
+        coming, self.coming = self.coming, None
+        said = last or reason
+        if coming.exchange:
+            self.say(f"the exchange came to nothing: {said}")
+            self.owner.not_exchanged(coming, refusal(last, reason))
+        elif not self.begun and (last.startswith("{") or (status or 0) > 0):
+            raise Failed(said)
+        else:
+            self.failures = min(self.failures + 1, 6)
+            pause = 0.1 * 2**self.failures
+            self.not_before = time.monotonic() + pause
+            self.say(f"no engine could be started: {said}; the next try is in {pause:.1f} s")
+
+    def check(self, now, updating):
+        """Ends engines that gave nothing for too long; those that make updates may take longer."""
+        self.dying = [process for process in self.dying if process.poll() is None]
+        for engine in self.engines():
+            patient = updating or (self.coming and engine is self.coming.engine)
+            limit = self.settings.patience if patient else self.settings.deadline
+            if not engine.idle and now - engine.moved > limit:
+                self.lose(engine, f"it gave nothing for {limit:g} s")
+
+    def close(self):
+        """Ends all engines."""
+        for engine in self.engines():
+            self.end(engine)
+        for process in self.dying:
+            process.wait()
