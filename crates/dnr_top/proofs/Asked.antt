@@ -27,7 +27,7 @@ any_task allows known (check_file kind name) all = all name
 any_task allows known (compile_file name) all = all name
 any_task allows known (serve_script serving) all = (any_serving allows known serving all, all serving.script)
 any_task allows known (make_sample sample) all = tt
-any_task allows known (hide_page list host) all = all list
+any_task allows known (hide_page name host) all = all name
 any_task allows known (prune_file name) all = all name
 
 pub all_may_be_asked : (allows : List ℕ → Type 0) (known : Option Names) (task : Option Task) → ((name : List ℕ) → allows name) → MayAskFor allows known task
