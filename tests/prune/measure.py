@@ -119,7 +119,8 @@ def compare_verdicts(room, rules, requests):
     before, after = verdicts(room, "rules.json"), verdicts(room, "rest.json")
     if before != after:
         sys.exit("tests/prune/measure.py: the rest decides otherwise")
-    told = sum(answer["verdict"] != "none" for answer in before)
+    # (a line whose host is none is `bad`, before and after)
+    told = sum(answer.get("verdict", "none") != "none" for answer in before)
     print(f"{len(rules):,} rules: {len(pairs):,} needless; {len(before):,} verdicts are the same, {told:,} of them by a rule")
 
 
@@ -137,7 +138,7 @@ def measure(room, name, rules, seconds, mebibytes):
 
 def main(lists):
     if not os.access(PROGRAM, os.X_OK):
-        sys.exit("tests/prune/measure.py: the program is not built; ./dnr builds it")
+        sys.exit("tests/prune/measure.py: the program is not built; ./build builds it")
     lists = [source for source in lists if Path(source).is_file()]
     if not lists:
         sys.exit("usage: tests/prune/measure.py LIST [LIST ..]")
