@@ -87,10 +87,10 @@ Nothing of this is promised, and what is proved says nothing of time or memory.
         ["instructions", f"{of['valgrind']}, cachegrind" if of["valgrind"] else "not counted, since valgrind was missing"],
         ["lists", of["lists"] + package if of["lists"] else "none"],
     ]
-    tail = """
+    tail = f"""
 ![Time and instructions a request, memory and loading against the number of rules; requests a second by workers; updates](measured.svg)
 
-A time is one of the processor, so that other work counts little, and the least of some runs in which the programs take turns; where it is by the clock it says so.
+A time is one of the processor, so that other work counts little, and the least of {of["runs"]} runs or more in which the programs take turns; where it is by the clock it says so.
 """
     return head + table(["what", ""], told) + tail
 
