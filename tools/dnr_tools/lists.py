@@ -84,15 +84,15 @@ def unmarked(rule, meant):
     return {**rule, "condition": {**rule["condition"], "urlFilter": text.replace(MARK, meant)}}
 
 
-def read(data, wanted=lambda text: True):
-    """The lines of a list in bytes. Filters whose text isn't `wanted` have no rules. Raises `Unread`."""
+def read(data):
+    """The lines of a list in bytes, and how many rules it gives. Raises `Unread`."""
     report, rules = compiled(data)
     texts = [text.strip(b" \t\r") for text in data.split(b"\n")]
     if texts and not texts[-1]:
         texts.pop()
     filters = {}
     for number, text in enumerate(texts, 1):
-        if number not in report and silent_kind(text) == "filter" and wanted(text):
+        if number not in report and silent_kind(text) == "filter":
             filters[number] = shape(text)
     found = rules_of_shapes(dict.fromkeys(text for text, _ in filters.values()))
     return [line_of(number, text, report.get(number), filters, found) for number, text in enumerate(texts, 1)], len(rules)
