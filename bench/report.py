@@ -25,13 +25,15 @@ def number(value, form, unit=""):
 
 
 def seconds(value):
-    """Seconds in the unit that fits them."""
+    """Seconds in the unit that fits them. What is less than nothing is so by other work on the machine."""
     value = float(value)
+    if value <= 0:
+        return "too little to tell"
     for unit, most in (("s", 0.1), ("ms", 1e-3)):
         if value >= most:
             value = value if unit == "s" else 1e3 * value
             return f"{value:.{1 if value >= 10 else 2}f} {unit}"
-    return f"{1e6 * max(value, 0):.0f} µs"
+    return f"{1e6 * value:.0f} µs"
 
 
 def row_of(row, others):
