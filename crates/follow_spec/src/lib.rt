@@ -1,0 +1,13 @@
+//! Where a request leads: the hops of its redirects and upgrades.
+//!
+//! The definition stands in `specs/Trace.antt`.
+#![tactic(auto)]
+
+mod end;
+mod examples;
+
+pub use end::End;
+pub use examples::{
+    bad_targets_end_a_trace, loops_end_where_they_close, traces_are_bounded,
+    traces_follow_redirects,
+};
