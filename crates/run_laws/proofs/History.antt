@@ -1,20 +1,22 @@
 -- Each line of a session by the one list of all that was accepted.
-use Rattle.std.proofs.Common.{◌≡◌, ◌⊎◌, ℕ, zero, suc, ◌+◌, ◌%◌, ◌≤◌, List, [], ◌∷◌, ◌++◌, length, take, Bool, Option, Some, None, Result, Ok, Err, refl, sym, ap, ◌∙◌, inl, inr, subst, arith, append_assoc, length-append}
+use Rattle.std.proofs.Common.{◌≡◌, ◌⊎◌, ℕ, zero, suc, ◌+◌, ◌%◌, ◌≤◌, List, [], ◌∷◌, ◌++◌, length, take, Bool, true, false, Option, Some, None, Result, Ok, Err, refl, sym, ap, ◌∙◌, inl, inr, subst, arith, append_assoc, length-append}
 use Rattle.std.specs.Prelude.{slice_get, fold, Contains}
 use Rattle.std.proofs.Math.Seq.{take-append_seam, take-append-add}
 use Rattle.std.proofs.lemmas.List.{take-append-le, length-take-le}
 use Rattle.std.proofs.lemmas.List.Sums.{fold-append}
+use Rattle.dnr_base.specs.declared.request.Request.{Request}
 use Rattle.dnr_base.specs.Faults.{Count}
+use Rattle.dnr_spec.specs.Suffixes.{SuffixRule}
 use Rattle.rule_spec.specs.State.{State}
 use Rattle.update_spec.specs.declared.refusal.Refusal.{Refusal}
 use Rattle.update_spec.specs.Update.{Update, changed}
 use Rattle.update_spec.specs.Entries.{Entry, one, batch as together, judge, after, replay}
 use Rattle.line_spec.specs.declared.line_fault.LineFault.{LineFault}
 use Rattle.line_spec.specs.Line.{Command, blank, sync, request, explain, update, batch, command_of}
-use Rattle.session_spec.specs.Answers.{Setting, known_with, Applies, Decides, Explains, IsAnswered, Replies, Says, LinesSay, RoundSays, RoundsSay, Serves}
+use Rattle.session_spec.specs.Answers.{Setting, known_with, Applies, Explains, AnswersBy, RepliesWhy, IsAnswered, Replies, Says, LinesSay, RoundSays, RoundsSay, Serves}
 use Rattle.session_spec.specs.Rounds.{asks}
 use Rattle.session_spec.specs.Said.{Answer, Said, accepted, synced, answered}
-use Rattle.run_laws.specs.History.{entry_in, if_accepted, accepted_from, lines_in, Place, round_at, rounds_around, lines_before, number_at, command_at, asked_in, seat_at, Transcript, accepted_in, all_accepted, state_after, count_before, count_in_earlier, count_when_ended, IsAnsweredAt, IsJudged, Tells, IsStopped, IsHistory}
+use Rattle.run_laws.specs.History.{entry_in, if_accepted, accepted_from, lines_in, Place, round_at, rounds_around, lines_before, number_at, command_at, asked_in, seat_at, Transcript, accepted_in, all_accepted, state_after, count_before, count_in_earlier, count_when_ended, IsAnsweredAt, IsJudged, TellsWhy, Tells, IsStopped, IsHistory}
 use Rattle.session_laws.proofs.Turns.{only_one}
 
 -- ---- one entry, and as many as there are lines
@@ -81,12 +83,17 @@ applied_leaves now entry None told next applies = rw applies.0 applies.1
 applied_leaves now (one new) (Some at) told next applies = rw applies.0 applies.1
 applied_leaves now (together all) (Some at) told next applies = rw applies.0 applies.1
 
+why_leaves : (follows : Bool) (suffixes : List SuffixRule) (states : List State) (now : State) (seat : ℕ) (r : Request) (told : Said) (next : State)
+    → RepliesWhy follows suffixes states seat r told → next ≡ now → next ≡ replay now (if_accepted told [])
+why_leaves true suffixes states now seat r told next says same = rw says same
+why_leaves false suffixes states now seat r told next says same = rw says.same same
+
 reply_leaves : (setting : Setting) (states : List State) (now : State) (seat : ℕ) (read : Result Command LineFault) (told : Said) (next : State)
     → Replies setting states now seat read told next → next ≡ replay now (if_accepted told (entry_in read))
 reply_leaves setting states now seat (Ok blank) told next says = rw says.0 says.1
 reply_leaves setting states now seat (Ok sync) told next says = rw says.0 says.1
 reply_leaves setting states now seat (Ok (request r)) told next says = rw says.0.same says.1
-reply_leaves setting states now seat (Ok (explain r)) told next says = rw says.0.same says.1
+reply_leaves setting states now seat (Ok (explain r)) told next says = why_leaves setting.follows setting.suffixes states now seat r told next says.0 says.1
 reply_leaves setting states now seat (Ok (update new)) told next says = applied_leaves now (one new) (judge now (one new)) told next says
 reply_leaves setting states now seat (Ok (batch all)) told next says = applied_leaves now (together all) (judge now (together all)) told next says
 reply_leaves setting states now seat (Err fault) told next says = rw says.0 says.1
@@ -265,6 +272,11 @@ answer_tells t at states seat Fits told turn seen by =
       };
     }
 
+why_tells : (follows : Bool) (t : Transcript) (at : Place) (states : List State) (seat : ℕ) (r : Request) (told : Said) → seat ≡ seat_at t.setting at
+    → ((state : State) → Contains states state → IsSeen t at state) → RepliesWhy follows t.setting.suffixes states seat r told → TellsWhy follows t at r told
+why_tells true t at states seat r told turn seen says = says
+why_tells false t at states seat r told turn seen says = answer_tells t at states seat (Explains t.setting.suffixes r) told turn seen says
+
 applied_tells : (now : State) (entry : Entry) (judged : Option (ℕ × Refusal)) (told : Said) (next : State) (count : ℕ) → now.count ≡ count → Applies now entry judged told next → IsJudged count entry judged told
 applied_tells now entry None told next count counts applies =
     let same : (after now entry).count ≡ count + 1 = omega (arith, counts, entry_counts now entry) in applies.0 ∙ ap accepted same
@@ -280,8 +292,8 @@ reply_tells : (t : Transcript) (at : Place) (states : List State) (now : State) 
     → Replies t.setting states now seat read told next → Tells t at read told
 reply_tells t at states now seat (Ok blank) told next same counts turn seen says = says.0
 reply_tells t at states now seat (Ok sync) told next same counts turn seen says = says.0 ∙ ap synced counts
-reply_tells t at states now seat (Ok (request r)) told next same counts turn seen says = answer_tells t at states seat (Decides t.setting.suffixes r) told turn seen says.0
-reply_tells t at states now seat (Ok (explain r)) told next same counts turn seen says = answer_tells t at states seat (Explains t.setting.suffixes r) told turn seen says.0
+reply_tells t at states now seat (Ok (request r)) told next same counts turn seen says = answer_tells t at states seat (AnswersBy t.setting.follows t.setting.suffixes r) told turn seen says.0
+reply_tells t at states now seat (Ok (explain r)) told next same counts turn seen says = why_tells t.setting.follows t at states seat r told turn seen says.0
 reply_tells t at states now seat (Ok (update new)) told next same counts turn seen says = entry_tells now (state_after t (count_before t at)) (one new) told next (count_before t at) same counts says
 reply_tells t at states now seat (Ok (batch all)) told next same counts turn seen says = entry_tells now (state_after t (count_before t at)) (together all) told next (count_before t at) same counts says
 reply_tells t at states now seat (Err fault) told next same counts turn seen says = says.0

@@ -20,7 +20,7 @@ use Rattle.update_spec.specs.Entries.{RefusedInstall, changed_unless, install_th
 use Rattle.load_spec.specs.Files.{Files, HoldsFile}
 use Rattle.session_spec.specs.Loading.{HoldsListExtension, Reads}
 use Rattle.session_spec.specs.Out.{of_words}
-use Rattle.session_spec.specs.Said.{Answer, decided, explained, failed}
+use Rattle.session_spec.specs.Said.{Answer, decided, explained, failed, traced, failed_at}
 use Rattle.session_spec.specs.Words.{Installed, list}
 use Rattle.run_laws.specs.History.{Place, command_at, Transcript, state_after, IsTranscript}
 use Rattle.run_laws.specs.Printed.{IsAnswerOn}
@@ -67,6 +67,8 @@ about t at (explained explanation) state r verdict has asks fits =
     let same : explanation.verdict ≡ verdict = cc has in
     sym same ∙ ap (λ (e : Explanation). e.verdict) fits.2 ∙ ap (λ q. scan t.setting.suffixes state q) asked
 about t at (failed rule) state r verdict has asks fits = absurd (cc has)
+about t at (traced way) state r verdict has asks fits = absurd (cc has)
+about t at (failed_at hop rule) state r verdict has asks fits = absurd (cc has)
 
 blocks_as_said : (t : Transcript) (written : List ℕ) → IsTranscript t written → (name bytes : List ℕ) → t.first.extensions ≡ list_extension name (compiled (lists.lines_of bytes)) ∷ []
     → BlocksAsSaid bytes t

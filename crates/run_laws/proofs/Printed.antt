@@ -1,20 +1,19 @@
 -- One line of what a session wrote.
-use Rattle.std.proofs.Common.{◌≡◌, ◌⊎◌, ℕ, zero, suc, ◌+◌, ◌<◌, ◌≤◌, List, [], ◌∷◌, ◌++◌, length, take, Option, Some, None, Result, Ok, Err, refl, sym, ap, ◌∙◌, inl, inr, subst, arith, append-nil}
+use Rattle.std.proofs.Common.{◌≡◌, ◌⊎◌, ℕ, zero, suc, ◌+◌, ◌<◌, ◌≤◌, List, [], ◌∷◌, ◌++◌, length, take, Bool, true, false, Option, Some, None, Result, Ok, Err, refl, sym, ap, ◌∙◌, inl, inr, subst, arith, append-nil}
 use Rattle.std.specs.Prelude.{slice_get}
 use Rattle.std.specs.List.{cons_option}
 use Rattle.std.proofs.lemmas.Bool.{eq-eqb}
 use Rattle.dnr_base.specs.declared.request.Request.{Request}
-use Rattle.dnr_base.specs.declared.rule_name.RuleName.{RuleName}
 use Rattle.dnr_base.specs.Faults.{Count}
 use Rattle.rule_spec.specs.State.{State}
 use Rattle.update_spec.specs.declared.refusal.Refusal.{Refusal}
 use Rattle.update_spec.specs.Entries.{Entry, one, batch as together}
 use Rattle.line_spec.specs.declared.line_fault.LineFault.{LineFault}
 use Rattle.line_spec.specs.Line.{Command, blank, sync, request, explain, update, batch}
-use Rattle.session_spec.specs.Answers.{said_refused, Decides, Explains, HostRisesBy}
+use Rattle.session_spec.specs.Answers.{said_refused, Decides, Explains, Follows, AnswersBy, HostRisesBy}
 use Rattle.session_spec.specs.Out.{HasRisen}
-use Rattle.session_spec.specs.Said.{Answer, decided, explained, failed, Said, answered, lines_text, number_by, numbers_by, NeverFallFrom, NeverFall, count_failed, count_stopped}
-use Rattle.run_laws.specs.History.{entry_in, if_accepted, accepted_from, Place, lines_before, lines_up_to, number_at, command_at, Transcript, SaysAt, accepted_in, state_after, count_before, judged_at, IsAnsweredAt, IsJudged, Tells, IsStopped}
+use Rattle.session_spec.specs.Said.{Answer, decided, explained, failed, traced, failed_at, Said, answered, is_failed, lines_text, number_by, numbers_by, NeverFallFrom, NeverFall, count_failed, count_stopped}
+use Rattle.run_laws.specs.History.{entry_in, if_accepted, accepted_from, Place, lines_before, lines_up_to, number_at, command_at, Transcript, SaysAt, accepted_in, state_after, count_before, judged_at, IsAnsweredAt, IsJudged, TellsWhy, Tells, IsStopped}
 use Rattle.run_laws.specs.Printed.{PrintsAt, IsAnswerOn, IsAfterSoMany, WasAccepted, WasRefused, WasStopped}
 use Rattle.run_laws.specs.Laws.{VerdictsAreScans, RefusalsNameTheirCause, FaultsAreCounted}
 use Rattle.session_laws.proofs.Told.{failed_more, stopped_more, text_append}
@@ -48,11 +47,27 @@ decided_on : (t : Transcript) (at : Place) (r : Request) (answer : Answer) (stat
 decided_on t at r (decided verdict) state asked fits = (r, asked, fits)
 decided_on t at r (explained explanation) state asked fits = absurd fits
 decided_on t at r (failed rule) state asked fits = fits
+decided_on t at r (traced way) state asked fits = absurd fits
+decided_on t at r (failed_at hop rule) state asked fits = absurd fits
+
+followed_on : (t : Transcript) (at : Place) (r : Request) (answer : Answer) (state : State) → command_at t.setting at ≡ Ok (request r) → Follows t.setting.suffixes r state answer → IsAnswerOn t at answer state
+followed_on t at r (decided verdict) state asked fits = absurd fits
+followed_on t at r (explained explanation) state asked fits = absurd fits
+followed_on t at r (failed rule) state asked fits = absurd fits
+followed_on t at r (traced way) state asked fits = (r, asked, fits)
+followed_on t at r (failed_at hop rule) state asked fits = (fits.0, (r, asked, fits.1))
+
+asked_on : (follows : Bool) (t : Transcript) (at : Place) (r : Request) (answer : Answer) (state : State) → command_at t.setting at ≡ Ok (request r)
+    → AnswersBy follows t.setting.suffixes r state answer → IsAnswerOn t at answer state
+asked_on true t at r answer state asked fits = followed_on t at r answer state asked fits
+asked_on false t at r answer state asked fits = decided_on t at r answer state asked fits
 
 explained_on : (t : Transcript) (at : Place) (r : Request) (answer : Answer) (state : State) → command_at t.setting at ≡ Ok (explain r) → Explains t.setting.suffixes r state answer → IsAnswerOn t at answer state
 explained_on t at r (decided verdict) state asked fits = absurd fits
 explained_on t at r (explained explanation) state asked fits = (r, asked, fits)
 explained_on t at r (failed rule) state asked fits = fits
+explained_on t at r (traced way) state asked fits = absurd fits
+explained_on t at r (failed_at hop rule) state asked fits = absurd fits
 
 -- ---- the numbers of a seat
 
@@ -120,14 +135,22 @@ not_judged count entry None seat number answer tells = absurd (cc tells)
 not_judged count (one new) (Some at) seat number answer tells = absurd (cc tells)
 not_judged count (together all) (Some at) seat number answer tells = absurd (cc tells)
 
+why_by : (follows : Bool) (t : Transcript) (written : List ℕ) (at : Place) (seat number : ℕ) (answer : Answer) (r : Request) → command_at t.setting at ≡ Ok (explain r)
+    → PrintsAt t written at (answered seat number answer) → Seen t at seat number → TellsWhy follows t at r (answered seat number answer)
+    → IsAfterSoMany t written at seat number answer
+why_by true t written at seat number answer r is prints seen tells = absurd (cc tells)
+why_by false t written at seat number answer r is prints seen tells =
+    answered_on t written at seat number answer (Explains t.setting.suffixes r) prints seen (λ other state fits. explained_on t at r other state is fits) tells
+
 answer_by : (t : Transcript) (written : List ℕ) (at : Place) (seat number : ℕ) (answer : Answer) (read : Result Command LineFault) → command_at t.setting at ≡ read
     → PrintsAt t written at (answered seat number answer) → Seen t at seat number → Tells t at read (answered seat number answer) → IsAfterSoMany t written at seat number answer
 answer_by t written at seat number answer (Ok blank) is prints seen tells = absurd (cc tells)
 answer_by t written at seat number answer (Ok sync) is prints seen tells = absurd (cc tells)
 answer_by t written at seat number answer (Ok (request r)) is prints seen tells =
-    answered_on t written at seat number answer (Decides t.setting.suffixes r) prints seen (λ other state fits. decided_on t at r other state is fits) tells
+    answered_on t written at seat number answer (AnswersBy t.setting.follows t.setting.suffixes r) prints seen
+    (λ other state fits. asked_on t.setting.follows t at r other state is fits) tells
 answer_by t written at seat number answer (Ok (explain r)) is prints seen tells =
-    answered_on t written at seat number answer (Explains t.setting.suffixes r) prints seen (λ other state fits. explained_on t at r other state is fits) tells
+    why_by t.setting.follows t written at seat number answer r is prints seen tells
 answer_by t written at seat number answer (Ok (update new)) is prints seen tells = absurd (not_judged (count_before t at) (one new) (judged_at t at (one new)) seat number answer tells)
 answer_by t written at seat number answer (Ok (batch all)) is prints seen tells = absurd (not_judged (count_before t at) (together all) (judged_at t at (together all)) seat number answer tells)
 answer_by t written at seat number answer (Err fault) is prints seen tells = absurd (cc tells)
@@ -218,8 +241,8 @@ counted : (told : Said) (ahead rest all : List Said) (count : List Said → ℕ)
     → count (told ∷ []) ≡ 1 → 1 ≤ count all
 counted told ahead rest all count is adds once = omega (arith, ap count is, adds ahead (told ∷ rest), adds (told ∷ []) rest, once)
 
-one_failed : (seat number : ℕ) (rule : RuleName) (told : Said) → told ≡ answered seat number (failed rule) → count_failed seat (told ∷ []) ≡ 1
-one_failed seat number rule told is = rw (is, eq-eqb seat seat refl) refl
+one_failed : (seat number : ℕ) (answer : Answer) (told : Said) → is_failed answer ≡ true → told ≡ answered seat number answer → count_failed seat (told ∷ []) ≡ 1
+one_failed seat number answer told fails is = rw (is, eq-eqb seat seat refl, fails) refl
 
 pub faults_are_counted : FaultsAreCounted
 faults_are_counted t written is at told there =
@@ -228,6 +251,6 @@ faults_are_counted t written is at told there =
     record {
       checker = λ stops. some_risen (count_stopped t.said) (slice_get t.hosts 0)
           (counted told ahead split.rest t.said count_stopped split.all stopped_more (ap (λ s. count_stopped (s ∷ [])) stops.same)) is.checker;
-      finder = λ seat number rule same. some_risen (count_failed seat t.said) (slice_get t.hosts (suc seat))
-          (counted told ahead split.rest t.said (count_failed seat) split.all (failed_more seat) (one_failed seat number rule told same)) (is.finders seat);
+      finder = λ seat number answer fails same. some_risen (count_failed seat t.said) (slice_get t.hosts (suc seat))
+          (counted told ahead split.rest t.said (count_failed seat) split.all (failed_more seat) (one_failed seat number answer told fails same)) (is.finders seat);
     }

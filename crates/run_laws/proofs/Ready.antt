@@ -20,7 +20,7 @@ use Rattle.load_spec.specs.Manifest.{Resource, Manifest}
 use Rattle.load_spec.specs.Files.{Files, HoldsLongFile, HoldsRules, BreaksForm, StopsAtHost}
 use Rattle.load_spec.specs.Extensions.{file_in, manifest_name, set_of, extension_of, HoldsSet, HoldsManifest, HoldsExtension, EndsAtOne, RefusedFile, BreaksSet, RefusesExtension, HasLongFile}
 use Rattle.session_spec.specs.Refusals.{too_many_rules, host_failed, ListRefusal}
-use Rattle.session_spec.specs.Words.{Installed, folder, list, Task, match_files, check_file, compile_file, serve_script, make_sample, hide_page, prune_file}
+use Rattle.session_spec.specs.Words.{Installed, folder, list, Task, match_files, follow_files, check_file, compile_file, serve_script, make_sample, hide_page, prune_file}
 use Rattle.session_spec.specs.Loading.{PrintsRefusedRules, HoldsList, IsRefusedList, PrintsRefusedList, Reads, Refuses, IsTooLong, ReadsSuffixes, RefusesSuffixes, IsLongSuffixFile, Loaded}
 use Rattle.session_spec.specs.Out.{Outside, HostRose, Session, of_rules, of_words, LoadsFor, loaded_with, Opens, HoldsScript, HoldsTooMuch, RefusesSession, RefusesFileOf, HasLongFileOf, IsCounted, IsCompiled, in_rounds, at_once, EndsBy, EndsFor}
 use Rattle.session_spec.specs.Hiding.{IsHidden, HidesTooMuch}
@@ -157,21 +157,21 @@ installed_short files (folder name) extension held long = extension_short files 
 installed_short files (list name file) extension held long = not_long files file held.bytes held.held.file.held held.held.file.short long
 
 session_holds : (files : Files) (outside : Outside) (session : Session) (loaded : Loaded) (line : List ℕ) → (HostRose outside 0 → ⊥) → LoadsFor files session loaded → RefusesFileOf files outside session line → ⊥
-session_holds files outside (of_rules name) loaded line calm held refused =
+session_holds files outside (of_rules follows name) loaded line calm held refused =
     forms_hold files (HostRose outside 0) Static name refused.refusal held.0 calm held.1 refused.broken
 session_holds files outside (of_words serving) loaded line calm held (inl refused) = suffixes_hold files line serving.suffixes loaded.suffixes held.suffixes refused
 session_holds files outside (of_words serving) loaded line calm held (inr ends) =
     none_ends (Reads files) (Refuses files (HostRose outside 0) line) serving.installed loaded.extensions (installed_holds files (HostRose outside 0) line calm) held.extensions ends.first
 
 session_short : (files : Files) (session : Session) (loaded : Loaded) → LoadsFor files session loaded → HasLongFileOf files session → ⊥
-session_short files (of_rules name) loaded held long = not_long files name held.1.file held.1.held held.1.short long
+session_short files (of_rules follows name) loaded held long = not_long files name held.1.file held.1.held held.1.short long
 session_short files (of_words serving) loaded held (inl long) = suffixes_short files serving.suffixes loaded.suffixes held.suffixes long
 session_short files (of_words serving) loaded held (inr ends) =
     none_ends (Reads files) (IsTooLong files) serving.installed loaded.extensions (installed_short files) held.extensions ends.first
 
 -- what is read is the same whenever it is read
 same_loaded : (files : Files) (session : Session) (one other : Loaded) → LoadsFor files session one → LoadsFor files session other → one ≡ other
-same_loaded files (of_rules name) one other a b = a.2 ∙ ap loaded_with (same_rules files Static name a.0 b.0 a.1 b.1) ∙ sym b.2
+same_loaded files (of_rules follows name) one other a b = a.2 ∙ ap loaded_with (same_rules files Static name a.0 b.0 a.1 b.1) ∙ sym b.2
 same_loaded files (of_words serving) one other a b =
     let suffixes = same_suffixes files serving.suffixes one.suffixes other.suffixes a.suffixes b.suffixes in
     let extensions = same_all (Reads files) serving.installed one.extensions other.extensions (same_extension files) a.extensions b.extensions in
@@ -210,7 +210,8 @@ at_once_completes outside Done Refused TooLong status.DiskFault written shelf si
 
 task_completes : (task : Task) (files : Files) (outside : Outside) (ended : Status) (written : List ℕ) → (Rose outside.shelf.before outside.shelf.now → ⊥) → (Rose outside.sink.before outside.sink.now → ⊥)
     → (HostRose outside 0 → ⊥) → IsReady files task → EndsFor files outside (Some task) ended written → (ended ≡ status.Done) ⊎ (ended ≡ status.NoMemory)
-task_completes (match_files rules script) files outside ended written shelf sink calm ready ends = session_completes files outside (of_rules rules) script ended written shelf sink calm ready ends
+task_completes (match_files rules script) files outside ended written shelf sink calm ready ends = session_completes files outside (of_rules false rules) script ended written shelf sink calm ready ends
+task_completes (follow_files rules script) files outside ended written shelf sink calm ready ends = session_completes files outside (of_rules true rules) script ended written shelf sink calm ready ends
 task_completes (check_file kind name) files outside ended written shelf sink calm ready ends =
     at_once_completes outside (IsCounted files kind name) (PrintsRefusedRules files (HostRose outside 0) kind name) (HoldsLongFile files name) ended written shelf sink
     (λ line refused. forms_hold files (HostRose outside 0) kind name refused.refusal ready.rules calm ready.held refused.broken)

@@ -4,7 +4,7 @@ use Rattle.dnr_spec.specs.declared.status.Status.{Status}
 use Rattle.dnr_spec.specs.declared.status.Status.TheVariants as status
 use Rattle.load_spec.specs.Files.{Files}
 use Rattle.session_spec.specs.Out.{Outside, Session, of_rules, of_words, setting_of, ServesAll, ServesSome, RefusesSession, IsServed, IsBeginning, in_rounds, EndsBy, EndsFor}
-use Rattle.session_spec.specs.Words.{Task, match_files, check_file, compile_file, serve_script, make_sample, hide_page, prune_file, task_of}
+use Rattle.session_spec.specs.Words.{Task, match_files, follow_files, check_file, compile_file, serve_script, make_sample, hide_page, prune_file, task_of}
 use Rattle.run_laws.specs.Wrote.{IsSession, IsHistoryOf, Meanwhile, Wrote}
 use Rattle.run_laws.specs.Laws.{SessionsAreHistories}
 use Rattle.run_laws.proofs.History.{one_history}
@@ -49,7 +49,8 @@ wrote_by files outside session name status.DiskFault written ends = ends
 wrote_for : (task : Option Task) (files : Files) (outside : Outside) (ended : Status) (written : List ℕ) (session : Session) (name : List ℕ) → IsSession task session name
     → EndsFor files outside task ended written → Wrote files outside session name ended written
 wrote_for None files outside ended written session name is ends = absurd is
-wrote_for (Some (match_files rules script)) files outside ended written session name is ends = rw (is.0, is.1) (wrote_by files outside (of_rules rules) script ended written ends)
+wrote_for (Some (match_files rules script)) files outside ended written session name is ends = rw (is.0, is.1) (wrote_by files outside (of_rules false rules) script ended written ends)
+wrote_for (Some (follow_files rules script)) files outside ended written session name is ends = rw (is.0, is.1) (wrote_by files outside (of_rules true rules) script ended written ends)
 wrote_for (Some (check_file kind file)) files outside ended written session name is ends = absurd is
 wrote_for (Some (compile_file file)) files outside ended written session name is ends = absurd is
 wrote_for (Some (serve_script serving)) files outside ended written session name is ends =

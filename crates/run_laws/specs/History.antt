@@ -1,14 +1,17 @@
 -- What a session said, in the terms of its reader. There is one list of updates and batches that were accepted, in the
 -- order of their lines. Each line is answered on the state that the first so many of them leave, and says how many.
-use Rattle.std.specs.Prelude.{◌≡◌, ◌⊎◌, ℕ, suc, ◌+◌, ◌%◌, ◌≤◌, List, [], ◌∷◌, ◌++◌, length, take, slice_get, Bool, Option, Some, None, Result, Ok, Err}
+use Rattle.std.specs.Prelude.{◌≡◌, ◌⊎◌, ℕ, suc, ◌+◌, ◌%◌, ◌≤◌, List, [], ◌∷◌, ◌++◌, length, take, slice_get, Bool, true, false, Option, Some, None, Result, Ok, Err}
 use Rattle.dnr_base.specs.Faults.{Count}
+use Rattle.dnr_base.specs.declared.request.Request.{Request}
 use Rattle.rule_spec.specs.State.{State}
 use Rattle.update_spec.specs.declared.refusal.Refusal.{Refusal}
 use Rattle.update_spec.specs.Entries.{Entry, one, batch as together, judge, replay}
+use Rattle.line_spec.specs.declared.command_path.CommandPath.TheVariants.{Cmd}
 use Rattle.line_spec.specs.declared.line_fault.LineFault.{LineFault}
+use Rattle.line_spec.specs.declared.line_fault.LineFault.TheVariants.{BadCommand}
 use Rattle.line_spec.specs.Line.{Command, blank, sync, request, explain, update, batch, command_of}
 use Rattle.line_spec.specs.Stops.{StopsInLine}
-use Rattle.session_spec.specs.Answers.{Setting, known_with, said_refused, Decides, Explains, HostRisesBy}
+use Rattle.session_spec.specs.Answers.{Setting, known_with, said_refused, Explains, AnswersBy, HostRisesBy}
 use Rattle.session_spec.specs.Rounds.{asks}
 use Rattle.session_spec.specs.Said.{Answer, Said, nothing, accepted, synced, refused, refused_in_batch, bad, stopped, answered, lines_text, numbers_by, NeverFall, count_failed, count_stopped}
 
@@ -151,12 +154,17 @@ IsJudged count entry (Some at) told = told ≡ said_refused entry at
 abbrev pub judged_at : Transcript → Place → Entry → Option (ℕ × Refusal)
 judged_at t at entry = judge (state_after t (count_before t at)) entry
 
+-- what a line says that asks for an explanation; where requests are followed nothing is explained
+abbrev pub TellsWhy : Bool → Transcript → Place → Request → Said → Type 0
+TellsWhy true t at r told = told ≡ bad (BadCommand Cmd)
+TellsWhy false t at r told = IsAnsweredAt t at (Explains t.setting.suffixes r) told
+
 -- what a line says that asks for this
 abbrev pub Tells : Transcript → Place → Result Command LineFault → Said → Type 0
 Tells t at (Ok blank) told = told ≡ nothing
 Tells t at (Ok sync) told = told ≡ synced (count_before t at)
-Tells t at (Ok (request r)) told = IsAnsweredAt t at (Decides t.setting.suffixes r) told
-Tells t at (Ok (explain r)) told = IsAnsweredAt t at (Explains t.setting.suffixes r) told
+Tells t at (Ok (request r)) told = IsAnsweredAt t at (AnswersBy t.setting.follows t.setting.suffixes r) told
+Tells t at (Ok (explain r)) told = TellsWhy t.setting.follows t at r told
 Tells t at (Ok (update new)) told = IsJudged (count_before t at) (one new) (judged_at t at (one new)) told
 Tells t at (Ok (batch all)) told = IsJudged (count_before t at) (together all) (judged_at t at (together all)) told
 Tells t at (Err fault) told = told ≡ bad fault

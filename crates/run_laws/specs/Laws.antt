@@ -47,7 +47,7 @@ SessionsAreHistories =
 
 -- A verdict that a session wrote is that of the precedence scan over all rules that exactly as many accepted updates and
 -- batches leave as the verdict prints: the first so many of one list. Among them are all of the earlier rounds, and all that
--- its seat had seen. So is an explanation.
+-- its seat had seen. So is an explanation, and so is each hop of a trace.
 abbrev pub VerdictsAreScans : Type 0
 VerdictsAreScans =
     (t : Transcript) (written : List ℕ) → IsTranscript t written → (at : Place) (seat number : ℕ) (answer : Answer)

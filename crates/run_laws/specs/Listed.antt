@@ -13,7 +13,7 @@ use Rattle.line_spec.specs.Line.{Command, blank, sync, request, explain, update,
 use Rattle.load_spec.specs.Files.{Files, HoldsFile}
 use Rattle.session_spec.specs.Out.{Outside, Session, of_words, setting_of}
 use Rattle.session_spec.specs.Rounds.{rounds_of}
-use Rattle.session_spec.specs.Said.{Answer, decided, explained, failed, answered}
+use Rattle.session_spec.specs.Said.{Answer, decided, explained, failed, traced, failed_at, answered}
 use Rattle.session_spec.specs.Words.{Serving}
 use Rattle.run_laws.specs.History.{Place, command_at, Transcript, SaysAt, state_after}
 use Rattle.run_laws.specs.Wrote.{AllRounds}
@@ -34,6 +34,8 @@ abbrev pub verdict_in : Answer → Option Verdict
 verdict_in (decided verdict) = Some verdict
 verdict_in (explained explanation) = Some explanation.verdict
 verdict_in (failed rule) = None
+verdict_in (traced way) = None
+verdict_in (failed_at hop rule) = None
 
 -- ---- a session of one list
 

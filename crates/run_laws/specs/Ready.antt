@@ -1,5 +1,5 @@
 -- What a command reads is all there, within the limits and in its form.
-use Rattle.std.specs.Prelude.{ℕ, ◌≤◌, List, length}
+use Rattle.std.specs.Prelude.{ℕ, ◌≤◌, List, length, true, false}
 use Rattle.rule_spec.specs.State.{State}
 use Rattle.rule_spec.specs.declared.rule_kind.RuleKind.{RuleKind}
 use Rattle.rule_spec.specs.declared.rule_kind.RuleKind.TheVariants.{Static}
@@ -11,7 +11,7 @@ use Rattle.prune_spec.specs.Pruned.{max_rules}
 use Rattle.load_spec.specs.Files.{Files, HoldsFile, HoldsRules}
 use Rattle.session_spec.specs.Loading.{HoldsList, Loaded}
 use Rattle.session_spec.specs.Out.{Session, of_rules, of_words, HoldsScript, Opens}
-use Rattle.session_spec.specs.Words.{Task, match_files, check_file, compile_file, serve_script, make_sample, hide_page, prune_file}
+use Rattle.session_spec.specs.Words.{Task, match_files, follow_files, check_file, compile_file, serve_script, make_sample, hide_page, prune_file}
 
 -- the file holds rules of this kind
 pub record RulesAreReady (files : Files) (kind : RuleKind) (name : List ℕ) : Type 0 where
@@ -47,7 +47,8 @@ pub record SessionIsReady (files : Files) (session : Session) (name : List ℕ) 
 
 -- what this command reads is so; a sample reads nothing
 abbrev pub IsReady : Files → Task → Type 0
-IsReady files (match_files rules script) = SessionIsReady files (of_rules rules) script
+IsReady files (match_files rules script) = SessionIsReady files (of_rules false rules) script
+IsReady files (follow_files rules script) = SessionIsReady files (of_rules true rules) script
 IsReady files (check_file kind name) = RulesAreReady files kind name
 IsReady files (compile_file name) = ListIsReady files name
 IsReady files (serve_script serving) = SessionIsReady files (of_words serving) serving.script

@@ -1,5 +1,5 @@
 -- What a session wrote, by the status with which it ended, in the terms of its reader.
-use Rattle.std.specs.Prelude.{◌≡◌, ◌⊎◌, ℕ, List, [], take, Option, Some, None}
+use Rattle.std.specs.Prelude.{◌≡◌, ◌⊎◌, ℕ, List, [], take, true, false, Option, Some, None}
 use Rattle.dnr_spec.specs.declared.status.Status.{Status}
 use Rattle.dnr_spec.specs.declared.status.Status.TheVariants as status
 use Rattle.dnr_spec.specs.Lines.{lines_of}
@@ -8,13 +8,14 @@ use Rattle.load_spec.specs.Files.{Files}
 use Rattle.session_spec.specs.Loading.{Loaded}
 use Rattle.session_spec.specs.Out.{Outside, Session, of_rules, of_words, setting_of, HasLongFileOf, HoldsScript, HoldsTooMuch, HoldsGiven, HasStarted, HasNotStarted, RefusesSession, Opens, IsBeginning}
 use Rattle.session_spec.specs.Rounds.{rounds_of, whole_rounds_of, short_lines, ended_lines}
-use Rattle.session_spec.specs.Words.{Task, match_files, check_file, compile_file, serve_script, make_sample, hide_page, prune_file}
+use Rattle.session_spec.specs.Words.{Task, match_files, follow_files, check_file, compile_file, serve_script, make_sample, hide_page, prune_file}
 use Rattle.run_laws.specs.History.{IsHistory}
 
 -- the command is this session, and its script has this name
 abbrev pub IsSession : Option Task → Session → List ℕ → Type 0
 IsSession None session name = ⊥
-IsSession (Some (match_files rules script)) session name = (session ≡ of_rules rules) × (name ≡ script)
+IsSession (Some (match_files rules script)) session name = (session ≡ of_rules false rules) × (name ≡ script)
+IsSession (Some (follow_files rules script)) session name = (session ≡ of_rules true rules) × (name ≡ script)
 IsSession (Some (check_file kind file)) session name = ⊥
 IsSession (Some (compile_file file)) session name = ⊥
 IsSession (Some (serve_script serving)) session name = (session ≡ of_words serving) × (name ≡ serving.script)

@@ -7,7 +7,7 @@ use Rattle.std.proofs.lemmas.Bool.Decides.{nat_tests}
 use Rattle.hide_spec.specs.Hidden.{is_page_host}
 use Rattle.rule_spec.specs.declared.rule_kind.RuleKind.{RuleKind}
 use Rattle.session_spec.specs.Out.{hosts_needed}
-use Rattle.session_spec.specs.Words.{Installed, folder, list, Task, check_file, Choice, Choices, workers_of, suffixes_in, install, is_file_name, is_number, kind_named, match_of, check_of, compile_of, hide_of, prune_of, Sample, make_sample, sample_of, list_at, is_extension_name, workers_named, choice_of, choices_of, with_choice, workers_chosen, suffixes_chosen, once, serving_with, serving_of}
+use Rattle.session_spec.specs.Words.{Installed, folder, list, Task, check_file, Choice, Choices, workers_of, suffixes_in, install, is_file_name, is_number, kind_named, match_of, follow_of, check_of, compile_of, hide_of, prune_of, Sample, make_sample, sample_of, list_at, is_extension_name, workers_named, choice_of, choices_of, with_choice, workers_chosen, suffixes_chosen, once, serving_with, serving_of}
 use Rattle.session_laws.specs.Laws.{NineHostsAreEnough}
 
 abbrev Few : Option Task → Type 0
@@ -22,6 +22,12 @@ few_of_rules [] = omega arith
 few_of_rules (rules ∷ []) = omega arith
 few_of_rules (rules ∷ script ∷ []) = either_few (is_file_name rules && is_file_name script) _ _ (omega arith) (omega arith)
 few_of_rules (rules ∷ script ∷ more ∷ words) = omega arith
+
+few_of_followed : (words : List (List ℕ)) → Few (follow_of words)
+few_of_followed [] = omega arith
+few_of_followed (rules ∷ []) = omega arith
+few_of_followed (rules ∷ script ∷ []) = either_few (is_file_name rules && is_file_name script) _ _ (omega arith) (omega arith)
+few_of_followed (rules ∷ script ∷ more ∷ words) = omega arith
 
 few_of_kind : (rules : List ℕ) (kind : Option RuleKind) → Few (option_map (λ kind. check_file kind rules) kind)
 few_of_kind rules None = omega arith
@@ -169,4 +175,5 @@ nine_are_enough (command ∷ words) =
     (either_few (bytes_eq command (codes "serve")) _ _ (few_served (choices_of words) (few_choices words))
     (either_few (bytes_eq command (codes "sample")) _ _ (few_of_sample (sample_of words))
     (either_few (bytes_eq command (codes "hide")) _ _ (few_of_page words)
-    (either_few (bytes_eq command (codes "prune")) _ _ (few_of_pruning words) (omega arith)))))))
+    (either_few (bytes_eq command (codes "prune")) _ _ (few_of_pruning words)
+    (either_few (bytes_eq command (codes "follow")) _ _ (few_of_followed words) (omega arith))))))))

@@ -3,13 +3,17 @@ use Rattle.std.proofs.Common.{◌≡◌, ◌⊎◌, ℕ, ◌+◌, ◌≤◌, Lis
 use Rattle.std.specs.Prelude.{◌==◌, fold, filter_map, if◌then◌else◌}
 use Rattle.std.proofs.lemmas.List.Elements.{filter_map-append}
 use Rattle.std.proofs.lemmas.List.Sums.{sum_by-append}
+use Rattle.dnr_base.specs.declared.request.Request.{Request}
+use Rattle.dnr_spec.specs.Suffixes.{SuffixRule}
 use Rattle.rule_spec.specs.State.{State}
 use Rattle.update_spec.specs.declared.refusal.Refusal.{Refusal}
 use Rattle.update_spec.specs.Update.{Update, changed}
 use Rattle.update_spec.specs.Entries.{Entry, one, batch as together, judge, after}
+use Rattle.line_spec.specs.declared.command_path.CommandPath.TheVariants.{Cmd}
 use Rattle.line_spec.specs.declared.line_fault.LineFault.{LineFault}
+use Rattle.line_spec.specs.declared.line_fault.LineFault.TheVariants.{BadCommand}
 use Rattle.line_spec.specs.Line.{Command, blank, sync, request, explain, update, batch, command_of}
-use Rattle.session_spec.specs.Answers.{Setting, known_with, said_refused, Applies, IsAnswered, Decides, Explains, Replies, Says}
+use Rattle.session_spec.specs.Answers.{Setting, known_with, said_refused, Applies, IsAnswered, Explains, AnswersBy, RepliesWhy, Replies, Says}
 use Rattle.session_spec.specs.Said.{Said, nothing, accepted, synced, bad, stopped, Answer, number_by, numbers_by, NeverFallFrom, NeverFall, count_failed, count_stopped, said_line, lines_text}
 use Rattle.session_laws.proofs.Turns.{only_one}
 
@@ -71,12 +75,17 @@ applied_numbered : (now : State) (entry : Entry) (judged : Option (ℕ × Refusa
 applied_numbered now entry None said next applies = no_number now said (accepted (after now entry).count) (λ seat. refl) applies.0
 applied_numbered now entry (Some at) said next applies = no_number now said (said_refused entry at) (λ seat. refusal_numbered seat entry at) applies.0
 
+why_numbered : (follows : Bool) (suffixes : List SuffixRule) (now : State) (seat : ℕ) (r : Request) (said : Said)
+    → RepliesWhy follows suffixes (now ∷ []) seat r said → IsNumbered now said
+why_numbered true suffixes now seat r said says = no_number now said (bad (BadCommand Cmd)) (λ s. refl) says
+why_numbered false suffixes now seat r said says = answer_numbered now seat (Explains suffixes r) said says
+
 reply_numbered : (setting : Setting) (now : State) (seat : ℕ) (read : Result Command LineFault) (said : Said) (next : State)
     → Replies setting (now ∷ []) now seat read said next → IsNumbered now said
 reply_numbered setting now seat (Ok blank) said next says = no_number now said nothing (λ s. refl) says.0
 reply_numbered setting now seat (Ok sync) said next says = no_number now said (synced now.count) (λ s. refl) says.0
-reply_numbered setting now seat (Ok (request r)) said next says = answer_numbered now seat (Decides setting.suffixes r) said says.0
-reply_numbered setting now seat (Ok (explain r)) said next says = answer_numbered now seat (Explains setting.suffixes r) said says.0
+reply_numbered setting now seat (Ok (request r)) said next says = answer_numbered now seat (AnswersBy setting.follows setting.suffixes r) said says.0
+reply_numbered setting now seat (Ok (explain r)) said next says = why_numbered setting.follows setting.suffixes now seat r said says.0
 reply_numbered setting now seat (Ok (update new)) said next says = applied_numbered now (one new) (judge now (one new)) said next says
 reply_numbered setting now seat (Ok (batch all)) said next says = applied_numbered now (together all) (judge now (together all)) said next says
 reply_numbered setting now seat (Err fault) said next says = no_number now said (bad fault) (λ s. refl) says.0

@@ -1,11 +1,13 @@
 -- Lines that are answered in turn are a round, whatever the number of seats.
-use Rattle.std.proofs.Common.{◌≡◌, ℕ, zero, suc, ◌+◌, ◌%◌, List, [], ◌∷◌, ◌++◌, length, Result, Ok, Err, refl, sym, ap, ◌∙◌, inl, inr, subst, arith}
+use Rattle.std.proofs.Common.{◌≡◌, ℕ, zero, suc, ◌+◌, ◌%◌, List, [], ◌∷◌, ◌++◌, length, Bool, true, false, Result, Ok, Err, refl, sym, ap, ◌∙◌, inl, inr, subst, arith}
 use Rattle.std.specs.Prelude.{All, Contains}
 use Rattle.std.proofs.lemmas.List.Elements.{All-contains_itself}
+use Rattle.dnr_base.specs.declared.request.Request.{Request}
+use Rattle.dnr_spec.specs.Suffixes.{SuffixRule}
 use Rattle.rule_spec.specs.State.{State}
 use Rattle.line_spec.specs.declared.line_fault.LineFault.{LineFault}
 use Rattle.line_spec.specs.Line.{Command, blank, sync, request, explain, update, batch, command_of}
-use Rattle.session_spec.specs.Answers.{Setting, known_with, Decides, Explains, IsAnswered, Replies, Says, LinesSay, RoundSays}
+use Rattle.session_spec.specs.Answers.{Setting, known_with, Explains, AnswersBy, RepliesWhy, IsAnswered, Replies, Says, LinesSay, RoundSays}
 use Rattle.session_spec.specs.Rounds.{Held, with_line, holds_nothing}
 use Rattle.session_spec.specs.Said.{Said, Answer}
 use Rattle.session_laws.specs.Turns.{TurnsSay}
@@ -28,12 +30,17 @@ wider_answer wide now seat Fits said among one = record {
   same = one.same;
 }
 
+wider_why : (follows : Bool) (suffixes : List SuffixRule) (wide : List State) (now : State) (seat : ℕ) (r : Request) (said : Said) → Contains wide now
+    → RepliesWhy follows suffixes (alone now) seat r said → RepliesWhy follows suffixes wide seat r said
+wider_why true suffixes wide now seat r said among says = says
+wider_why false suffixes wide now seat r said among says = wider_answer wide now seat (Explains suffixes r) said among says
+
 wider_reply : (setting : Setting) (wide : List State) (now : State) (seat : ℕ) (read : Result Command LineFault) (said : Said) (next : State) → Contains wide now
     → Replies setting (alone now) now seat read said next → Replies setting wide now seat read said next
 wider_reply setting wide now seat (Ok blank) said next among says = says
 wider_reply setting wide now seat (Ok sync) said next among says = says
-wider_reply setting wide now seat (Ok (request r)) said next among says = (wider_answer wide now seat (Decides setting.suffixes r) said among says.0, says.1)
-wider_reply setting wide now seat (Ok (explain r)) said next among says = (wider_answer wide now seat (Explains setting.suffixes r) said among says.0, says.1)
+wider_reply setting wide now seat (Ok (request r)) said next among says = (wider_answer wide now seat (AnswersBy setting.follows setting.suffixes r) said among says.0, says.1)
+wider_reply setting wide now seat (Ok (explain r)) said next among says = (wider_why setting.follows setting.suffixes wide now seat r said among says.0, says.1)
 wider_reply setting wide now seat (Ok (update new)) said next among says = says
 wider_reply setting wide now seat (Ok (batch all)) said next among says = says
 wider_reply setting wide now seat (Err fault) said next among says = says

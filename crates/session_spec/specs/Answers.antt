@@ -1,7 +1,7 @@
 -- What a session says to the lines of its script: a relation, in which a state is carried along. Updates are judged on
 -- the state that the earlier lines leave. Requests are answered by seats, which may work beside the updates of their
 -- round: each on some state that its round passes through.
-use Rattle.std.specs.Prelude.{◌≡◌, ◌⊎◌, ℕ, suc, ◌+◌, ◌-◌, ◌%◌, ◌^◌, ◌≤◌, min, List, [], ◌∷◌, ◌++◌, length, slice_get, Contains, Bool, true, false, Option, Some, None, Result, Ok, Err}
+use Rattle.std.specs.Prelude.{◌≡◌, ◌⊎◌, ℕ, suc, ◌+◌, ◌-◌, ◌%◌, ◌^◌, ◌≤◌, ◌<◌, min, List, [], ◌∷◌, ◌++◌, length, slice_get, Contains, Bool, true, false, Option, Some, None, Result, Ok, Err}
 use Rattle.dnr_base.specs.Faults.{Count}
 use Rattle.dnr_base.specs.declared.request.Request.{Request}
 use Rattle.dnr_spec.specs.Suffixes.{SuffixRule}
@@ -9,6 +9,7 @@ use Rattle.rule_spec.specs.PatternRule.{NamesPattern}
 use Rattle.rule_spec.specs.Scan.{scan}
 use Rattle.rule_spec.specs.State.{State}
 use Rattle.explain_spec.specs.Explanation.{explanation_of}
+use Rattle.follow_spec.specs.Trace.{trace}
 use Rattle.update_spec.specs.declared.refusal.Refusal.{Refusal}
 use Rattle.update_spec.specs.Entries.{Entry, one, batch as together, judge, after}
 use Rattle.line_spec.specs.declared.command_path.CommandPath.TheVariants.{Cmd}
@@ -17,14 +18,15 @@ use Rattle.line_spec.specs.declared.line_fault.LineFault.TheVariants.{BadCommand
 use Rattle.line_spec.specs.Line.{Command, blank, sync, request, explain, update, batch, command_of}
 use Rattle.line_spec.specs.Stops.{StopsInLine}
 use Rattle.session_spec.specs.Rounds.{asks}
-use Rattle.session_spec.specs.Said.{Answer, decided, explained, failed, Said, nothing, accepted, synced, refused, refused_in_batch, bad, stopped, answered, lines_text, numbers_by, NeverFall, count_failed, count_stopped}
+use Rattle.session_spec.specs.Said.{Answer, decided, explained, failed, traced, failed_at, Said, nothing, accepted, synced, refused, refused_in_batch, bad, stopped, answered, lines_text, numbers_by, NeverFall, count_failed, count_stopped}
 
--- What the answers of a session rest on beside its state: the suffix list, how many seats answer requests, and whether
--- it takes updates.
+-- What the answers of a session rest on beside its state: the suffix list, how many seats answer requests, whether it
+-- takes updates, and whether requests are followed.
 pub record Setting : Type 0 where
   pub suffixes : List SuffixRule
   pub workers : ℕ
   pub updates : Bool
+  pub follows : Bool
 
 -- ---- what a line asks for
 
@@ -60,12 +62,29 @@ abbrev pub Decides : List SuffixRule → Request → State → Answer → Type 0
 Decides suffixes r state (decided verdict) = verdict ≡ scan suffixes state r
 Decides suffixes r state (explained explanation) = ⊥
 Decides suffixes r state (failed rule) = NamesPattern state rule
+Decides suffixes r state (traced t) = ⊥
+Decides suffixes r state (failed_at hop rule) = ⊥
 
 -- the same where it is to be explained
 abbrev pub Explains : List SuffixRule → Request → State → Answer → Type 0
 Explains suffixes r state (decided verdict) = ⊥
 Explains suffixes r state (explained explanation) = explanation ≡ explanation_of suffixes state r
 Explains suffixes r state (failed rule) = NamesPattern state rule
+Explains suffixes r state (traced t) = ⊥
+Explains suffixes r state (failed_at hop rule) = ⊥
+
+-- the same where it is to be followed; the host may fail at a hop of its trace
+abbrev pub Follows : List SuffixRule → Request → State → Answer → Type 0
+Follows suffixes r state (decided verdict) = ⊥
+Follows suffixes r state (explained explanation) = ⊥
+Follows suffixes r state (failed rule) = ⊥
+Follows suffixes r state (traced t) = t ≡ trace suffixes state r
+Follows suffixes r state (failed_at hop rule) = NamesPattern state rule × (hop < length (trace suffixes state r).hops)
+
+-- what a request is answered, where requests are followed or not
+abbrev pub AnswersBy : Bool → List SuffixRule → Request → State → Answer → Type 0
+AnswersBy true = Follows
+AnswersBy false = Decides
 
 -- the seat answers on one of these states, and says how many updates were accepted before it
 pub record IsAnswered (states : List State) (seat : ℕ) (Fits : State → Answer → Type 0) (said : Said) : Type 0 where
@@ -75,6 +94,11 @@ pub record IsAnswered (states : List State) (seat : ℕ) (Fits : State → Answe
   pub fits : Fits state answer
   pub same : said ≡ answered seat state.count answer
 
+-- what a line says that asks for an explanation; where requests are followed nothing is explained
+abbrev pub RepliesWhy : Bool → List SuffixRule → List State → ℕ → Request → Said → Type 0
+RepliesWhy true suffixes states seat r said = said ≡ bad (BadCommand Cmd)
+RepliesWhy false suffixes states seat r said = IsAnswered states seat (Explains suffixes r) said
+
 -- ---- a line
 
 -- What a line says that asks for this, and the state after it. `now` is the state that the earlier lines leave, and
@@ -82,8 +106,8 @@ pub record IsAnswered (states : List State) (seat : ℕ) (Fits : State → Answe
 abbrev pub Replies : Setting → List State → State → ℕ → Result Command LineFault → Said → State → Type 0
 Replies setting states now seat (Ok blank) said next = (said ≡ nothing) × (next ≡ now)
 Replies setting states now seat (Ok sync) said next = (said ≡ synced now.count) × (next ≡ now)
-Replies setting states now seat (Ok (request r)) said next = IsAnswered states seat (Decides setting.suffixes r) said × (next ≡ now)
-Replies setting states now seat (Ok (explain r)) said next = IsAnswered states seat (Explains setting.suffixes r) said × (next ≡ now)
+Replies setting states now seat (Ok (request r)) said next = IsAnswered states seat (AnswersBy setting.follows setting.suffixes r) said × (next ≡ now)
+Replies setting states now seat (Ok (explain r)) said next = RepliesWhy setting.follows setting.suffixes states seat r said × (next ≡ now)
 Replies setting states now seat (Ok (update new)) said next = Applies now (one new) (judge now (one new)) said next
 Replies setting states now seat (Ok (batch all)) said next = Applies now (together all) (judge now (together all)) said next
 Replies setting states now seat (Err fault) said next = (said ≡ bad fault) × (next ≡ now)

@@ -33,10 +33,10 @@ replies setting state script = lines_text 1 (rounds_in_turn setting state 1 (rou
 
 -- the setting of `match`, and of a `serve` without a suffix list
 abbrev pub matching : Setting
-matching = record { suffixes = []; workers = 1; updates = false }
+matching = record { suffixes = []; workers = 1; updates = false; follows = false }
 
 abbrev pub serving : Setting
-serving = record { suffixes = []; workers = 1; updates = true }
+serving = record { suffixes = []; workers = 1; updates = true; follows = false }
 
 abbrev replies_in : Result State RefusedInstall → List ℕ → List ℕ
 replies_in (Ok state) script = replies matching state script

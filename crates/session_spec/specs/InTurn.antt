@@ -1,16 +1,21 @@
 -- A session that answers its lines one after another, each on the state that the earlier ones leave, where no host
 -- fails: one of the sessions that are allowed.
-use Rattle.std.specs.Prelude.{ℕ, ◌+◌, ◌%◌, List, [], ◌∷◌, Option, Some, None, Result, Ok, Err}
+use Rattle.std.specs.Prelude.{ℕ, ◌+◌, ◌%◌, List, [], ◌∷◌, Bool, true, false, Option, Some, None, Result, Ok, Err}
+use Rattle.dnr_base.specs.declared.request.Request.{Request}
+use Rattle.dnr_spec.specs.Suffixes.{SuffixRule}
 use Rattle.rule_spec.specs.Scan.{scan}
 use Rattle.rule_spec.specs.State.{State}
 use Rattle.explain_spec.specs.Explanation.{explanation_of}
+use Rattle.follow_spec.specs.Trace.{trace}
 use Rattle.update_spec.specs.declared.refusal.Refusal.{Refusal}
 use Rattle.update_spec.specs.Entries.{Entry, one, batch as together, judge, after}
+use Rattle.line_spec.specs.declared.command_path.CommandPath.TheVariants.{Cmd}
 use Rattle.line_spec.specs.declared.line_fault.LineFault.{LineFault}
+use Rattle.line_spec.specs.declared.line_fault.LineFault.TheVariants.{BadCommand}
 use Rattle.line_spec.specs.Line.{Command, blank, sync, request, explain, update, batch, command_of}
 use Rattle.session_spec.specs.Answers.{Setting, known_with, said_refused}
 use Rattle.session_spec.specs.Rounds.{asks}
-use Rattle.session_spec.specs.Said.{decided, explained, Said, nothing, accepted, synced, bad, answered}
+use Rattle.session_spec.specs.Said.{Answer, decided, explained, traced, Said, nothing, accepted, synced, bad, answered}
 
 abbrev pub said_by : State → Entry → Option (ℕ × Refusal) → Said
 said_by now entry None = accepted (after now entry).count
@@ -20,12 +25,22 @@ abbrev pub left_by : State → Entry → Option (ℕ × Refusal) → State
 left_by now entry None = after now entry
 left_by now entry (Some at) = now
 
+-- the answer to a request, where requests are followed or not
+abbrev pub answer_in_turn : Bool → List SuffixRule → State → Request → Answer
+answer_in_turn true suffixes now r = traced (trace suffixes now r)
+answer_in_turn false suffixes now r = decided (scan suffixes now r)
+
+-- what a line says that asks for an explanation
+abbrev pub why_in_turn : Bool → List SuffixRule → State → ℕ → Request → Said
+why_in_turn true suffixes now seat r = bad (BadCommand Cmd)
+why_in_turn false suffixes now seat r = answered seat now.count (explained (explanation_of suffixes now r))
+
 -- what a line says that asks for this
 abbrev pub reply_in_turn : Setting → State → ℕ → Result Command LineFault → Said
 reply_in_turn setting now seat (Ok blank) = nothing
 reply_in_turn setting now seat (Ok sync) = synced now.count
-reply_in_turn setting now seat (Ok (request r)) = answered seat now.count (decided (scan setting.suffixes now r))
-reply_in_turn setting now seat (Ok (explain r)) = answered seat now.count (explained (explanation_of setting.suffixes now r))
+reply_in_turn setting now seat (Ok (request r)) = answered seat now.count (answer_in_turn setting.follows setting.suffixes now r)
+reply_in_turn setting now seat (Ok (explain r)) = why_in_turn setting.follows setting.suffixes now seat r
 reply_in_turn setting now seat (Ok (update new)) = said_by now (one new) (judge now (one new))
 reply_in_turn setting now seat (Ok (batch all)) = said_by now (together all) (judge now (together all))
 reply_in_turn setting now seat (Err fault) = bad fault

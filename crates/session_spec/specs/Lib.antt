@@ -14,3 +14,4 @@ pub mod Pruning
 pub mod Out
 pub mod Examples
 pub mod ToolExamples
+pub mod FollowExamples

@@ -24,7 +24,7 @@ use Rattle.session_spec.specs.Loading.{PrintsRefusedRules, HoldsList, PrintsRefu
 use Rattle.session_spec.specs.Pruning.{IsPruned, RefusesPruning}
 use Rattle.session_spec.specs.Rounds.{rounds_of, whole_rounds_of, short_lines, ended_lines}
 use Rattle.session_spec.specs.Sample.{IsSampled}
-use Rattle.session_spec.specs.Words.{Serving, Task, match_files, check_file, compile_file, serve_script, make_sample, hide_page, prune_file, task_of}
+use Rattle.session_spec.specs.Words.{Serving, Task, match_files, follow_files, check_file, compile_file, serve_script, make_sample, hide_page, prune_file, task_of}
 
 -- What came from outside in a call: how often each thing had failed before it and after it, how often a file had been
 -- started that is read from first to last, and what that file has left. The first pattern host reads files and lines, and
@@ -94,27 +94,32 @@ local rules = record {
   access = None;
 }
 
--- `match` has no suffix list
+-- `match` and `follow` have no suffix list
 abbrev pub loaded_with : List Rule → Loaded
 loaded_with rules = record { suffixes = []; extensions = local rules ∷ [] }
 
--- A session answers a script. What is read before that is the rules file of `match`, or what the words of `serve` name.
+-- A session answers a script. What is read before that is the rules file of `match` or of `follow`, which follows requests,
+-- or what the words of `serve` name.
 pub data Session : Type 0 where
-  of_rules : List ℕ → Session
+  of_rules : Bool → List ℕ → Session
   of_words : Serving → Session
 
 -- all that is read before the script was read
 abbrev pub LoadsFor : Files → Session → Loaded → Type 0
-LoadsFor files (of_rules name) loaded = (rules : List Rule) × HoldsRules files Static name rules × (loaded ≡ loaded_with rules)
+LoadsFor files (of_rules follows name) loaded = (rules : List Rule) × HoldsRules files Static name rules × (loaded ≡ loaded_with rules)
 LoadsFor files (of_words serving) loaded = Loads files serving loaded
 
--- `match` has no other commands than requests
+-- `match` and `follow` have no other commands than requests
 abbrev pub takes_updates : Session → Bool
-takes_updates (of_rules name) = false
+takes_updates (of_rules follows name) = false
 takes_updates (of_words serving) = true
 
+abbrev pub follows_requests : Session → Bool
+follows_requests (of_rules follows name) = follows
+follows_requests (of_words serving) = false
+
 abbrev pub workers_of : Session → ℕ
-workers_of (of_rules name) = 1
+workers_of (of_rules follows name) = 1
 workers_of (of_words serving) = serving.workers
 
 abbrev pub setting_of : Session → List SuffixRule → Setting
@@ -122,6 +127,7 @@ setting_of session suffixes = record {
   suffixes = suffixes;
   workers = workers_of session;
   updates = takes_updates session;
+  follows = follows_requests session;
 }
 
 -- all was read and installed, and the session begins in this state
@@ -186,12 +192,12 @@ pub record IsNotInstalled (files : Files) (session : Session) (written : List �
 
 -- a file is refused that is read before the script
 abbrev pub RefusesFileOf : Files → Outside → Session → List ℕ → Type 0
-RefusesFileOf files outside (of_rules name) written = PrintsRefusedRules files (HostRose outside 0) Static name written
+RefusesFileOf files outside (of_rules follows name) written = PrintsRefusedRules files (HostRose outside 0) Static name written
 RefusesFileOf files outside (of_words serving) written = RefusesFile files (HostRose outside 0) serving written
 
 -- a file is too long that is read before the script
 abbrev pub HasLongFileOf : Files → Session → Type 0
-HasLongFileOf files (of_rules name) = HoldsLongFile files name
+HasLongFileOf files (of_rules follows name) = HoldsLongFile files name
 HasLongFileOf files (of_words serving) = HasLongFileIn files serving
 
 -- a file is refused that is read before the script, or an extension is not installed
@@ -230,7 +236,8 @@ in_rounds files outside session script = record {
 }
 
 abbrev pub conduct_of : Files → Outside → Task → Conduct
-conduct_of files outside (match_files rules script) = in_rounds files outside (of_rules rules) script
+conduct_of files outside (match_files rules script) = in_rounds files outside (of_rules false rules) script
+conduct_of files outside (follow_files rules script) = in_rounds files outside (of_rules true rules) script
 conduct_of files outside (check_file kind name) =
     at_once (IsCounted files kind name) (PrintsRefusedRules files (HostRose outside 0) kind name) (HoldsLongFile files name)
 conduct_of files outside (compile_file name) =
@@ -271,6 +278,7 @@ Out words files outside ended written = EndsFor files outside (task_of words) en
 -- one host reads files and lines, and each worker has one of its own
 abbrev pub hosts_of_task : Task → ℕ
 hosts_of_task (match_files rules script) = 2
+hosts_of_task (follow_files rules script) = 2
 hosts_of_task (check_file kind name) = 2
 hosts_of_task (compile_file name) = 2
 hosts_of_task (serve_script serving) = serving.workers + 1

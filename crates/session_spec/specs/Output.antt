@@ -16,6 +16,9 @@ use Rattle.rule_spec.specs.declared.outcome.Outcome.TheVariants as outcome
 use Rattle.rule_spec.specs.declared.placed_refusal.PlacedRefusal.{PlacedRefusal}
 use Rattle.rule_spec.specs.Scan.{NamedOp, Verdict}
 use Rattle.explain_spec.specs.Explanation.{WhyRule, Why, Explanation}
+use Rattle.follow_spec.specs.declared.end.End.{End}
+use Rattle.follow_spec.specs.declared.end.End.TheVariants.{Settled, Unreadable, Repeated, Bound}
+use Rattle.follow_spec.specs.Trace.{Hop, Trace}
 use Rattle.update_spec.specs.declared.refusal.Refusal.{Refusal}
 use Rattle.line_spec.specs.declared.command_path.CommandPath.{CommandPath}
 use Rattle.line_spec.specs.declared.line_fault.LineFault.{LineFault}
@@ -159,6 +162,35 @@ abbrev pub explain_line : ℕ → ℕ → Explanation → List ℕ
 explain_line line generation explanation =
     answer_start line generation ++ (verdict_fields explanation.verdict
     ++ (codes ",\"why\":" ++ (list_text (map why_text explanation.why) ++ codes "}\n")))
+
+-- ---- traces
+
+abbrev pub end_name : End → List ℕ
+end_name Settled = codes "settled"
+end_name Unreadable = codes "unreadable"
+end_name Repeated = codes "repeated"
+end_name Bound = codes "bound"
+
+-- what becomes of one hop, by which rule
+abbrev pub hop_text : Hop → List ℕ
+hop_text hop = codes "{\"url\":" ++ (quoted hop.url ++ (outcome_field hop.verdict.outcome ++ (rule_field hop.verdict.rule ++ codes "}")))
+
+-- how the answer to a line begins that is followed
+abbrev pub trace_start : ℕ → List ℕ
+trace_start line = codes "{\"line\":" ++ (decimal line ++ codes ",\"hops\":")
+
+abbrev pub end_field : End → List ℕ
+end_field end = codes ",\"end\":\"" ++ (end_name end ++ codes "\"}\n")
+
+-- what a request line of this number prints that is followed
+abbrev pub trace_line : ℕ → Trace → List ℕ
+trace_line line trace = trace_start line ++ (list_text (map hop_text trace.hops) ++ end_field trace.end)
+
+-- what it prints where a pattern host failed at this rule, at the hop of this place
+abbrev pub hop_fault_line : ℕ → ℕ → RuleName → List ℕ
+hop_fault_line line hop rule =
+    codes "{\"line\":" ++ (decimal line ++ (codes ",\"fault\":\"pattern-host\",\"hop\":" ++ (decimal hop
+    ++ (codes ",\"rule\":" ++ (rule_text rule ++ codes "}\n")))))
 
 -- ---- updates
 

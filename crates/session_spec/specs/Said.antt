@@ -3,15 +3,19 @@ use Rattle.std.specs.Prelude.{ℕ, ◌+◌, ◌≤◌, List, [], ◌∷◌, ◌+
 use Rattle.dnr_base.specs.declared.rule_name.RuleName.{RuleName}
 use Rattle.rule_spec.specs.Scan.{Verdict}
 use Rattle.explain_spec.specs.Explanation.{Explanation}
+use Rattle.follow_spec.specs.Trace.{Trace}
 use Rattle.update_spec.specs.declared.refusal.Refusal.{Refusal}
 use Rattle.line_spec.specs.declared.line_fault.LineFault.{LineFault}
-use Rattle.session_spec.specs.Output.{verdict_line, explain_line, fault_line, accepted_line, sync_line, refused_line, refused_batch_line, bad_line}
+use Rattle.session_spec.specs.Output.{verdict_line, explain_line, trace_line, fault_line, hop_fault_line, accepted_line, sync_line, refused_line, refused_batch_line, bad_line}
 
--- the answer to a request: its verdict, why it has that, or that the pattern host failed at this rule
+-- The answer to a request: its verdict, why it has that, or that the pattern host failed at this rule; where it leads, or
+-- that the host failed at this rule on the way, at this hop.
 pub data Answer : Type 0 where
   decided : Verdict → Answer
   explained : Explanation → Answer
   failed : RuleName → Answer
+  traced : Trace → Answer
+  failed_at : ℕ → RuleName → Answer
 
 -- What a line says. A blank one says nothing. An update is accepted with the count after it, or refused, in a batch with
 -- the place of the update that is at fault; a `sync` says the count. A line that can't be read is a bad one, and says so in
@@ -32,6 +36,8 @@ abbrev pub answer_line : ℕ → ℕ → Answer → List ℕ
 answer_line line number (decided verdict) = verdict_line line number verdict
 answer_line line number (explained explanation) = explain_line line number explanation
 answer_line line number (failed rule) = fault_line line number rule
+answer_line line number (traced trace) = trace_line line trace
+answer_line line number (failed_at hop rule) = hop_fault_line line hop rule
 
 -- what the line of this number prints
 abbrev pub said_line : ℕ → Said → List ℕ
@@ -78,6 +84,8 @@ abbrev pub is_failed : Answer → Bool
 is_failed (decided verdict) = false
 is_failed (explained explanation) = false
 is_failed (failed rule) = true
+is_failed (traced trace) = false
+is_failed (failed_at hop rule) = true
 
 -- this seat's host failed
 abbrev pub fails_at : ℕ → Said → Bool

@@ -27,11 +27,12 @@ pub record Sample : Type 0 where
   pub requests : ℕ
   pub updates : ℕ
 
--- `match RULES REQUESTS`, `check KIND RULES`, `compile LIST`,
+-- `match RULES REQUESTS`, `follow RULES REQUESTS`, `check KIND RULES`, `compile LIST`,
 -- `serve [--workers N] [--psl F] [--ext NAME].. [--list NAME=F].. SCRIPT`, `sample SEED RULES REQUESTS UPDATES`,
 -- `hide LIST HOST`, and `prune RULES`
 pub data Task : Type 0 where
   match_files : List ℕ → List ℕ → Task
+  follow_files : List ℕ → List ℕ → Task
   check_file : RuleKind → List ℕ → Task
   compile_file : List ℕ → Task
   serve_script : Serving → Task
@@ -63,7 +64,7 @@ is_number word = nat_lt 0 (length word) && list_all is_digit word && (length wor
 abbrev pub number_up_to : ℕ → List ℕ → Option ℕ
 number_up_to most word = if is_number word && nat_le (digits_value 10 word) most then Some (digits_value 10 word) else None
 
--- ---- `match`, `check` and `compile`
+-- ---- `match`, `follow`, `check` and `compile`
 
 abbrev pub kind_named : List ℕ → Option RuleKind
 kind_named word =
@@ -74,6 +75,10 @@ kind_named word =
 abbrev pub match_of : List (List ℕ) → Option Task
 match_of (rules ∷ script ∷ []) = if is_file_name rules && is_file_name script then Some (match_files rules script) else None
 match_of _ = None
+
+abbrev pub follow_of : List (List ℕ) → Option Task
+follow_of (rules ∷ script ∷ []) = if is_file_name rules && is_file_name script then Some (follow_files rules script) else None
+follow_of _ = None
 
 abbrev pub check_of : List (List ℕ) → Option Task
 check_of (kind ∷ rules ∷ []) = if is_file_name rules then option_map (λ kind. check_file kind rules) (kind_named kind) else None
@@ -203,7 +208,8 @@ command_of command words =
     else (if bytes_eq command (codes "serve") then serve_of words
     else (if bytes_eq command (codes "sample") then make_sample_of words
     else (if bytes_eq command (codes "hide") then hide_of words
-    else (if bytes_eq command (codes "prune") then prune_of words else None))))))
+    else (if bytes_eq command (codes "prune") then prune_of words
+    else (if bytes_eq command (codes "follow") then follow_of words else None)))))))
 
 abbrev pub task_of : List (List ℕ) → Option Task
 task_of [] = None

@@ -3,6 +3,7 @@
 #![tactic(auto)]
 
 mod examples;
+mod follow_examples;
 mod line_examples;
 mod reply;
 mod sample_examples;
@@ -19,6 +20,9 @@ pub use examples::{
     rules_are_counted, second_of_equal_ids_is_at_fault, serve_is_strict, serve_takes_options,
     smaller_id_prevails, sync_ends_a_round, two_files_are_served, unsupported_lines_say_why,
     updates_are_judged_in_turn, usage_is_for_bad_words,
+};
+pub use follow_examples::{
+    follow_explains_nothing, follow_takes_two_file_names, hops_of_faults_are_named, traces_are_listed,
 };
 pub use line_examples::{
     bad_lines_say_why, counts_are_said, explanations_are_listed, faults_name_their_rule,
