@@ -10,7 +10,7 @@ use Rattle.dnr_words.specs.declared.options.Choice.TheVariants.{Workers, Suffixe
 use Rattle.dnr_words.specs.declared.serving.Once.{Once}
 use Rattle.dnr_words.specs.declared.serving.Chosen.{Chosen}
 use Rattle.dnr_words.specs.declared.task.Task.{Task}
-use Rattle.dnr_words.specs.declared.task.Task.TheVariants.{Match, Check, Compile, Serve, Sample, Hide, Prune}
+use Rattle.dnr_words.specs.declared.task.Task.TheVariants.{Match, Follow, Check, Compile, Serve, Sample, Hide, Prune}
 
 abbrev pub installed_seen : Installed → spec.Installed
 installed_seen (what.Folder name) = spec.folder name.now
@@ -29,6 +29,7 @@ chosen_seen c = record { workers = c.once.workers; suffixes = option_copied c.on
 
 abbrev pub task_seen : Task → spec.Task
 task_seen (Match rules script) = spec.match_files rules.now script.now
+task_seen (Follow rules script) = spec.follow_files rules.now script.now
 task_seen (Check kind rules) = spec.check_file kind rules.now
 task_seen (Compile list) = spec.compile_file list.now
 task_seen (Serve serving) = spec.serve_script serving

@@ -13,6 +13,8 @@ use rule_spec::RuleKind;
 pub enum Task<'a> {
     /// `match RULES REQUESTS`: the file of the rules, and that of the request lines.
     Match(&'a str, &'a str),
+    /// `follow RULES REQUESTS`: the same files.
+    Follow(&'a str, &'a str),
     /// `check KIND RULES`: where the rules come from, and their file.
     Check(RuleKind, &'a str),
     /// `compile LIST`: the file of the filter list.
@@ -40,6 +42,7 @@ pub fn read_words(words: &[String]) -> Option<Task<'_>>
         "sample" => sample_in(words),
         "hide" => hide_in(words),
         "prune" => prune_in(words),
+        "follow" => follow_in(words),
         _ => None,
     }
 }
@@ -53,6 +56,20 @@ fn match_in(words: &[String]) -> Option<Task<'_>>
     let (rules, script) = (rules.as_str(), script.as_str());
     if is_file_name(rules) && is_file_name(script) {
         Some(Task::Match(rules, script))
+    } else {
+        None
+    }
+}
+
+fn follow_in(words: &[String]) -> Option<Task<'_>>
+    ensures { option_map task_seen result ≡ spec.follow_of (map string_bytes words.now) }
+{
+    let [rules, script] = words else {
+        return None;
+    };
+    let (rules, script) = (rules.as_str(), script.as_str());
+    if is_file_name(rules) && is_file_name(script) {
+        Some(Task::Follow(rules, script))
     } else {
         None
     }

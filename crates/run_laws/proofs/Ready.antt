@@ -1,5 +1,5 @@
 -- What is read is not refused, and is the same whenever it is read.
-use Rattle.std.proofs.Common.{◌≡◌, ◌⊎◌, ℕ, ◌≤◌, List, [], ◌∷◌, length, Option, Some, None, refl, sym, ap, ◌∙◌, inl, inr, subst, arith}
+use Rattle.std.proofs.Common.{◌≡◌, ◌⊎◌, ℕ, ◌≤◌, List, [], ◌∷◌, length, true, false, Option, Some, None, refl, sym, ap, ◌∙◌, inl, inr, subst, arith}
 use Rattle.std.specs.List.{AllZip}
 use Rattle.dnr_base.specs.Faults.{Rose}
 use Rattle.dnr_spec.specs.Suffixes.{SuffixRule}

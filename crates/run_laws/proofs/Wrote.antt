@@ -1,5 +1,5 @@
 -- What a session wrote, by its status.
-use Rattle.std.proofs.Common.{◌⊎◌, ℕ, List, Option, Some, None, inl, inr}
+use Rattle.std.proofs.Common.{◌⊎◌, ℕ, List, true, false, Option, Some, None, inl, inr}
 use Rattle.dnr_spec.specs.declared.status.Status.{Status}
 use Rattle.dnr_spec.specs.declared.status.Status.TheVariants as status
 use Rattle.load_spec.specs.Files.{Files}
