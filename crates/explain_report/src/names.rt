@@ -4,6 +4,7 @@ ghost use Rattle.session_spec.specs.Output as spec;
 
 use dnr_base::{Direction, Operation, Verb};
 use dnr_spec::ViewRefusal;
+use follow_spec::End;
 use rule_spec::Outcome;
 
 pub(crate) fn outcome_name(outcome: Outcome) -> &'static str
@@ -15,6 +16,17 @@ pub(crate) fn outcome_name(outcome: Outcome) -> &'static str
         Outcome::Redirect => "redirect",
         Outcome::Upgrade => "upgrade",
         Outcome::Allow => "allow",
+    }
+}
+
+pub(crate) fn end_name(end: End) -> &'static str
+    ensures { result.now ≡ spec.end_name end }
+{
+    match end {
+        End::Settled => "settled",
+        End::Unreadable => "unreadable",
+        End::Repeated => "repeated",
+        End::Bound => "bound",
     }
 }
 

@@ -89,7 +89,7 @@ pub(crate) fn push_verdict(
     push_headers(alloc, "responseHeaders", &verdict.response_headers, into)
 }
 
-fn push_outcome(outcome: Outcome, into: &mut String) -> Result<(), NoMemory>
+pub(crate) fn push_outcome(outcome: Outcome, into: &mut String) -> Result<(), NoMemory>
     ensures { OnOk result (string_bytes into.new ≡ string_bytes into.old ++ spec.outcome_field outcome) }
 {
     push_word(",\"verdict\":\"", into)?;
@@ -98,7 +98,7 @@ fn push_outcome(outcome: Outcome, into: &mut String) -> Result<(), NoMemory>
 }
 
 // Appends the rule that decides, if there is one.
-fn push_rule_field(
+pub(crate) fn push_rule_field(
     alloc: Global,
     rule: &Option<RuleName>,
     into: &mut String,
