@@ -369,8 +369,9 @@ pub stop_said : (known left before now : Option (List ℕ)) (hosts : List Count)
 stop_said known left before now hosts setting first (Ok done) P is each = absurd is
 stop_said known left before now hosts setting first (Err e) P is each = each e is
 
-pub same_setting : (a b : Position) (m n : ℕ) → a.suffixes ≡ b.suffixes → a.updates ≡ b.updates → m ≡ n → setting_with a m ≡ setting_with b n
-same_setting a b m n suffixes updates seats =
-    ap (λ s. record { suffixes = s; workers = m; updates = a.updates }) suffixes
-    ∙ ap (λ (k : ℕ). record { suffixes = b.suffixes; workers = k; updates = a.updates }) seats
-    ∙ ap (λ (u : Bool). record { suffixes = b.suffixes; workers = n; updates = u }) updates
+pub same_setting : (a b : Position) (m n : ℕ) → a.suffixes ≡ b.suffixes → a.updates ≡ b.updates → a.follows ≡ b.follows → m ≡ n → setting_with a m ≡ setting_with b n
+same_setting a b m n suffixes updates follows seats =
+    ap (λ s. record { suffixes = s; workers = m; updates = a.updates; follows = a.follows }) suffixes
+    ∙ ap (λ (k : ℕ). record { suffixes = b.suffixes; workers = k; updates = a.updates; follows = a.follows }) seats
+    ∙ ap (λ (u : Bool). record { suffixes = b.suffixes; workers = n; updates = u; follows = a.follows }) updates
+    ∙ ap (λ (f : Bool). record { suffixes = b.suffixes; workers = n; updates = b.updates; follows = f }) follows

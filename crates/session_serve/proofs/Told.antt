@@ -9,6 +9,7 @@ use Rattle.dnr_base.specs.declared.request.Request.{Request}
 use Rattle.dnr_base.specs.declared.rule_name.RuleName.{RuleName}
 use Rattle.dnr_spec.specs.Suffixes.{SuffixRule}
 use Rattle.explain_spec.specs.Explanation.{Explanation, explanation_of}
+use Rattle.follow_spec.specs.Trace.{Trace, trace}
 use Rattle.rule_spec.specs.PatternRule.{NamesPattern}
 use Rattle.rule_spec.specs.Scan.{Verdict, scan}
 use Rattle.rule_spec.specs.State.{State}
@@ -29,10 +30,10 @@ use Rattle.line_spec.specs.declared.line_fault.LineFault.TheVariants.{BadJson, B
 use Rattle.line_spec.specs.IsFault.{MayStopBy, MayRefuse, IsFaultOfLine, IsCalm, IsCalmBy}
 use Rattle.line_spec.specs.Line.{Command, blank, sync, request, explain, update as of_update, batch, command_of}
 use Rattle.line_spec.specs.Stops.{StopsInLine}
-use Rattle.session_spec.specs.Answers.{Setting, without_updates, known_with, Decides, Explains, IsAnswered, Replies, Stops, Says, RisesBy}
-use Rattle.session_spec.specs.Output.{verdict_line, explain_line, fault_line, accepted_line, sync_line, refused_line, refused_batch_line, bad_line}
+use Rattle.session_spec.specs.Answers.{Setting, without_updates, known_with, Decides, Explains, Follows, AnswersBy, RepliesWhy, IsAnswered, Replies, Stops, Says, RisesBy}
+use Rattle.session_spec.specs.Output.{verdict_line, explain_line, trace_line, fault_line, hop_fault_line, accepted_line, sync_line, refused_line, refused_batch_line, bad_line}
 use Rattle.session_spec.specs.Rounds.{is_sync, asks}
-use Rattle.session_spec.specs.Said.{Answer, decided, explained, failed, Said, nothing, accepted, synced, refused, refused_in_batch, bad, stopped, answered, answer_line, said_line, is_failed, fails_at, count_failed, count_stopped}
+use Rattle.session_spec.specs.Said.{Answer, decided, explained, failed, traced, failed_at, Said, nothing, accepted, synced, refused, refused_in_batch, bad, stopped, answered, answer_line, said_line, is_failed, fails_at, count_failed, count_stopped}
 use Rattle.session_laws.specs.Turns.{LineTold, RiseBy, FaultsRise, NoneFell, times_of}
 use Rattle.ruleset_store.specs.Seen.{IsRefusalOf, IsRefusalAt}
 use Rattle.session_serve.specs.Told.{times_in, AnswerTold, CommandTold, ReplyTold, IsNamed}
@@ -62,6 +63,28 @@ explanation_told (Ok x) suffixes state r number count explanation before now was
   fits = explains;
   appended = grown ∙ ap (λ (n : ℕ). before ++ explain_line number n explanation) counted;
   rises = none_risen was is calm;
+}
+
+pub trace_told : {T E : Type 0} (result : Result T E) (suffixes : List SuffixRule) (state : State) (r : Request) (number : ℕ) (way : Trace) (before now : List ℕ) (was is : ℕ)
+    → way ≡ trace suffixes state r → is ≡ was → OnOk result (now ≡ before ++ trace_line number way)
+    → OnOk result (AnswerTold (Follows suffixes r) state number before now was is)
+trace_told (Err e) suffixes state r number way before now was is leads calm grown = tt
+trace_told (Ok x) suffixes state r number way before now was is leads calm grown = record {
+  answer = traced way;
+  fits = leads;
+  appended = grown;
+  rises = none_risen was is calm;
+}
+
+pub hop_fault_told : {T E : Type 0} (result : Result T E) (suffixes : List SuffixRule) (state : State) (r : Request) (number hop : ℕ) (name : RuleName) (before now : List ℕ) (was is : ℕ)
+    → NamesPattern state name → hop < length (trace suffixes state r).hops → Rose was is → OnOk result (now ≡ before ++ hop_fault_line number hop name)
+    → OnOk result (AnswerTold (Follows suffixes r) state number before now was is)
+hop_fault_told (Err e) suffixes state r number hop name before now was is names inside rose grown = tt
+hop_fault_told (Ok x) suffixes state r number hop name before now was is names inside rose grown = record {
+  answer = failed_at hop name;
+  fits = (names, inside);
+  appended = grown;
+  rises = rose;
 }
 
 pub fault_told : {T E : Type 0} (result : Result T E) (Fits : State → Answer → Type 0) (state : State) (number count : ℕ) (name : RuleName) (before now : List ℕ) (was is : ℕ)
@@ -133,24 +156,48 @@ answer_is : (state : State) (seat : ℕ) (Fits : State → Answer → Type 0) (a
 answer_is state seat Fits answer fits = record { state = state; answer = answer; passed = (0, omega arith, refl); fits = fits; same = refl }
 
 pub request_told : {T E : Type 0} (result : Result T E) (setting : Setting) (state : State) (number seat : ℕ) (r : Request) (before now : List ℕ) (hosts later : List ℕ) (is : ℕ)
-    → seat < length hosts → later ≡ set hosts seat is → OnOk result (AnswerTold (Decides setting.suffixes r) state number before now (get_or hosts seat 0) is)
+    → seat < length hosts → later ≡ set hosts seat is
+    → OnOk result (AnswerTold (AnswersBy setting.follows setting.suffixes r) state number before now (get_or hosts seat 0) is)
     → OnOk result (CommandTold setting state number seat (known_with setting.updates (Ok (request r))) before now state hosts later)
 request_told (Err e) setting state number seat r before now hosts later is inside place answer = tt
 request_told (Ok x) setting state number seat r before now hosts later is inside place answer = rw (place, known_request setting.updates r) (record {
   told = answered seat state.count answer.answer;
-  says = (answer_is state seat (Decides setting.suffixes r) answer.answer answer.fits, refl);
+  says = (answer_is state seat (AnswersBy setting.follows setting.suffixes r) answer.answer answer.fits, refl);
   appended = answer.appended;
-  rises = seat_told setting state number seat (Decides setting.suffixes r) before now hosts is inside answer;
+  rises = seat_told setting state number seat (AnswersBy setting.follows setting.suffixes r) before now hosts is inside answer;
+  calm = refl;
+})
+
+why_is : (follows : Bool) (suffixes : List SuffixRule) (state : State) (seat : ℕ) (r : Request) (answer : Answer) → follows ≡ false → Explains suffixes r state answer
+    → RepliesWhy follows suffixes (state ∷ []) seat r (answered seat state.count answer)
+why_is true suffixes state seat r answer is fits = absurd (cc is)
+why_is false suffixes state seat r answer is fits = answer_is state seat (Explains suffixes r) answer fits
+
+no_why : (follows : Bool) (suffixes : List SuffixRule) (state : State) (seat : ℕ) (r : Request) → follows ≡ true → RepliesWhy follows suffixes (state ∷ []) seat r (bad (BadCommand Cmd))
+no_why true suffixes state seat r is = refl
+no_why false suffixes state seat r is = absurd (cc is)
+
+-- where requests are followed nothing is explained
+pub unexplained_told : {T E : Type 0} (result : Result T E) (setting : Setting) (state : State) (number seat : ℕ) (r : Request) (before now : List ℕ) (hosts : List ℕ)
+    → setting.follows ≡ true → OnOk result (now ≡ before ++ bad_line number (BadCommand Cmd))
+    → OnOk result (CommandTold setting state number seat (known_with setting.updates (Ok (explain r))) before now state hosts hosts)
+unexplained_told (Err e) setting state number seat r before now hosts follows grown = tt
+unexplained_told (Ok x) setting state number seat r before now hosts follows grown = rw (known_explain setting.updates r) (record {
+  told = bad (BadCommand Cmd);
+  says = (no_why setting.follows setting.suffixes state seat r follows, refl);
+  appended = grown;
+  rises = nothing_rises (λ place. count_failed place (bad (BadCommand Cmd) ∷ [])) hosts (λ place. refl);
   calm = refl;
 })
 
 pub explain_told : {T E : Type 0} (result : Result T E) (setting : Setting) (state : State) (number seat : ℕ) (r : Request) (before now : List ℕ) (hosts later : List ℕ) (is : ℕ)
     → seat < length hosts → later ≡ set hosts seat is → OnOk result (AnswerTold (Explains setting.suffixes r) state number before now (get_or hosts seat 0) is)
+    → setting.follows ≡ false
     → OnOk result (CommandTold setting state number seat (known_with setting.updates (Ok (explain r))) before now state hosts later)
-explain_told (Err e) setting state number seat r before now hosts later is inside place answer = tt
-explain_told (Ok x) setting state number seat r before now hosts later is inside place answer = rw (place, known_explain setting.updates r) (record {
+explain_told (Err e) setting state number seat r before now hosts later is inside place answer follows = tt
+explain_told (Ok x) setting state number seat r before now hosts later is inside place answer follows = rw (place, known_explain setting.updates r) (record {
   told = answered seat state.count answer.answer;
-  says = (answer_is state seat (Explains setting.suffixes r) answer.answer answer.fits, refl);
+  says = (why_is setting.follows setting.suffixes state seat r answer.answer follows answer.fits, refl);
   appended = answer.appended;
   rises = seat_told setting state number seat (Explains setting.suffixes r) before now hosts is inside answer;
   calm = refl;

@@ -50,7 +50,12 @@ Closes false before now text held kept = (now ≡ before) × (kept ≡ record { 
 Closes true before now text held kept = Appends before now text × (kept ≡ nothing_kept)
 
 abbrev pub setting_with : Position → ℕ → Setting
-setting_with position workers = record { suffixes = position.suffixes; workers = workers; updates = position.updates }
+setting_with position workers = record {
+  suffixes = position.suffixes;
+  workers = workers;
+  updates = position.updates;
+  follows = position.follows;
+}
 
 -- the line was answered, and its round goes on or was written
 pub record LineServed (setting : Setting) (state next : State) (faults later : List ℕ) (number : ℕ) (line : List ℕ) (before now : Option (List ℕ)) (kept left : Kept) : Type 0 where

@@ -13,7 +13,8 @@ ghost use Rattle.session_laws.specs.Turns.{LineTold, FaultsRise, NoneFell};
 ghost use Rattle.session_serve.specs.Round.{IsKindOf, setting_with};
 ghost use Rattle.session_serve.specs.Told.{CommandTold, ReplyTold, IsNamed};
 
-use crate::deciding::{decide, explain};
+use crate::deciding::explain;
+use crate::following::answer_request;
 use crate::line_kind::LineKind;
 use dnr_base::{Items, NoMemory, Request};
 use explain_report::{Reply, write_reply};
@@ -23,11 +24,12 @@ use script_read::{Command, CommandPath, LineFault, Memo, read_line_with};
 use std::alloc::Global;
 use std::marker::Model;
 
-/// A session between two lines: what is in force, and whether it takes updates.
+/// A session between two lines: what is in force, whether it takes updates, and whether requests are followed.
 #[derive(Drop)]
 pub struct Session {
     generation: Generation,
     updates: bool,
+    follows: bool,
     memo: Memo,
 }
 
@@ -36,17 +38,29 @@ impl Model for Session {
 
     ghost Value = { Position };
 
-    ghost view = { λ s. record { suffixes = s.generation.suffixes; state = s.generation.state; updates = s.updates } };
+    ghost view = { λ s. record {
+      suffixes = s.generation.suffixes;
+      state = s.generation.state;
+      updates = s.updates;
+      follows = s.follows;
+    } };
 }
 
 impl Session {
-    /// A session that begins with what is in force. Without updates it knows requests alone.
-    pub fn new(alloc: Global, generation: Generation, updates: bool) -> Session
-        ensures { result ≡ record { suffixes = generation.suffixes; state = generation.state; updates = updates } }
+    /// A session that begins with what is in force. Without updates it knows requests alone. Where it follows, the answer
+    /// to a request is where it leads, and nothing is explained.
+    pub fn new(alloc: Global, generation: Generation, updates: bool, follows: bool) -> Session
+        ensures { result ≡ record {
+            suffixes = generation.suffixes;
+            state = generation.state;
+            updates = updates;
+            follows = follows;
+        } }
     {
         Session {
             generation,
             updates,
+            follows,
             memo: Memo::new(alloc),
         }
     }
@@ -71,6 +85,7 @@ impl Session {
         ensures kind { IfOk result (IsKindOf (spec.command_of number line.now)) }
         ensures suffixes { self.new.suffixes ≡ self.old.suffixes }
         ensures updates { self.new.updates ≡ self.old.updates }
+        ensures follows { self.new.follows ≡ self.old.follows }
         ensures seats { length finders.new ≡ length finders.old }
         ensures later { NoneFell (H.faults checker.old ∷ map H.faults finders.old) (H.faults checker.new ∷ map H.faults finders.new) }
     {
@@ -104,6 +119,7 @@ impl Session {
             (string_bytes into.old) (string_bytes into.new) self.new.state (map H.faults finders.old) (map H.faults finders.new)) }
         ensures suffixes { self.new.suffixes ≡ self.old.suffixes }
         ensures updates { self.new.updates ≡ self.old.updates }
+        ensures follows { self.new.follows ≡ self.old.follows }
         ensures seats { length finders.new ≡ length finders.old }
         ensures later { NoneFell (map H.faults finders.old) (map H.faults finders.new) }
     {
@@ -117,7 +133,7 @@ impl Session {
         }
     }
 
-    // Answers a request by the seat whose turn it is.
+    // Answers a request by the seat whose turn it is: what becomes of it, or where it leads.
     fn decide<H: RegexHost>(
         &self,
         alloc: Global,
@@ -136,9 +152,10 @@ impl Session {
         ensures later { NoneFell (map H.faults finders.old) (map H.faults finders.new) }
     {
         let seat = asked as usize % finders.len();
-        decide(
+        answer_request(
             alloc,
             &self.generation,
+            self.follows,
             number,
             request,
             &mut finders[seat],
@@ -163,6 +180,9 @@ impl Session {
         ensures seats { length finders.new ≡ length finders.old }
         ensures later { NoneFell (map H.faults finders.old) (map H.faults finders.new) }
     {
+        if self.follows {
+            return refuse_command(alloc, number, into);
+        }
         let seat = asked as usize % finders.len();
         explain(
             alloc,
@@ -199,6 +219,7 @@ impl Session {
             (string_bytes into.old) (string_bytes into.new) self.new.state) }
         ensures suffixes { self.new.suffixes ≡ self.old.suffixes }
         ensures updates { self.new.updates ≡ self.old.updates }
+        ensures follows { self.new.follows ≡ self.old.follows }
     {
         if !self.updates {
             return refuse_command(alloc, number, into);
@@ -224,6 +245,7 @@ impl Session {
             (string_bytes into.old) (string_bytes into.new) self.new.state) }
         ensures suffixes { self.new.suffixes ≡ self.old.suffixes }
         ensures updates { self.new.updates ≡ self.old.updates }
+        ensures follows { self.new.follows ≡ self.old.follows }
     {
         if !self.updates {
             return refuse_command(alloc, number, into);
@@ -243,7 +265,12 @@ impl Session {
         into: &mut String,
     ) -> Result<(), NoMemory>
         ensures appended { OnOk result (string_bytes into.new ≡ string_bytes into.old ++ accepted_line number next.state.count) }
-        ensures next { self.new ≡ record { suffixes = next.suffixes; state = next.state; updates = self.old.updates } }
+        ensures next { self.new ≡ record {
+            suffixes = next.suffixes;
+            state = next.state;
+            updates = self.old.updates;
+            follows = self.old.follows;
+        } }
     {
         let count = next.number();
         self.generation = next;
@@ -251,7 +278,7 @@ impl Session {
     }
 }
 
-// A session without updates knows no such command.
+// A session without updates, or one that follows requests, knows no such command.
 fn refuse_command(alloc: Global, number: u32, into: &mut String) -> Result<(), NoMemory>
     ensures { OnOk result (string_bytes into.new ≡ string_bytes into.old ++ bad_line number (BadCommand Cmd)) }
 {

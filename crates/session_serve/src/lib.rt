@@ -5,6 +5,7 @@
 
 mod answers;
 mod deciding;
+mod following;
 mod line_kind;
 mod round;
 mod serving;

@@ -20,6 +20,7 @@ loop-round-init g c = record {
       c.in_ok-lines.ensures c.new-round.ensures;
   suffixes = refl;
   updates = refl;
+  follows = refl;
   seats = refl;
   here = search rules;
   few = search rules;
@@ -47,7 +48,7 @@ loop-round-preserved g c =
     let next = c.in_ok-next.ensures in
     let one = c.in_ok-serve_line.ensures in
     let counted = next.counted c.if-branch.true in
-    let setting = same_setting c.loop-round.session c.args.session (length c.loop-round.finders) (length c.args.finders.now) was.suffixes was.updates was.seats in
+    let setting = same_setting c.loop-round.session c.args.session (length c.loop-round.finders) (length c.args.finders.now) was.suffixes was.updates was.follows was.seats in
     record {
       so_far = one_line_more (setting_with c.args.session (length c.args.finders.now)) c.args.session.state (g.O.Sink.taken c.args.out.now) (g.O.Sink.taken c.loop-round.out) (g.O.Sink.taken c.serve_line.new.out)
           (g.H.RegexHost.faults c.args.checker.now ∷ map g.H.RegexHost.faults c.args.finders.now) (g.H.RegexHost.faults c.loop-round.checker ∷ map g.H.RegexHost.faults c.loop-round.finders)
@@ -57,6 +58,7 @@ loop-round-preserved g c =
           was.fell (omega (arith, was.here)) counted.1 was.so_far (next.line c.if-branch.true) (rw setting at (rw c.deref.ensures.value at one.served));
       suffixes = one.suffixes ∙ was.suffixes;
       updates = one.updates ∙ was.updates;
+      follows = one.follows ∙ was.follows;
       seats = one.seats ∙ was.seats;
       here = omega (arith, was.here, counted.1);
       few = omega (arith, counted.0, counted.1);
@@ -74,7 +76,7 @@ returns-in_err-serve_line-clause-served g c =
     let next = c.in_ok-next.ensures in
     let one = c.in_err-serve_line.ensures in
     let counted = next.counted c.if-branch.true in
-    let setting = same_setting c.loop-round.session c.args.session (length c.loop-round.finders) (length c.args.finders.now) was.suffixes was.updates was.seats in
+    let setting = same_setting c.loop-round.session c.args.session (length c.loop-round.finders) (length c.args.finders.now) was.suffixes was.updates was.follows was.seats in
     stop_said _ _ _ _ _ _ _ _ _ c.from_residual-in_err-serve_line.ensures.1 (λ e same. rw same (
     stops_serving (setting_with c.args.session (length c.args.finders.now)) c.args.session.state (g.O.Sink.taken c.args.out.now) (g.O.Sink.taken c.loop-round.out) (g.O.Sink.taken c.serve_line.new.out)
     (g.H.RegexHost.faults c.args.checker.now ∷ map g.H.RegexHost.faults c.args.finders.now) (g.H.RegexHost.faults c.loop-round.checker ∷ map g.H.RegexHost.faults c.loop-round.finders)

@@ -14,6 +14,7 @@ invariant-loop-round g l = record {
       (g.S.Source.left l.fn.source) (ahead l.lines (g.S.Source.left l.source)) l.lines.count l.round l.session.state;
   suffixes : l.session.suffixes ≡ l.fn.session.suffixes;
   updates : l.session.updates ≡ l.fn.session.updates;
+  follows : l.session.follows ≡ l.fn.session.follows;
   seats : length l.finders ≡ length l.fn.finders;
   here : l.number ≡ l.lines.count;
   few : l.lines.count ≤ max_lines;

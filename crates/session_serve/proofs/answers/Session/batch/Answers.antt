@@ -8,15 +8,15 @@ use Rattle.session_serve.proofs.answers.Session.batch.Goals as goal
 
 pub returns-then-not-self-clause-told : goal.returns-then-not-self-clause-told
 returns-then-not-self-clause-told c =
-    rw (← c.self.view_is) (unknown_told c.refuse_command.result (record { suffixes = c.self.inside.generation.suffixes; workers = 0; updates = c.self.inside.updates }) c.self.inside.generation.state c.args.number (spec.batch (updates_seen c.args.updates.now))
+    rw (← c.self.view_is) (unknown_told c.refuse_command.result (record { suffixes = c.self.inside.generation.suffixes; workers = 0; updates = c.self.inside.updates; follows = c.self.inside.follows }) c.self.inside.generation.state c.args.number (spec.batch (updates_seen c.args.updates.now))
     (string_bytes c.args.into.now) (string_bytes c.refuse_command.new.into) (ap (λ b. known_with b (Ok (spec.batch (updates_seen c.args.updates.now)))) c.if-not-self.true) c.refuse_command.ensures)
 
 pub returns-in-Ok-clause-told : goal.returns-in-Ok-clause-told
 returns-in-Ok-clause-told c =
-    rw (← c.self.view_is, c.accept.ensures.next) (accepted_told c.accept.result (record { suffixes = c.self.inside.generation.suffixes; workers = 0; updates = c.self.inside.updates }) c.self.inside.generation.state c.in-Ok.next.state c.args.number (together (updates_seen c.args.updates.now))
+    rw (← c.self.view_is, c.accept.ensures.next) (accepted_told c.accept.result (record { suffixes = c.self.inside.generation.suffixes; workers = 0; updates = c.self.inside.updates; follows = c.self.inside.follows }) c.self.inside.generation.state c.in-Ok.next.state c.args.number (together (updates_seen c.args.updates.now))
     (string_bytes c.args.into.now) (string_bytes c.accept.new.into) c.if-not-self.false (rw c.as_slice.ensures at c.in-Ok.ensures.judged) (rw c.as_slice.ensures at c.in-Ok.ensures.applied) c.accept.ensures.appended)
 
 pub returns-in-Err-clause-told : goal.returns-in-Err-clause-told
 returns-in-Err-clause-told c =
-    rw (← c.self.view_is) (batch_refusal_told c.refuse_batch.result (record { suffixes = c.self.inside.generation.suffixes; workers = 0; updates = c.self.inside.updates }) c.self.inside.generation.state c.args.number c.in-Err.refusal.place (updates_seen c.args.updates.now) c.in-Err.refusal.cause
+    rw (← c.self.view_is) (batch_refusal_told c.refuse_batch.result (record { suffixes = c.self.inside.generation.suffixes; workers = 0; updates = c.self.inside.updates; follows = c.self.inside.follows }) c.self.inside.generation.state c.args.number c.in-Err.refusal.place (updates_seen c.args.updates.now) c.in-Err.refusal.cause
     (string_bytes c.args.into.now) (string_bytes c.refuse_batch.new.into) c.if-not-self.false (rw c.as_slice.ensures at c.in-Err.ensures.refused) c.refuse_batch.ensures)
