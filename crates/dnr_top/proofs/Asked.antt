@@ -4,7 +4,7 @@ use Rattle.std.specs.Prelude.{IfSome}
 use Rattle.dnr_io.specs.Shelf.{Names}
 use Rattle.manifest_read.specs.Asked.{MayAskExtension}
 use Rattle.session_load.specs.Asked.{MayAsk, MayAskServing}
-use Rattle.session_spec.specs.Words.{Installed, folder, list, Serving, Task, match_files, check_file, compile_file, serve_script, make_sample, hide_page, prune_file}
+use Rattle.session_spec.specs.Words.{Installed, folder, list, Serving, Task, match_files, follow_files, check_file, compile_file, serve_script, make_sample, hide_page, prune_file}
 use Rattle.dnr_top.specs.Asked.{MayAskTask, MayAskFor}
 
 any_named : (allows : List ℕ → Type 0) (name : Option (List ℕ)) → ((name : List ℕ) → allows name) → IfSome name allows
@@ -23,6 +23,7 @@ any_serving allows known serving all = record {
 
 any_task : (allows : List ℕ → Type 0) (known : Option Names) (task : Task) → ((name : List ℕ) → allows name) → MayAskTask allows known task
 any_task allows known (match_files rules script) all = (all rules, all script)
+any_task allows known (follow_files rules script) all = (all rules, all script)
 any_task allows known (check_file kind name) all = all name
 any_task allows known (compile_file name) all = all name
 any_task allows known (serve_script serving) all = (any_serving allows known serving all, all serving.script)

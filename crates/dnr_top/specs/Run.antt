@@ -10,7 +10,7 @@ use Rattle.session_serve.specs.declared.stop.ServeStop.{ServeStop}
 use Rattle.session_serve.specs.declared.stop.ServeStop.TheVariants as serve
 use Rattle.session_spec.specs.Answers.{HostRisesBy}
 use Rattle.session_spec.specs.Loading.{Loaded}
-use Rattle.session_spec.specs.Out.{Outside, Session, LoadsFor, takes_updates, workers_of, in_rounds, EndsBy}
+use Rattle.session_spec.specs.Out.{Outside, Session, LoadsFor, takes_updates, follows_requests, workers_of, in_rounds, EndsBy}
 use Rattle.session_spec.specs.Refusals.{install_line}
 use Rattle.text_commands.specs.Ends.{IsRun}
 
@@ -43,12 +43,13 @@ pub record SaysNoLess (whole part : Outside) : Type 0 where
   pub same_left : whole.left ≡ part.left
 
 -- whichever session this was loaded for, its run may end so
-abbrev pub Serves : Files → Loaded → Bool → ℕ → List ℕ → Option (List ℕ) → Option (List ℕ) → Outside → Status → Type 0
-Serves files loaded updates workers script before now part ended =
-    (session : Session) (whole : Outside) → LoadsFor files session loaded → takes_updates session ≡ updates → workers_of session ≡ workers → SaysNoLess whole part
+abbrev pub Serves : Files → Loaded → Bool → Bool → ℕ → List ℕ → Option (List ℕ) → Option (List ℕ) → Outside → Status → Type 0
+Serves files loaded updates follows workers script before now part ended =
+    (session : Session) (whole : Outside) → LoadsFor files session loaded
+    → takes_updates session ≡ updates → follows_requests session ≡ follows → workers_of session ≡ workers → SaysNoLess whole part
     → IsRun before now (EndsBy whole (in_rounds files whole session script) ended)
 
 -- where the shelf tells what its files hold, the session may end so
-abbrev pub MayServe : Option Files → Loaded → Bool → ℕ → List ℕ → Option (List ℕ) → Option (List ℕ) → Outside → Status → Type 0
-MayServe known loaded updates workers script before now part ended =
-    IfSome known (λ files. Serves files loaded updates workers script before now part ended)
+abbrev pub MayServe : Option Files → Loaded → Bool → Bool → ℕ → List ℕ → Option (List ℕ) → Option (List ℕ) → Outside → Status → Type 0
+MayServe known loaded updates follows workers script before now part ended =
+    IfSome known (λ files. Serves files loaded updates follows workers script before now part ended)

@@ -6,9 +6,9 @@ ghost use Rattle.dnr_base.specs.Faults.{Rose};
 ghost use Rattle.session_laws.specs.Turns.{NoneFell};
 ghost use Rattle.session_load.specs.Asked.{MayAskServing};
 ghost use Rattle.session_spec.specs.Out.{Out, hosts_needed};
-ghost use Rattle.session_spec.specs.Words.{match_files, serve_script, task_of};
+ghost use Rattle.session_spec.specs.Words.{serve_script, task_of};
 ghost use Rattle.text_commands.specs.Ends.{MayEnd, count, outside};
-ghost use Rattle.dnr_top.specs.Asked.{MayAskFor};
+ghost use Rattle.dnr_top.specs.Asked.{MayAskFor, requests_task};
 
 use crate::session::serve;
 use dnr_io::{Shelf, Sink, Status};
@@ -30,6 +30,7 @@ const MOST_WORKERS: usize = 8;
 ///
 /// - `match RULES REQUESTS` reads the rules of the file RULES, and answers each request line of the file
 ///   REQUESTS.
+/// - `follow RULES REQUESTS` reads the same files, and answers each request with where its redirects and upgrades lead.
 /// - `check KIND RULES` reads the rules of the file RULES, which are of this kind, and counts them.
 /// - `compile LIST` reads the filter list LIST and prints the rules that say what it says.
 /// - `serve [--workers N] [--psl F] [--ext NAME].. [--list NAME=F].. SCRIPT` installs extensions and filter lists, and
@@ -79,7 +80,10 @@ pub fn run<R: Threads + Wait + Sync, F: Shelf, O: Sink, H: RegexHost + Send, G: 
     let checker = &mut checkers[0];
     match read_words(words) {
         Some(Task::Match(rules, script)) => {
-            match_requests(rt, alloc, rules, script, shelf, out, checker, finders, gate)
+            answer_requests(rt, alloc, rules, script, false, shelf, out, checker, finders, gate)
+        }
+        Some(Task::Follow(rules, script)) => {
+            answer_requests(rt, alloc, rules, script, true, shelf, out, checker, finders, gate)
         }
         Some(Task::Check(kind, rules)) => check_rules(alloc, kind, rules, shelf, out, checker),
         Some(Task::Compile(list)) => compile_list(alloc, list, shelf, out, checker),
@@ -93,11 +97,13 @@ pub fn run<R: Threads + Wait + Sync, F: Shelf, O: Sink, H: RegexHost + Send, G: 
     }
 }
 
-fn match_requests<R: Threads + Wait + Sync, F: Shelf, O: Sink, H: RegexHost + Send, G: Gate + Sync>(
+// Answers the requests of a file by the rules of a file, and follows them or not.
+fn answer_requests<R: Threads + Wait + Sync, F: Shelf, O: Sink, H: RegexHost + Send, G: Gate + Sync>(
     rt: &R,
     alloc: Global,
     rules: &str,
     script: &str,
+    follows: bool,
     shelf: &mut F,
     out: &mut O,
     checker: &mut H,
@@ -107,7 +113,7 @@ fn match_requests<R: Threads + Wait + Sync, F: Shelf, O: Sink, H: RegexHost + Se
     requires seats { 0 < length finders.old }
     requires names { F.allows rules.now × F.allows script.now }
     ensures no_usage { result ≢ Status.Usage }
-    ensures allowed { MayEnd (F.Source.files shelf.old) (match_files rules.now script.now)
+    ensures allowed { MayEnd (F.Source.files shelf.old) (requests_task follows rules.now script.now)
         (outside (count (F.Source.faults shelf.old) (F.Source.faults shelf.new))
         (count (F.Source.starts shelf.old) (F.Source.starts shelf.new)) (count (O.faults out.old) (O.faults out.new))
         (H.faults checker.old ∷ map H.faults finders.old) (H.faults checker.new ∷ map H.faults finders.new)
@@ -119,7 +125,7 @@ fn match_requests<R: Threads + Wait + Sync, F: Shelf, O: Sink, H: RegexHost + Se
 {
     match load_local(alloc, rules, shelf, checker) {
         Ok(loaded) => serve(
-            rt, alloc, loaded, script, false, 1, shelf, out, checker, finders, gate,
+            rt, alloc, loaded, script, false, follows, 1, shelf, out, checker, finders, gate,
         ),
         Err(stop) => stop_with(&stop, out),
     }
@@ -160,6 +166,7 @@ fn serve_script<R: Threads + Wait + Sync, F: Shelf, O: Sink, H: RegexHost + Send
             loaded,
             serving.script(),
             true,
+            false,
             workers,
             shelf,
             out,

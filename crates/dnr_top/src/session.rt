@@ -25,13 +25,14 @@ use text_commands::stop_with;
 use update_spec::Refusal;
 
 /// Installs what was loaded, and serves the script with so many of the finders, each for a seat beside the writer. Without
-/// updates it knows requests alone, and answers them in turn.
+/// updates it knows requests alone, and answers them in turn, each with where it leads where they are followed.
 pub fn serve<R: Threads + Wait + Sync, F: Shelf, O: Sink, H: RegexHost + Send, G: Gate + Sync>(
     rt: &R,
     alloc: Global,
     loaded: Loaded,
     script: &str,
     updates: bool,
+    follows: bool,
     workers: usize,
     shelf: &mut F,
     out: &mut O,
@@ -43,8 +44,9 @@ pub fn serve<R: Threads + Wait + Sync, F: Shelf, O: Sink, H: RegexHost + Send, G
     requires few { workers ≤ 8 }
     requires enough { workers ≤ length finders.old }
     requires named { F.allows script.now }
+    requires either { updates ≡ true → follows ≡ false }
     ensures no_usage { result ≢ Status.Usage }
-    ensures allowed { MayServe (F.Source.files shelf.old) loaded updates workers script.now
+    ensures allowed { MayServe (F.Source.files shelf.old) loaded updates follows workers script.now
         (O.taken out.old) (O.taken out.new)
         (outside (count (F.Source.faults shelf.old) (F.Source.faults shelf.new))
         (count (F.Source.starts shelf.old) (F.Source.starts shelf.new)) (count (O.faults out.old) (O.faults out.new))
@@ -61,7 +63,7 @@ pub fn serve<R: Threads + Wait + Sync, F: Shelf, O: Sink, H: RegexHost + Send, G
     };
     match shelf.start(script) {
         Ok(()) => ended(serve_started(
-            rt, alloc, generation, updates, workers, shelf, out, checker, finders, gate,
+            rt, alloc, generation, updates, follows, workers, shelf, out, checker, finders, gate,
         )),
         Err(_) => Status::ReadFault,
     }
@@ -73,6 +75,7 @@ fn serve_started<R: Threads + Wait + Sync, S: Source, O: Sink, H: RegexHost + Se
     alloc: Global,
     generation: Generation,
     updates: bool,
+    follows: bool,
     workers: usize,
     source: &mut S,
     out: &mut O,
@@ -84,9 +87,10 @@ fn serve_started<R: Threads + Wait + Sync, S: Source, O: Sink, H: RegexHost + Se
     requires few { workers ≤ 8 }
     requires enough { workers ≤ length finders.old }
     requires fresh { generation.state.count ≡ 0 }
+    requires either { updates ≡ true → follows ≡ false }
     ensures served { IfSome (S.left source.old) (λ script. EndsServing (O.taken out.old) (O.taken out.new)
         (counts_between (H.faults checker.old ∷ map H.faults finders.old) (H.faults checker.new ∷ map H.faults finders.new))
-        (record { suffixes = generation.suffixes; workers = workers; updates = updates }) generation.state script (S.left source.new) result) }
+        (record { suffixes = generation.suffixes; workers = workers; updates = updates; follows = follows }) generation.state script (S.left source.new) result) }
     ensures later { NoneFell (H.faults checker.old ∷ map H.faults finders.old) (H.faults checker.new ∷ map H.faults finders.new) }
     ensures told { is_some (S.left source.new) ≡ is_some (S.left source.old) }
     ensures starts { S.starts source.new ≡ S.starts source.old }
@@ -98,7 +102,7 @@ fn serve_started<R: Threads + Wait + Sync, S: Source, O: Sink, H: RegexHost + Se
             rt, alloc, generation, workers, source, out, checker, finders, gate,
         )
     } else {
-        serve_in_turn(alloc, generation, workers, source, out, checker, finders)
+        serve_in_turn(alloc, generation, follows, workers, source, out, checker, finders)
     }
 }
 
@@ -120,7 +124,7 @@ fn serve_beside<R: Threads + Wait + Sync, S: Source, O: Sink, H: RegexHost + Sen
     requires fresh { generation.state.count ≡ 0 }
     ensures served { IfSome (S.left source.old) (λ script. EndsServing (O.taken out.old) (O.taken out.new)
         (counts_between (H.faults checker.old ∷ map H.faults finders.old) (H.faults checker.new ∷ map H.faults finders.new))
-        (record { suffixes = generation.suffixes; workers = workers; updates = true }) generation.state script (S.left source.new) result) }
+        (record { suffixes = generation.suffixes; workers = workers; updates = true; follows = false }) generation.state script (S.left source.new) result) }
     ensures later { NoneFell (H.faults checker.old ∷ map H.faults finders.old) (H.faults checker.new ∷ map H.faults finders.new) }
     ensures told { is_some (S.left source.new) ≡ is_some (S.left source.old) }
     ensures starts { S.starts source.new ≡ S.starts source.old }
@@ -135,6 +139,7 @@ fn serve_beside<R: Threads + Wait + Sync, S: Source, O: Sink, H: RegexHost + Sen
 fn serve_in_turn<S: Source, O: Sink, H: RegexHost>(
     alloc: Global,
     generation: Generation,
+    follows: bool,
     workers: usize,
     source: &mut S,
     out: &mut O,
@@ -145,14 +150,14 @@ fn serve_in_turn<S: Source, O: Sink, H: RegexHost>(
     requires enough { workers ≤ length finders.old }
     ensures served { IfSome (S.left source.old) (λ script. EndsServing (O.taken out.old) (O.taken out.new)
         (counts_between (H.faults checker.old ∷ map H.faults finders.old) (H.faults checker.new ∷ map H.faults finders.new))
-        (record { suffixes = generation.suffixes; workers = workers; updates = false }) generation.state script (S.left source.new) result) }
+        (record { suffixes = generation.suffixes; workers = workers; updates = false; follows = follows }) generation.state script (S.left source.new) result) }
     ensures later { NoneFell (H.faults checker.old ∷ map H.faults finders.old) (H.faults checker.new ∷ map H.faults finders.new) }
     ensures told { is_some (S.left source.new) ≡ is_some (S.left source.old) }
     ensures starts { S.starts source.new ≡ S.starts source.old }
     ensures read_fault { HasCauseOf ServeStop.ReadFault (S.faults source.old) (S.faults source.new) result }
     ensures write_fault { HasCauseOf ServeStop.WriteFault (O.faults out.old) (O.faults out.new) result }
 {
-    let session = Session::new(alloc, generation, false);
+    let session = Session::new(alloc, generation, false, follows);
     let (seats, _) = finders.split_at_mut(workers);
     serve_lines(alloc, session, source, out, checker, seats)
 }

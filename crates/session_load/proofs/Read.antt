@@ -1,5 +1,5 @@
 -- What was read, from the bytes of a file to what the file holds.
-use Rattle.std.proofs.Common.{◌≡◌, ℕ, zero, suc, ◌+◌, ◌<◌, ◌≤◌, List, [], ◌∷◌, ◌++◌, length, drop, get_or, map, append_assoc, codes, true, Option, Some, None, Result, Ok, Err, refl, sym, ap, ◌∙◌, subst, inl, inr}
+use Rattle.std.proofs.Common.{◌≡◌, ℕ, zero, suc, ◌+◌, ◌<◌, ◌≤◌, List, [], ◌∷◌, ◌++◌, length, drop, get_or, map, append_assoc, codes, true, false, Option, Some, None, Result, Ok, Err, refl, sym, ap, ◌∙◌, subst, inl, inr}
 use Rattle.std.specs.Prelude.{IfSome, IfErr}
 use Rattle.std.specs.List.{AllZip}
 use Rattle.std.proofs.lemmas.List.{drop_more, drop_all, append-nil}
@@ -53,7 +53,7 @@ only_long known name Refused s why =
 -- ---- rules files
 
 pub loads_local : (known : Option Files) (name : List ℕ) (rules : List Rule) (loaded : Loaded) → IfSome known (λ files. HoldsRules files Static name rules) → loaded ≡ loaded_with rules
-    → IfSome known (λ files. LoadsFor files (of_rules name) loaded)
+    → IfSome known (λ files. LoadsFor files (of_rules false name) loaded)
 loads_local None name rules loaded held same = tt
 loads_local (Some files) name rules loaded held same = (rules, held, same)
 

@@ -1,5 +1,5 @@
 -- What was read, where the shelf tells what its files hold.
-use Rattle.std.specs.Prelude.{ℕ, List, Option, Vec, IfSome}
+use Rattle.std.specs.Prelude.{ℕ, List, false, Option, Vec, IfSome}
 use Rattle.std.specs.List.{AllZip}
 use Rattle.std.specs.declared.alloc.Global.{Global}
 use Rattle.dnr_spec.specs.Suffixes.{SuffixRule}
@@ -22,7 +22,7 @@ TellsRules known kind name rules = IfSome known (λ files. HoldsRules files kind
 
 -- the rules of the file are the extension `local`
 abbrev pub TellsLocal : Option Files → List ℕ → Loaded → Type 0
-TellsLocal known name loaded = IfSome known (λ files. LoadsFor files (of_rules name) loaded)
+TellsLocal known name loaded = IfSome known (λ files. LoadsFor files (of_rules false name) loaded)
 
 abbrev pub TellsList : Option Files → List ℕ → CompiledList → Type 0
 TellsList known name list = IfSome known (λ files. HoldsCompiled files name list)

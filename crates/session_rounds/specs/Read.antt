@@ -32,7 +32,7 @@ LinesRead number (line ∷ lines) (read ∷ reads) stops =
 
 -- a session that takes updates, with so many seats
 abbrev pub serving : List SuffixRule → ℕ → Setting
-serving suffixes seats = record { suffixes = suffixes; workers = seats; updates = true }
+serving suffixes seats = record { suffixes = suffixes; workers = seats; updates = true; follows = false }
 
 -- These lines, from this number on, were served as a round between these states: what they say was appended to a text, the
 -- numbers of a seat never fall and are none below the first state's, and the counts of the seats' hosts rose with the answers.

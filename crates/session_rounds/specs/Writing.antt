@@ -11,7 +11,7 @@ use Rattle.session_rounds.specs.declared.read_line.ReadLine.{ReadLine}
 
 -- what the writer's answers rest on: no seat has a part in them
 abbrev pub writing : Basis → Setting
-writing opening = record { suffixes = opening.suffixes; workers = 0; updates = true }
+writing opening = record { suffixes = opening.suffixes; workers = 0; updates = true; follows = false }
 
 -- at most one entry was accepted
 abbrev pub GoesOn : List Entry → List Entry → Type 0

@@ -1,7 +1,7 @@
 use Rattle.std.proofs.Common.{◌∷◌, ap, sym, subst, ◌∙◌, length, map, Some, slice_index_or, string_bytes}
 use Rattle.session_laws.proofs.Rises.{none_fell_yet}
 use Rattle.dnr_words.specs.Seen.{task_seen}
-use Rattle.session_spec.specs.Words.{match_files, check_file, compile_file, serve_script, make_sample, hide_page, prune_file}
+use Rattle.session_spec.specs.Words.{match_files, follow_files, check_file, compile_file, serve_script, make_sample, hide_page, prune_file}
 use Rattle.dnr_top.specs.Asked.{MayAskFor}
 use Rattle.text_commands.specs.Ends.{count, outside}
 use Rattle.dnr_top.proofs.Hosts.{run_out, run_hosts}
@@ -11,16 +11,29 @@ use Rattle.dnr_top.proofs.commands.run.Goals as goal
 
 pub returns-in-Some-Match-clause-allowed : goal.returns-in-Some-Match-clause-allowed
 returns-in-Some-Match-clause-allowed g c =
-    run_out g.H.RegexHost.faults (g.F.Source.files c.args.shelf.now) c.args.hosts.now.items c.split_at_mut-checkers.result.0.now c.split_at_mut-checkers.result.1.now c.match_requests.new.finders _
-    c.index-checkers-0.result c.match_requests.new.checker (count (g.F.Source.faults c.args.shelf.now) (g.F.Source.faults c.match_requests.new.shelf)) (count (g.F.Source.starts c.args.shelf.now) (g.F.Source.starts c.match_requests.new.shelf)) (count (g.O.Sink.faults c.args.out.now) (g.O.Sink.faults c.match_requests.new.out))
-    (g.F.Source.left c.match_requests.new.shelf) (map string_bytes c.args.words.now) (match_files c.in-Some-Match.rules.now c.in-Some-Match.script.now) (g.O.Sink.taken c.args.out.now) (g.O.Sink.taken c.match_requests.new.out) c.match_requests.result
-    (sym (ap length c.deref_mut.ensures.value) ∙ c.deref_mut.ensures.len) (sym c.deref_mut.ensures.value ∙ c.split_at_mut-checkers.ensures.value) c.split_at_mut-checkers.ensures.front_len c.match_requests.ensures.later
-    (sym c.in-Some-Match.ensures ∙ ap (λ t. Some (task_seen t)) c.in-Some-Match.field-0-is) c.match_requests.ensures.allowed
+    run_out g.H.RegexHost.faults (g.F.Source.files c.args.shelf.now) c.args.hosts.now.items c.split_at_mut-checkers.result.0.now c.split_at_mut-checkers.result.1.now c.answer_requests.new.finders _
+    c.index-checkers-0.result c.answer_requests.new.checker (count (g.F.Source.faults c.args.shelf.now) (g.F.Source.faults c.answer_requests.new.shelf)) (count (g.F.Source.starts c.args.shelf.now) (g.F.Source.starts c.answer_requests.new.shelf)) (count (g.O.Sink.faults c.args.out.now) (g.O.Sink.faults c.answer_requests.new.out))
+    (g.F.Source.left c.answer_requests.new.shelf) (map string_bytes c.args.words.now) (match_files c.in-Some-Match.rules.now c.in-Some-Match.script.now) (g.O.Sink.taken c.args.out.now) (g.O.Sink.taken c.answer_requests.new.out) c.answer_requests.result
+    (sym (ap length c.deref_mut.ensures.value) ∙ c.deref_mut.ensures.len) (sym c.deref_mut.ensures.value ∙ c.split_at_mut-checkers.ensures.value) c.split_at_mut-checkers.ensures.front_len c.answer_requests.ensures.later
+    (sym c.in-Some-Match.ensures ∙ ap (λ t. Some (task_seen t)) c.in-Some-Match.field-0-is) c.answer_requests.ensures.allowed
 
 pub returns-in-Some-Match-clause-hosts : goal.returns-in-Some-Match-clause-hosts
 returns-in-Some-Match-clause-hosts g c =
-    run_hosts g.H.RegexHost.faults c.args.hosts.now.items c.split_at_mut-checkers.result.0.now c.split_at_mut-checkers.result.1.now c.match_requests.new.finders _
-    c.index-checkers-0.result c.match_requests.new.checker (sym (ap length c.deref_mut.ensures.value) ∙ c.deref_mut.ensures.len) (sym c.deref_mut.ensures.value ∙ c.split_at_mut-checkers.ensures.value) c.split_at_mut-checkers.ensures.front_len c.match_requests.ensures.later
+    run_hosts g.H.RegexHost.faults c.args.hosts.now.items c.split_at_mut-checkers.result.0.now c.split_at_mut-checkers.result.1.now c.answer_requests.new.finders _
+    c.index-checkers-0.result c.answer_requests.new.checker (sym (ap length c.deref_mut.ensures.value) ∙ c.deref_mut.ensures.len) (sym c.deref_mut.ensures.value ∙ c.split_at_mut-checkers.ensures.value) c.split_at_mut-checkers.ensures.front_len c.answer_requests.ensures.later
+
+pub returns-in-Some-Follow-clause-allowed : goal.returns-in-Some-Follow-clause-allowed
+returns-in-Some-Follow-clause-allowed g c =
+    run_out g.H.RegexHost.faults (g.F.Source.files c.args.shelf.now) c.args.hosts.now.items c.split_at_mut-checkers.result.0.now c.split_at_mut-checkers.result.1.now c.answer_requests-in-Some-Follow.new.finders _
+    c.index-checkers-0.result c.answer_requests-in-Some-Follow.new.checker (count (g.F.Source.faults c.args.shelf.now) (g.F.Source.faults c.answer_requests-in-Some-Follow.new.shelf)) (count (g.F.Source.starts c.args.shelf.now) (g.F.Source.starts c.answer_requests-in-Some-Follow.new.shelf)) (count (g.O.Sink.faults c.args.out.now) (g.O.Sink.faults c.answer_requests-in-Some-Follow.new.out))
+    (g.F.Source.left c.answer_requests-in-Some-Follow.new.shelf) (map string_bytes c.args.words.now) (follow_files c.in-Some-Follow.rules.now c.in-Some-Follow.script.now) (g.O.Sink.taken c.args.out.now) (g.O.Sink.taken c.answer_requests-in-Some-Follow.new.out) c.answer_requests-in-Some-Follow.result
+    (sym (ap length c.deref_mut.ensures.value) ∙ c.deref_mut.ensures.len) (sym c.deref_mut.ensures.value ∙ c.split_at_mut-checkers.ensures.value) c.split_at_mut-checkers.ensures.front_len c.answer_requests-in-Some-Follow.ensures.later
+    (sym c.in-Some-Follow.ensures ∙ ap (λ t. Some (task_seen t)) c.in-Some-Follow.field-0-is) c.answer_requests-in-Some-Follow.ensures.allowed
+
+pub returns-in-Some-Follow-clause-hosts : goal.returns-in-Some-Follow-clause-hosts
+returns-in-Some-Follow-clause-hosts g c =
+    run_hosts g.H.RegexHost.faults c.args.hosts.now.items c.split_at_mut-checkers.result.0.now c.split_at_mut-checkers.result.1.now c.answer_requests-in-Some-Follow.new.finders _
+    c.index-checkers-0.result c.answer_requests-in-Some-Follow.new.checker (sym (ap length c.deref_mut.ensures.value) ∙ c.deref_mut.ensures.len) (sym c.deref_mut.ensures.value ∙ c.split_at_mut-checkers.ensures.value) c.split_at_mut-checkers.ensures.front_len c.answer_requests-in-Some-Follow.ensures.later
 
 pub returns-in-Some-Check-clause-allowed : goal.returns-in-Some-Check-clause-allowed
 returns-in-Some-Check-clause-allowed g c =
@@ -139,8 +152,11 @@ returns-in-None-clause-hosts g c =
     (sym (ap length c.deref_mut.ensures.value) ∙ c.deref_mut.ensures.len) (sym c.deref_mut.ensures.value ∙ c.split_at_mut-checkers.ensures.value) c.split_at_mut-checkers.ensures.front_len
     (none_fell_yet (g.H.RegexHost.faults (slice_index_or c.split_at_mut-checkers.result.0.now 0 c.index-checkers-0.result) ∷ map g.H.RegexHost.faults c.split_at_mut-checkers.result.1.now))
 
-pub match_requests-requires-clause-names : goal.match_requests-requires-clause-names
-match_requests-requires-clause-names g c κs within = subst (MayAskFor g.F.Shelf.allows (g.F.Source.files c.args.shelf.now)) (sym c.in-Some-Match.ensures ∙ ap (λ t. Some (task_seen t)) c.in-Some-Match.field-0-is) c.requires.names
+pub answer_requests-requires-clause-names : goal.answer_requests-requires-clause-names
+answer_requests-requires-clause-names g c κs within = subst (MayAskFor g.F.Shelf.allows (g.F.Source.files c.args.shelf.now)) (sym c.in-Some-Match.ensures ∙ ap (λ t. Some (task_seen t)) c.in-Some-Match.field-0-is) c.requires.names
+
+pub answer_requests-in-Some-Follow-requires-clause-names : goal.answer_requests-in-Some-Follow-requires-clause-names
+answer_requests-in-Some-Follow-requires-clause-names g c κs within = subst (MayAskFor g.F.Shelf.allows (g.F.Source.files c.args.shelf.now)) (sym c.in-Some-Follow.ensures ∙ ap (λ t. Some (task_seen t)) c.in-Some-Follow.field-0-is) c.requires.names
 
 pub serve_script-requires-clause-names : goal.serve_script-requires-clause-names
 serve_script-requires-clause-names g c κs within = subst (MayAskFor g.F.Shelf.allows (g.F.Source.files c.args.shelf.now)) (sym c.in-Some-Serve.ensures ∙ ap (λ t. Some (task_seen t)) c.in-Some-Serve.field-0-is) c.requires.names

@@ -2,12 +2,12 @@ use Rattle.std.proofs.Common.{ℕ, ◌∷◌, map, ap, sym, Err, refl}
 use Rattle.session_laws.proofs.Rises.{none_fell_yet}
 use Rattle.text_commands.specs.Ends.{count, outside}
 use Rattle.dnr_top.proofs.Hosts.{since_before, rose_since}
-use Rattle.dnr_top.proofs.Tasks.{match_serves, match_stops}
-use Rattle.dnr_top.proofs.commands.match_requests.Goals as goal
+use Rattle.dnr_top.proofs.Tasks.{rules_serve, rules_stop}
+use Rattle.dnr_top.proofs.commands.answer_requests.Goals as goal
 
 pub returns-in-Ok-clause-allowed : goal.returns-in-Ok-clause-allowed
 returns-in-Ok-clause-allowed g c =
-    match_serves (g.F.Source.files c.args.shelf.now) (g.F.Source.files c.load_local.new.shelf)
+    rules_serve c.args.follows (g.F.Source.files c.args.shelf.now) (g.F.Source.files c.load_local.new.shelf)
     (outside (count (g.F.Source.faults c.args.shelf.now) (g.F.Source.faults c.serve.new.shelf)) (count (g.F.Source.starts c.args.shelf.now) (g.F.Source.starts c.serve.new.shelf)) (count (g.O.Sink.faults c.args.out.now) (g.O.Sink.faults c.serve.new.out))
     (g.H.RegexHost.faults c.args.checker.now ∷ map g.H.RegexHost.faults c.args.finders.now) (g.H.RegexHost.faults c.serve.new.checker ∷ map g.H.RegexHost.faults c.serve.new.finders) (g.F.Source.left c.serve.new.shelf))
     (outside (count (g.F.Source.faults c.load_local.new.shelf) (g.F.Source.faults c.serve.new.shelf)) (count (g.F.Source.starts c.load_local.new.shelf) (g.F.Source.starts c.serve.new.shelf)) (count (g.O.Sink.faults c.args.out.now) (g.O.Sink.faults c.serve.new.out))
@@ -24,7 +24,7 @@ returns-in-Ok-clause-allowed g c =
 
 pub returns-in-Err-clause-allowed : goal.returns-in-Err-clause-allowed
 returns-in-Err-clause-allowed g c =
-    match_stops (g.F.Source.files c.args.shelf.now)
+    rules_stop c.args.follows (g.F.Source.files c.args.shelf.now)
     (outside (count (g.F.Source.faults c.args.shelf.now) (g.F.Source.faults c.load_local.new.shelf)) (count (g.F.Source.starts c.args.shelf.now) (g.F.Source.starts c.load_local.new.shelf)) (count (g.O.Sink.faults c.args.out.now) (g.O.Sink.faults c.stop_with.new.out))
     (g.H.RegexHost.faults c.args.checker.now ∷ map g.H.RegexHost.faults c.args.finders.now) (g.H.RegexHost.faults c.load_local.new.host ∷ map g.H.RegexHost.faults c.args.finders.now) (g.F.Source.left c.load_local.new.shelf))
     c.args.rules.now c.args.script.now (g.O.Sink.taken c.args.out.now) (g.O.Sink.taken c.stop_with.new.out)
