@@ -5,9 +5,13 @@
 
 mod end;
 mod examples;
+mod laws;
+mod next;
 
 pub use end::End;
 pub use examples::{
     bad_targets_end_a_trace, loops_end_where_they_close, traces_are_bounded,
     traces_follow_redirects,
 };
+pub use laws::hops_are_of_requests;
+pub use next::Next;
