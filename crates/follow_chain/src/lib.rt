@@ -7,10 +7,9 @@ mod chain;
 mod next;
 mod refusal;
 mod sent;
-mod trace;
 
 pub use chain::follow;
 pub use dnr_verdict::Verdict;
 pub use follow_spec::End;
+pub use follow_trace::{Hop, Trace};
 pub use refusal::FollowRefusal;
-pub use trace::{Hop, Trace};
