@@ -105,6 +105,26 @@ const CASES: &[(&str, Failing<'static>, Status, &str)] = &[
         "{\"line\":1,\"generation\":0,\"fault\":\"pattern-host\",\"rule\":[\"local\",\"rules\",1]}\n{\"line\":2,\"generation\":0,\"fault\":\"pattern-host\",\"rule\":[\"local\",\"rules\",1]}\n{\"line\":3,\"generation\":0,\"verdict\":\"block\",\"rule\":[\"local\",\"rules\",1]}\n",
     ),
     (
+        "follow f.json f.jsonl",
+        Failing {
+            host: 1,
+            asks: &[2],
+            ..NOTHING
+        },
+        Status::Done,
+        "{\"line\":1,\"fault\":\"pattern-host\",\"hop\":1,\"rule\":[\"local\",\"rules\",2]}\n{\"line\":2,\"hops\":[{\"url\":\"http://a.org/\",\"verdict\":\"redirect\",\"rule\":[\"local\",\"rules\",1]},{\"url\":\"http://x.org/\",\"verdict\":\"block\",\"rule\":[\"local\",\"rules\",2]}],\"end\":\"settled\"}\n",
+    ),
+    (
+        "follow f.json f.jsonl",
+        Failing {
+            host: 1,
+            asks: &[1, 2],
+            ..NOTHING
+        },
+        Status::Done,
+        "{\"line\":1,\"fault\":\"pattern-host\",\"hop\":0,\"rule\":[\"local\",\"rules\",2]}\n{\"line\":2,\"fault\":\"pattern-host\",\"hop\":0,\"rule\":[\"local\",\"rules\",2]}\n",
+    ),
+    (
         "serve --ext a pattern.jsonl",
         Failing {
             asks: &[1],

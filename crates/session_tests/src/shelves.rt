@@ -9,6 +9,14 @@ const FILES: &[(&str, &str)] = &[
         "r.json",
         r#"[{"id":1,"condition":{"regexFilter":"x"},"action":{"type":"block"}}]"#,
     ),
+    (
+        "f.json",
+        r#"[{"id":1,"condition":{"urlFilter":"||a.org^"},"action":{"type":"redirect","redirect":{"url":"http://x.org/"}}},{"id":2,"condition":{"regexFilter":"x"},"action":{"type":"block"}}]"#,
+    ),
+    (
+        "f.jsonl",
+        "{\"url\":\"http://a.org/\",\"type\":\"script\"}\n{\"url\":\"http://a.org/\",\"type\":\"script\"}\n",
+    ),
     ("l.txt", "a.com##.ad\n||b.com^\n"),
     ("psl.dat", "uk\nco.uk\n"),
     (
