@@ -6,7 +6,7 @@ _dnr() {
     compopt +o default +o nospace 2>/dev/null
     COMPREPLY=()
     if ((COMP_CWORD == 1)); then
-        words='match serve check compile hide prune sample'
+        words='match follow serve check compile hide prune sample'
     else
         case $command,$before in
             check,check) words='static dynamic session' ;;
