@@ -13,4 +13,4 @@ returns-in-Err-HostFault-clause-told g c =
     let ends = (rw c.in-Err-HostFault.field-0-is at c.in-Err-HostFault.ensures.ends) in
     hop_fault_told c.write_hop_fault.result c.args.generation.now.suffixes c.args.generation.now.state c.args.request.now c.args.number c.in-Err-HostFault.hop c.in-Err-HostFault.rule
     (string_bytes c.args.into.now) (string_bytes c.write_hop_fault.new.into) (g.H.RegexHost.faults c.args.finder.now) (g.H.RegexHost.faults c.trace_of.new.host)
-    ends.1.pattern ends.1.hop ends.0 c.write_hop_fault.ensures.appended
+    ends.1.pattern ends.1.within ends.0 c.write_hop_fault.ensures.appended
