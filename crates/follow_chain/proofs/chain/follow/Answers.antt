@@ -57,7 +57,7 @@ returns-in_ok-sent-in-Follows-clause-trace g c =
       follows = sym c.in-Follows.is ∙ c.in_ok-end.ensures.next;
     } in
     subst (λ (whole : Trace). IfOk c.follow_on.result (λ told. told ≡ whole))
-    (trace_follows known.suffixes known.state 20 19 [] more request c.in_ok-sent.field-0 c.in-Follows.view added c.in_ok-sent.ensures) c.follow_on.ensures.trace
+    (trace_follows known.suffixes known.state 20 19 [] more request c.in_ok-sent-in-Follows.sent c.in-Follows.view added c.in_ok-sent-in-Follows.ensures) c.follow_on.ensures.trace
 
 pub returns-in_ok-sent-in-Follows-clause-bound : goal.returns-in_ok-sent-in-Follows-clause-bound
 returns-in_ok-sent-in-Follows-clause-bound g c =
@@ -69,7 +69,7 @@ returns-in_ok-sent-in-Follows-clause-bound g c =
       added = c.in_ok-end.ensures.hops ∙ ap (λ hops. with_hop known.suffixes known.state hops request) c.new-hops.ensures.items;
       follows = sym c.in-Follows.is ∙ c.in_ok-end.ensures.next;
     } in
-    let sum = sum_follows known.suffixes known.state 20 19 [] more request c.in_ok-sent.field-0 c.in-Follows.view (pairs_of known.state) added c.in_ok-sent.ensures in
+    let sum = sum_follows known.suffixes known.state 20 19 [] more request c.in_ok-sent-in-Follows.sent c.in-Follows.view (pairs_of known.state) added c.in_ok-sent-in-Follows.ensures in
     omega (arith, sum, c.in_ok-end.ensures.bound, c.follow_on.ensures.bound)
 
 pub returns-in_ok-sent-in-Follows-clause-ends : goal.returns-in_ok-sent-in-Follows-clause-ends
@@ -82,10 +82,10 @@ returns-in_ok-sent-in-Follows-clause-ends g c =
       added = c.in_ok-end.ensures.hops ∙ ap (λ hops. with_hop known.suffixes known.state hops request) c.new-hops.ensures.items;
       follows = sym c.in-Follows.is ∙ c.in_ok-end.ensures.next;
     } in
-    let count = length (trace_from known.suffixes known.state 19 more c.in_ok-sent.field-0).hops in
+    let count = length (trace_from known.suffixes known.state 19 more c.in_ok-sent-in-Follows.sent).hops in
     let whole = length (trace known.suffixes known.state request).hops in
     ends_in (IsBlamed known.state count) (IsBlamed known.state whole) (g.H.RegexHost.faults c.add_hop.new.host) (g.H.RegexHost.faults c.args.host.now)
     (g.H.RegexHost.faults c.follow_on.new.host) c.follow_on.result c.in_ok-end.ensures.ends
     (blamed_as known.state count whole
-    (ap (λ (t : Trace). length t.hops) (trace_follows known.suffixes known.state 20 19 [] more request c.in_ok-sent.field-0 c.in-Follows.view added c.in_ok-sent.ensures)))
+    (ap (λ (t : Trace). length t.hops) (trace_follows known.suffixes known.state 20 19 [] more request c.in_ok-sent-in-Follows.sent c.in-Follows.view added c.in_ok-sent-in-Follows.ensures)))
     c.follow_on.ensures.ends
