@@ -9,7 +9,7 @@ use Rattle.follow_chain.specs.declared.refusal.FollowRefusal.TheVariants.{HostFa
 
 -- the host may fail at this hop, counted from 0, of so many, on this rule: one in force that has a regexFilter
 pub record IsBlamed (state : State) (hops : ℕ) (hop : ℕ) (rule : RuleName) : Type 0 where
-  pub hop : hop < hops
+  pub within : hop < hops
   pub pattern : NamesPattern state rule
 
 -- A host's count of faults rises only where its fault is answered, or memory ran out.
@@ -23,5 +23,5 @@ Ends blamed before now (Err refusal) = Refuses blamed before now refusal
 
 -- the host may fail at this hop alone
 pub record IsBlamedAt (state : State) (place : ℕ) (hop : ℕ) (rule : RuleName) : Type 0 where
-  pub hop : hop ≡ place
+  pub here : hop ≡ place
   pub pattern : NamesPattern state rule

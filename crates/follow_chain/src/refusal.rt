@@ -11,6 +11,7 @@ pub enum FollowRefusal {
 }
 
 impl From<NoMemory> for FollowRefusal {
+    ghost use Rattle.std.specs.Prelude.{◌≡◌};
     ghost use Rattle.follow_chain.specs.declared.refusal.FollowRefusal.TheVariants.{NoMemory};
 
     ghost from_gives = { λ _ r. r ≡ NoMemory };

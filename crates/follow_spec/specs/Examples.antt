@@ -3,7 +3,7 @@ use Rattle.std.specs.Prelude.{◌≡◌, ℕ, zero, suc, ◌+◌, ◌-◌, ◌==
 use Rattle.rule_spec.specs.declared.outcome.Outcome.{Outcome}
 use Rattle.rule_spec.specs.declared.outcome.Outcome.TheVariants as outcome
 use Rattle.rule_spec.specs.Examples.{extension_of, redirect_to, request_to, rule_of, state_of}
-use Rattle.rule_spec.specs.Rule.{Rule}
+use Rattle.rule_spec.specs.Rule.{Rule, upgrade_scheme}
 use Rattle.rule_spec.specs.State.{State}
 use Rattle.follow_spec.specs.declared.end.End.{End}
 use Rattle.follow_spec.specs.declared.end.End.TheVariants.{Settled, Unreadable, Repeated, Bound}
@@ -36,6 +36,12 @@ abbrev pub TracesFollowRedirects : Type 0
 TracesFollowRedirects =
     Leads (rule_of 1 1 (codes "||a.com^") (redirect_to (codes "https://b.com/")) ∷ rule_of 2 1 (codes "||b.com^") (redirect_to (codes "https://c.com/")) ∷ [])
     (at (codes "http://a.com/") outcome.Redirect ∷ at (codes "https://b.com/") outcome.Redirect ∷ at (codes "https://c.com/") outcome.None ∷ []) Settled
+
+-- An upgrade is followed as a redirect is.
+abbrev pub UpgradesAreFollowed : Type 0
+UpgradesAreFollowed =
+    Leads (rule_of 1 1 (codes "|http:") upgrade_scheme ∷ rule_of 2 1 (codes "|https:") (redirect_to (codes "http://a.com/")) ∷ [])
+    (at (codes "http://a.com/") outcome.Upgrade ∷ at (codes "https://a.com/") outcome.Redirect ∷ []) Repeated
 
 -- A redirect back to any hop ends the trace.
 abbrev pub LoopsEndWhereTheyClose : Type 0
