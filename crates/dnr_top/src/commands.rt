@@ -80,10 +80,14 @@ pub fn run<R: Threads + Wait + Sync, F: Shelf, O: Sink, H: RegexHost + Send, G: 
     let checker = &mut checkers[0];
     match read_words(words) {
         Some(Task::Match(rules, script)) => {
-            answer_requests(rt, alloc, rules, script, false, shelf, out, checker, finders, gate)
+            answer_requests(
+                rt, alloc, rules, script, false, shelf, out, checker, finders, gate,
+            )
         }
         Some(Task::Follow(rules, script)) => {
-            answer_requests(rt, alloc, rules, script, true, shelf, out, checker, finders, gate)
+            answer_requests(
+                rt, alloc, rules, script, true, shelf, out, checker, finders, gate,
+            )
         }
         Some(Task::Check(kind, rules)) => check_rules(alloc, kind, rules, shelf, out, checker),
         Some(Task::Compile(list)) => compile_list(alloc, list, shelf, out, checker),
@@ -98,7 +102,13 @@ pub fn run<R: Threads + Wait + Sync, F: Shelf, O: Sink, H: RegexHost + Send, G: 
 }
 
 // Answers the requests of a file by the rules of a file, and follows them or not.
-fn answer_requests<R: Threads + Wait + Sync, F: Shelf, O: Sink, H: RegexHost + Send, G: Gate + Sync>(
+fn answer_requests<
+    R: Threads + Wait + Sync,
+    F: Shelf,
+    O: Sink,
+    H: RegexHost + Send,
+    G: Gate + Sync,
+>(
     rt: &R,
     alloc: Global,
     rules: &str,

@@ -102,7 +102,9 @@ fn serve_started<R: Threads + Wait + Sync, S: Source, O: Sink, H: RegexHost + Se
             rt, alloc, generation, workers, source, out, checker, finders, gate,
         )
     } else {
-        serve_in_turn(alloc, generation, follows, workers, source, out, checker, finders)
+        serve_in_turn(
+            alloc, generation, follows, workers, source, out, checker, finders,
+        )
     }
 }
 

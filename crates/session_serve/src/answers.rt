@@ -51,10 +51,10 @@ impl Session {
     /// to a request is where it leads, and nothing is explained.
     pub fn new(alloc: Global, generation: Generation, updates: bool, follows: bool) -> Session
         ensures { result ≡ record {
-            suffixes = generation.suffixes;
-            state = generation.state;
-            updates = updates;
-            follows = follows;
+          suffixes = generation.suffixes;
+          state = generation.state;
+          updates = updates;
+          follows = follows;
         } }
     {
         Session {
@@ -266,10 +266,10 @@ impl Session {
     ) -> Result<(), NoMemory>
         ensures appended { OnOk result (string_bytes into.new ≡ string_bytes into.old ++ accepted_line number next.state.count) }
         ensures next { self.new ≡ record {
-            suffixes = next.suffixes;
-            state = next.state;
-            updates = self.old.updates;
-            follows = self.old.follows;
+          suffixes = next.suffixes;
+          state = next.state;
+          updates = self.old.updates;
+          follows = self.old.follows;
         } }
     {
         let count = next.number();

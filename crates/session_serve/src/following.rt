@@ -56,7 +56,9 @@ fn tell_trace<H: RegexHost>(
     let _failed = finder.faults();
     match trace_of(alloc, generation, request, finder) {
         Ok(trace) => write_trace(alloc, number, &trace, into),
-        Err(FollowRefusal::HostFault(hop, rule)) => write_hop_fault(alloc, number, hop, &rule, into),
+        Err(FollowRefusal::HostFault(hop, rule)) => write_hop_fault(
+            alloc, number, hop, &rule, into,
+        ),
         Err(FollowRefusal::NoMemory) => Err(NoMemory),
     }
 }

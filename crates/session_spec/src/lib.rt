@@ -22,7 +22,8 @@ pub use examples::{
     updates_are_judged_in_turn, usage_is_for_bad_words,
 };
 pub use follow_examples::{
-    follow_explains_nothing, follow_takes_two_file_names, hops_of_faults_are_named, traces_are_listed,
+    follow_explains_nothing, follow_takes_two_file_names, hops_of_faults_are_named,
+    traces_are_listed,
 };
 pub use line_examples::{
     bad_lines_say_why, counts_are_said, explanations_are_listed, faults_name_their_rule,

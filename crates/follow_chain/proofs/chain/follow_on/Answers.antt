@@ -52,7 +52,7 @@ loop-place-preserved g c =
     let request = c.loop-place.request in
     let sent = sent_to c.in-Follows.view request in
     let added : Added known.suffixes known.state (20 - place) (20 - (place + 1)) hops more request (Follows c.in-Follows.view)
-        = record { one_left = omega arith; added = c.in_ok-end.ensures.hops; follows = sym c.in-Follows.is ∙ c.in_ok-end.ensures.next } in
+    = record { one_left = omega arith; added = c.in_ok-end.ensures.hops; follows = sym c.in-Follows.is ∙ c.in_ok-end.ensures.next } in
     record {
       count = added_length known.suffixes known.state hops more request c.in_ok-end.ensures.hops ∙ ap (λ n. n + 1) c.loop-place.invariant.count;
       frames = c.loop-place.invariant.frames;
