@@ -16,7 +16,8 @@ fn push_line<'a>(
     lines: &'a [HidingLine],
     place: usize,
 ) -> Result<(), NoMemory>
-    ensures { OnOk result (lines_seen found.new.items ≡ lines_seen found.old.items ++ lines_at (map hiding_seen lines.now) (place ∷ [])) }
+    ensures { OnOk result (lines_seen found.new.items
+        ≡ lines_seen found.old.items ++ lines_at (map hiding_seen lines.now) (place ∷ [])) }
 {
     if let Some(line) = lines.get(place) {
         found.push(line)?;
@@ -30,7 +31,8 @@ fn push_lines<'a>(
     lines: &'a [HidingLine],
     places: &[usize],
 ) -> Result<(), NoMemory>
-    ensures { OnOk result (lines_seen found.new.items ≡ lines_seen found.old.items ++ lines_at (map hiding_seen lines.now) places.now) }
+    ensures { OnOk result (lines_seen found.new.items
+        ≡ lines_seen found.old.items ++ lines_at (map hiding_seen lines.now) places.now) }
 {
     for place in places {
         push_line(found, lines, *place)?;
@@ -45,7 +47,8 @@ fn push_listed<'a>(
     index: &Index,
     domain: &str,
 ) -> Result<(), NoMemory>
-    ensures { OnOk result (lines_seen found.new.items ≡ lines_seen found.old.items ++ lines_at (map hiding_seen lines.now) (places_at index.now.listings domain.now)) }
+    ensures { OnOk result (lines_seen found.new.items ≡ lines_seen found.old.items
+        ++ lines_at (map hiding_seen lines.now) (places_at index.now.listings domain.now)) }
 {
     if let Some(places) = index.listings.get(domain) {
         push_lines(found, lines, places.as_slice())?;
@@ -53,8 +56,8 @@ fn push_listed<'a>(
     Ok(())
 }
 
-/// The lines with domains that may be for pages which these domains cover: those that list one of them, and those whose
-/// domains are all excluded.
+/// The lines with domains that may be for pages which these domains cover: those that list one of
+/// them, and those whose domains are all excluded.
 ///
 /// `NoMemory`: no memory is left for them.
 pub fn candidates<'a>(
@@ -63,7 +66,8 @@ pub fn candidates<'a>(
     index: &Index,
     domains: &[&str],
 ) -> Result<Vec<&'a HidingLine>, NoMemory>
-    ensures { IfOk result (λ found. lines_seen found.items ≡ found_for (map hiding_seen lines.now) index.now (texts_of domains.now)) }
+    ensures { IfOk result (λ found. lines_seen found.items
+        ≡ found_for (map hiding_seen lines.now) index.now (texts_of domains.now)) }
 {
     let mut found = Vec::new(alloc);
     push_lines(&mut found, lines, index.unlisted.as_slice())?;

@@ -12,8 +12,8 @@ use dnr_base::NoMemory;
 use std::alloc::Global;
 use std::collections::{BTreeMap, BTreeSet};
 
-/// Where the lines of a list are found: those without a domain by their selectors, which are sorted once, the others
-/// by their places in the list.
+/// Where the lines of a list are found: those without a domain by their selectors, which are sorted
+/// once, the others by their places in the list.
 #[derive(Drop)]
 pub struct Index {
     /// What lines without a domain hide.
@@ -35,7 +35,8 @@ fn is_general(line: &HidingLine) -> bool
 
 // Puts a line behind the others, if it has no domain.
 fn push_general<'a>(general: &mut Vec<&'a HidingLine>, line: &'a HidingLine) -> Result<(), NoMemory>
-    ensures { OnOk result (lines_seen general.new.items ≡ lines_seen general.old.items ++ filter is_general (hiding_seen line.now ∷ [])) }
+    ensures { OnOk result (lines_seen general.new.items
+        ≡ lines_seen general.old.items ++ filter is_general (hiding_seen line.now ∷ [])) }
 {
     if is_general(line) {
         general.push(line)?;
@@ -45,7 +46,8 @@ fn push_general<'a>(general: &mut Vec<&'a HidingLine>, line: &'a HidingLine) -> 
 
 // The lines without a domain.
 fn general_lines(alloc: Global, lines: &[HidingLine]) -> Result<Vec<&HidingLine>, NoMemory>
-    ensures { IfOk result (λ general. lines_seen general.items ≡ filter is_general (map hiding_seen lines.now)) }
+    ensures { IfOk result (λ general. lines_seen general.items
+        ≡ filter is_general (map hiding_seen lines.now)) }
 {
     let mut general = Vec::new(alloc);
     for line in lines {
@@ -63,7 +65,8 @@ fn is_unlisted(line: &HidingLine) -> bool
 
 // Puts the place of a line behind the others, if all its domains are excluded.
 fn push_unlisted(unlisted: &mut Vec<usize>, line: &HidingLine, place: usize) -> Result<(), NoMemory>
-    ensures { OnOk result (unlisted.new.items ≡ unlisted.old.items ++ (if is_unlisted (hiding_seen line.now) then place ∷ [] else [])) }
+    ensures { OnOk result (unlisted.new.items ≡ unlisted.old.items
+        ++ (if is_unlisted (hiding_seen line.now) then place ∷ [] else [])) }
 {
     if is_unlisted(line) {
         unlisted.push(place)?;

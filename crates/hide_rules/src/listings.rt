@@ -53,7 +53,8 @@ fn file_place(
     Ok(())
 }
 
-/// The places of lines by the domains that they list. A tree, so that no list of lines can be made to be slow.
+/// The places of lines by the domains that they list. It is a tree, so that no list can be written
+/// whose domains collide.
 ///
 /// `NoMemory`: no memory is left for them.
 pub fn listings_of(

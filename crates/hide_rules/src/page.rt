@@ -29,7 +29,8 @@ fn push_shown(
     kept: &BTreeSet<String>,
     selector: &String,
 ) -> Result<(), NoMemory>
-    ensures { OnOk result (texts.new.items ≡ texts.old.items ++ filter (is_shown index.now kept.now) (string_bytes selector.now ∷ [])) }
+    ensures { OnOk result (texts.new.items ≡ texts.old.items
+        ++ filter (is_shown index.now kept.now) (string_bytes selector.now ∷ [])) }
 {
     if is_shown(index, kept, selector) {
         let text = String::from_str(alloc, selector.as_str())?;
@@ -38,15 +39,16 @@ fn push_shown(
     Ok(())
 }
 
-// What lines without a domain hide and what others hide, but for what exceptions keep. Both sets are sorted, so it
-// takes no more than to walk along them.
+// What lines without a domain hide and what others hide, but for what exceptions keep. Both sets
+// are sorted, so nothing is sorted here.
 fn merged(
     alloc: Global,
     index: &Index,
     hidden: &BTreeSet<String>,
     kept: &BTreeSet<String>,
 ) -> Result<Vec<Text>, NoMemory>
-    ensures { IfOk result (λ texts. IsMerged (is_shown index.now kept.now) index.now.hidden hidden.now texts.items) }
+    ensures { IfOk result (λ texts.
+        IsMerged (is_shown index.now kept.now) index.now.hidden hidden.now texts.items) }
 {
     let mut texts = Vec::new(alloc);
     for selector in index.hidden.union(hidden) {
@@ -55,7 +57,8 @@ fn merged(
     Ok(texts)
 }
 
-/// The selectors of the lines that hide elements on the pages that these domains cover, ascending by bytes, each once.
+/// The selectors of the lines that hide elements on the pages that these domains cover, ascending
+/// by bytes, each once.
 ///
 /// `NoMemory`: no memory is left for them.
 pub fn hidden(
@@ -65,7 +68,8 @@ pub fn hidden(
     domains: &[&str],
 ) -> Result<Vec<Text>, NoMemory>
     requires { Indexes (map hiding_seen lines.now) index.now }
-    ensures { IfOk result (λ texts. texts.items ≡ hidden_by (texts_of domains.now) (map hiding_seen lines.now)) }
+    ensures { IfOk result (λ texts.
+        texts.items ≡ hidden_by (texts_of domains.now) (map hiding_seen lines.now)) }
 {
     let found = candidates(alloc, lines, index, domains)?;
     let hidden = selectors_of(alloc, found.as_slice(), domains, false)?;

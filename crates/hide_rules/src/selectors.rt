@@ -25,7 +25,8 @@ fn put_selector(
     domains: &[&str],
     exception: bool,
 ) -> Result<(), NoMemory>
-    ensures { OnOk result (PutsIn exception (texts_of domains.now) (hiding_seen line.now) set.old set.new) }
+    ensures { OnOk result
+        (PutsIn exception (texts_of domains.now) (hiding_seen line.now) set.old set.new) }
 {
     if is_kind(line, exception) && applies(line.domains.as_slice(), domains) {
         let selector = String::from_str(alloc, line.selector.as_str())?;
@@ -34,8 +35,8 @@ fn put_selector(
     Ok(())
 }
 
-/// The selectors of those lines that are for pages which these domains cover: of the exceptions, or else of the lines
-/// that hide elements.
+/// The selectors of those lines that are for pages which these domains cover: of the exceptions, or
+/// else of the lines that hide elements.
 ///
 /// `NoMemory`: no memory is left for them.
 pub fn selectors_of(
