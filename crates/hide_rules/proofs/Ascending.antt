@@ -1,18 +1,15 @@
 -- Texts in ascending order, each once.
-use Rattle.std.proofs.Common.{◌≡◌, List, [], ◌∷◌, map, ℕ, Bool, true, ◌⊎◌, inl, inr, refl, sym, ap, ◌∙◌, ⊎_elim, String, Global, string_bytes, string_cmp, nat_cmp}
+use Rattle.std.proofs.Common.{◌≡◌, List, [], ◌∷◌, map, ℕ, true, ◌⊎◌, inl, inr, refl, sym, ap, ◌∙◌, ⊎_elim, String, Global, string_bytes, string_cmp}
 use Rattle.std.specs.Prelude.{fold}
-use Rattle.std.specs.BTreeSet.{insert_key, BTreeSet}
+use Rattle.std.specs.BTreeSet.{insert_key}
 use Rattle.std.specs.BTreeMap.{is_at}
-use Rattle.std.specs.Cmp.{IsTotalOrder}
-use Rattle.std.specs.Cmp.Lexicographic.{slice_cmp}
 use Rattle.std.specs.List.{AllByRecursion, list_any}
 use Rattle.std.specs.List.Sorted.{IsStrictlySortedBy}
-use Rattle.std.specs.Ordering.{match_ordering, ordering_reverse, is_eq}
+use Rattle.std.specs.Ordering.{match_ordering, ordering_reverse}
 use Rattle.std.specs.declared.cmp.Ordering.{Ordering}
 use Rattle.std.specs.declared.cmp.Ordering.TheVariants.{Less, Equal, Greater}
 use Rattle.std.proofs.lemmas.Cmp.{nat_list_cmp_total}
 use Rattle.std.proofs.lemmas.Map.Lookups.{btree_set_from_contains, exact_bytes}
-use Rattle.std.proofs.lemmas.Map.Views.{tells_apart}
 use Rattle.hide_spec.specs.Hidden.{ascending}
 use Rattle.hide_rules.specs.Merged.{Ascends, text_cmp}
 use Rattle.hide_rules.specs.Members.{In}

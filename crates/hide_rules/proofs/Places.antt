@@ -1,7 +1,7 @@
 -- Lines at places, and the places of lines.
-use Rattle.std.proofs.Common.{◌≡◌, ◌<◌, ◌+◌, ℕ, zero, suc, List, [], ◌∷◌, ◌++◌, length, take, get_or, map, Bool, true, false, not, ◌&&◌, ◌||◌, ◌==◌, ◌⊎◌, inl, inr, refl, sym, ap, ◌∙◌, subst, ⊎_elim, arith, Option, None, Some}
+use Rattle.std.proofs.Common.{◌≡◌, ℕ, zero, suc, List, [], ◌∷◌, length, Bool, true, false, not, ◌&&◌, ◌||◌, ◌==◌, ◌⊎◌, inl, inr, refl, sym, ap, ◌∙◌, subst, ⊎_elim, arith, Option, None, Some}
 use Rattle.std.specs.Prelude.{filter, unwrap_or}
-use Rattle.std.specs.List.{slice_get, filter_map, cons_option, list_any}
+use Rattle.std.specs.List.{slice_get, cons_option, list_any}
 use Rattle.std.specs.Str.{bytes_eq}
 use Rattle.std.proofs.lemmas.Bool.{and_parts, and_from, or_cases, or_left, or_right, not_from_false, cases_Bool, cond-true, cond-false, eqb-true}
 use Rattle.list_spec.specs.declared.domain_entry.DomainEntry.{DomainEntry}
@@ -11,7 +11,7 @@ use Rattle.hide_spec.specs.HidingLine.{HidingLine}
 use Rattle.hide_rules.specs.declared.index.Index.{Index}
 use Rattle.hide_rules.specs.Ends.{or_else, said, applies_by}
 use Rattle.hide_rules.specs.Index.{Indexes, listed_at, found_for}
-use Rattle.hide_rules.specs.Listings.{Listings, is_general, is_unlisted, lines_at, places_at}
+use Rattle.hide_rules.specs.Listings.{Listings, is_general, lines_at, places_at}
 use Rattle.hide_rules.specs.Members.{In}
 use Rattle.hide_rules.specs.Selectors.{is_kind, speaks_of}
 use Rattle.hide_rules.proofs.Members.{same_answer, any_out, any_in, in_filtered, in_unfiltered, in_before, in_behind, in_either}

@@ -1,5 +1,5 @@
 -- What a page shows by an index is what its lines hide.
-use Rattle.std.proofs.Common.{◌≡◌, ℕ, List, [], ◌∷◌, ◌++◌, append_assoc, cond, map, Bool, true, false, not, ◌&&◌, ◌||◌, ◌⊎◌, inl, inr, refl, sym, ap, ◌∙◌, subst, ⊎_elim, String, Global, string_bytes, string_cmp, nat_cmp}
+use Rattle.std.proofs.Common.{◌≡◌, ℕ, List, [], ◌∷◌, ◌++◌, append_assoc, cond, map, Bool, true, false, not, ◌&&◌, ◌||◌, refl, sym, ap, ◌∙◌, subst, ⊎_elim, String, Global, string_bytes, string_cmp, nat_cmp}
 use Rattle.std.specs.Prelude.{filter}
 use Rattle.std.specs.BTreeMap.{is_at}
 use Rattle.std.specs.BTreeSet.{BTreeSet, contains_text}
@@ -9,12 +9,11 @@ use Rattle.std.specs.List.Sorted.{IsStrictlySortedBy}
 use Rattle.std.specs.Ordering.{eq_by_cmp}
 use Rattle.std.specs.Set.{IsUnion, is_member}
 use Rattle.std.specs.Str.{bytes_eq}
-use Rattle.std.proofs.lemmas.Bool.{and_parts, and_from, or_cases, or_left, or_right}
+use Rattle.std.proofs.lemmas.Bool.{and_parts, and_from, or_cases}
 use Rattle.std.proofs.lemmas.List.Kept.{IsStrictlySortedBy-filter}
 use Rattle.std.proofs.lemmas.Map.Text.{is_eq-slice_cmp}
 use Rattle.std.proofs.lemmas.Slice.Eq.{bytes_eq-Decides}
 use Rattle.hide_spec.specs.HidingLine.{HidingLine}
-use Rattle.hide_spec.specs.Hidden.{ascending}
 use Rattle.hide_rules.specs.declared.index.Index.{Index}
 use Rattle.hide_rules.specs.Ends.{applies_by}
 use Rattle.hide_rules.specs.Index.{Indexes, found_for, is_shown}

@@ -1,7 +1,6 @@
 use Rattle.std.proofs.Common.{◌++◌, List, ℕ, map, drop, ◌+◌, sym, ap, ◌∙◌, append_assoc}
 use Rattle.hide_spec.specs.HidingLine.{HidingLine}
 use Rattle.hide_rules.specs.Index.{listed_at}
-use Rattle.hide_rules.specs.Listings.{lines_at, places_at}
 use Rattle.hide_rules.specs.Seen.{hiding_seen, lines_seen}
 use Rattle.hide_rules.specs.Texts.{texts_of}
 use Rattle.hide_rules.proofs.Named.{first_left}

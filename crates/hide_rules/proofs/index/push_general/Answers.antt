@@ -1,6 +1,5 @@
-use Rattle.std.proofs.Common.{◌++◌, List, [], ◌∷◌, cond, Bool, sym, ap, ◌∙◌}
+use Rattle.std.proofs.Common.{◌++◌, [], ◌∷◌, cond, Bool, sym, ap, ◌∙◌}
 use Rattle.std.proofs.lemmas.List.{append-nil}
-use Rattle.hide_spec.specs.HidingLine.{HidingLine}
 use Rattle.hide_rules.specs.Seen.{hiding_seen, lines_seen}
 use Rattle.hide_rules.proofs.Filed.{seen_more}
 use Rattle.hide_rules.proofs.index.push_general.Goals as goal

@@ -1,5 +1,4 @@
-use Rattle.std.proofs.Common.{List, map, get_or}
-use Rattle.hide_spec.specs.HidingLine.{HidingLine}
+use Rattle.std.proofs.Common.{map}
 use Rattle.hide_rules.specs.Seen.{hiding_seen}
 use Rattle.hide_rules.proofs.Filed.{unlisted_more}
 use Rattle.hide_rules.proofs.Pages.{item_seen, within_seen}
