@@ -1,10 +1,14 @@
+pub mod Ascending
 pub mod Domains
 pub mod Dots
 pub mod Faults
+pub mod Filed
 pub mod Longest
 pub mod Members
 pub mod Named
 pub mod Pages
+pub mod Places
 pub mod Separators
+pub mod Shown
 pub mod Spaces
 pub mod Walk

@@ -13,7 +13,8 @@ use Rattle.list_spec.specs.declared.domain_entry.DomainEntry.{DomainEntry}
 use Rattle.list_spec.specs.Entries.{is_listed, is_excluded}
 use Rattle.list_spec.specs.Says.{is_longest, lists_none, longest_is_listed, is_for}
 use Rattle.hide_rules.specs.Ends.{ends_behind, ends_of, or_else, said, applies_by}
-use Rattle.hide_rules.proofs.Members.{In, same_answer, any_out, any_in, all_in, all_from, in_filtered, in_unfiltered, filter_same}
+use Rattle.hide_rules.specs.Members.{In}
+use Rattle.hide_rules.proofs.Members.{same_answer, any_out, any_in, all_in, all_from, in_filtered, in_unfiltered, filter_same}
 
 -- ---- what covers a host
 

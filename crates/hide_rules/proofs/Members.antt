@@ -1,12 +1,9 @@
 -- Members of a list, and tests of them.
-use Rattle.std.proofs.Common.{◌≡◌, List, [], ◌∷◌, map, Bool, true, false, cond, ◌⊎◌, inl, inr, refl, sym, ap, ◌∙◌, ⊎_elim}
+use Rattle.std.proofs.Common.{◌≡◌, List, [], ◌∷◌, ◌++◌, map, Bool, true, false, cond, ◌⊎◌, inl, inr, refl, sym, ap, ◌∙◌, ⊎_elim}
 use Rattle.std.specs.Prelude.{filter}
 use Rattle.std.specs.List.{list_any, list_all}
+use Rattle.hide_rules.specs.Members.{In}
 use Rattle.std.proofs.lemmas.Bool.{and_parts, and_from, or_cases, or_left, or_right}
-
-abbrev pub In : {X : Type 0} → X → List X → Type 0
-In x [] = ⊥
-In x (y ∷ ys) = (y ≡ x) ⊎ In x ys
 
 pub same_answer : (a b : Bool) → (a ≡ true → b ≡ true) → (b ≡ true → a ≡ true) → a ≡ b
 same_answer true b to from = sym (to refl)
@@ -74,3 +71,18 @@ module _ {X Y : Type 0} where
   in_unmapped f y [] i = absurd i
   in_unmapped f y (x ∷ xs) (inl e) = (x, inl refl, e)
   in_unmapped f y (x ∷ xs) (inr i) = let r = in_unmapped f y xs i in (r.0, inr r.1, r.2)
+
+module _ {X : Type 0} where
+  pub in_before : (x : X) (xs ys : List X) → In x xs → In x (xs ++ ys)
+  in_before x [] ys i = absurd i
+  in_before x (y ∷ xs) ys (inl e) = inl e
+  in_before x (y ∷ xs) ys (inr i) = inr (in_before x xs ys i)
+
+  pub in_behind : (x : X) (xs ys : List X) → In x ys → In x (xs ++ ys)
+  in_behind x [] ys i = i
+  in_behind x (y ∷ xs) ys i = inr (in_behind x xs ys i)
+
+  pub in_either : (x : X) (xs ys : List X) → In x (xs ++ ys) → In x xs ⊎ In x ys
+  in_either x [] ys i = inr i
+  in_either x (y ∷ xs) ys (inl e) = inl (inl e)
+  in_either x (y ∷ xs) ys (inr i) = ⊎_elim (λ before. inl (inr before)) (λ behind. inr behind) (in_either x xs ys i)

@@ -19,7 +19,7 @@ lent_at [] (suc i) text = refl
 lent_at (first ∷ lent) zero text = refl
 lent_at (first ∷ lent) (suc i) text = lent_at lent i text
 
-first_left : (lent : List (Bor (List ℕ))) (i : ℕ) (none : Bor (List ℕ)) → i < length lent → drop i (texts_of lent) ≡ (get_or lent i none).now ∷ drop (i + 1) (texts_of lent)
+pub first_left : (lent : List (Bor (List ℕ))) (i : ℕ) (none : Bor (List ℕ)) → i < length lent → drop i (texts_of lent) ≡ (get_or lent i none).now ∷ drop (i + 1) (texts_of lent)
 first_left lent i none inside =
     let within : i < length (texts_of lent) = omega (arith, length-map lent (λ text. text.now)) in
     drop_more (texts_of lent) i none.now within ∙ ap (λ (d : List ℕ). d ∷ drop (i + 1) (texts_of lent)) (lent_at lent i none)

@@ -1,6 +1,11 @@
 pub mod Ends
+pub mod Index
+pub mod Listings
+pub mod Members
+pub mod Merged
 pub mod Page
 pub mod Read
 pub mod Seen
+pub mod Selectors
 pub mod Taken
 pub mod Texts

@@ -6,6 +6,7 @@ ghost use Rattle.hide_spec.specs.Report.{hide_report};
 ghost use Rattle.hide_rules.specs.Taken.{CountsTooMany};
 
 use crate::ends::ends_of;
+use crate::index::{Index, index_of};
 use crate::line::HidingLine;
 use crate::list::{HideRefusal, read_lines};
 use crate::page::hidden;
@@ -19,16 +20,20 @@ use std::marker::Model;
 #[derive(Drop)]
 pub struct HideList {
     lines: Vec<HidingLine>,
+    index: Index,
 }
 
 impl Model for HideList {
     ghost use Rattle.std.specs.Prelude.{List, map};
     ghost use Rattle.hide_spec.specs.HidingLine as spec;
+    ghost use Rattle.hide_rules.specs.Index.{Indexes};
     ghost use Rattle.hide_rules.specs.Seen.{hiding_seen};
 
     ghost Value = { List spec.HidingLine };
 
     ghost view = { λ list. map hiding_seen list.lines.items };
+
+    ghost invariant = { λ list. Indexes (map hiding_seen list.lines.items) list.index };
 }
 
 impl HideList {
@@ -47,7 +52,11 @@ impl HideList {
         ensures too_many { IfErr result (CountsTooMany (hiding_lines (lines_of lines.now))) }
     {
         let taken = read_lines(alloc, lines)?;
-        let list = HideList { lines: taken.lines };
+        let index = index_of(alloc, taken.lines.as_slice())?;
+        let list = HideList {
+            lines: taken.lines,
+            index,
+        };
         Ok((list, taken.reported))
     }
 
@@ -60,7 +69,7 @@ impl HideList {
         ensures { IfOk result (λ texts. texts.items ≡ hidden_by self.now host.now) }
     {
         let ends = ends_of(alloc, host)?;
-        let texts = hidden(alloc, self.lines.as_slice(), ends.as_slice())?;
+        let texts = hidden(alloc, self.lines.as_slice(), &self.index, ends.as_slice())?;
         Ok(texts)
     }
 }

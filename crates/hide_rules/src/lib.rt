@@ -4,12 +4,17 @@
 //! What a line says, what a page hides and which lines are reported stands in `hide_spec`.
 #![tactic(auto)]
 
+mod applies;
+mod candidates;
 mod ends;
 mod entries;
 mod hide_list;
+mod index;
 mod line;
 mod list;
+mod listings;
 mod page;
+mod selectors;
 mod separator;
 mod text;
 

@@ -1,13 +1,17 @@
-use Rattle.std.proofs.Common.{List, ℕ, map, sym, ap, ◌∙◌}
+use Rattle.std.proofs.Common.{List, ℕ, map, sym, ap, ◌∙◌, subst}
 use Rattle.std.specs.Borrow.{Bor}
 use Rattle.hide_spec.specs.HidingLine.{HidingLine}
 use Rattle.hide_rules.specs.declared.line.HidingLine as own
 use Rattle.hide_rules.specs.Ends.{ends_of}
+use Rattle.hide_rules.specs.Index.{Indexes}
 use Rattle.hide_rules.specs.Page.{hidden_by}
 use Rattle.hide_rules.specs.Seen.{hiding_seen}
 use Rattle.hide_rules.specs.Texts.{texts_of}
 use Rattle.hide_rules.proofs.Pages.{page_by_ends}
 use Rattle.hide_rules.proofs.hide_list.HideList.selectors.Goals as goal
+
+pub hidden-requires : goal.hidden-requires
+hidden-requires c = subst (λ (lines : List own.HidingLine). Indexes (map hiding_seen lines) c.self.inside.index) (sym c.as_slice.ensures.value) c.self.invariant
 
 pub returns : goal.returns
 returns c =

@@ -1,6 +1,6 @@
 use Rattle.std.proofs.Common.{sym, ◌∙◌}
 use Rattle.hide_rules.proofs.Named.{listed_decides, excluded_decides, unnamed_passes}
-use Rattle.hide_rules.proofs.page.applies.Goals as goal
+use Rattle.hide_rules.proofs.applies.applies.Goals as goal
 
 pub returns-then-is_listed : goal.returns-then-is_listed
 returns-then-is_listed c =
