@@ -1,8 +1,8 @@
 -- Of two rules of a list, whose ids differ, that of the smaller place stands earlier.
-use Rattle.std.proofs.Common.{◌≡◌, ℕ, zero, suc, List, [], ◌∷◌, Bool, true, false, not, ◌&&◌, ◌||◌, ◌==◌, Option, Some, None, refl, sym, ap, ◌∙◌, ⊎_elim, arith}
+use Rattle.std.proofs.Common.{◌≡◌, ℕ, zero, suc, List, [], ◌∷◌, true, false, not, ◌&&◌, ◌||◌, ◌==◌, Some, sym, ap, ◌∙◌, arith}
 use Rattle.std.specs.Prelude.{nat_lt}
-use Rattle.std.specs.List.{list_any, slice_get}
-use Rattle.std.proofs.lemmas.Bool.{or_cases, or_parts, or_left, or_right, true≢false, false_from_ne_true, eq-eqb, eqb-true}
+use Rattle.std.specs.List.{slice_get}
+use Rattle.std.proofs.lemmas.Bool.{or_left, or_right, true≢false, false_from_ne_true, eq-eqb, eqb-true}
 use Rattle.std.proofs.lemmas.Bool.Decides.{nat_tests}
 use Rattle.rule_spec.specs.Rule.{Rule}
 use Rattle.prune_spec.specs.Shadows.{shadows}

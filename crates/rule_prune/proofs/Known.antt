@@ -1,9 +1,8 @@
 -- What `check` looks up is what the definitions say of rules and of a proof.
-use Rattle.std.proofs.Common.{◌≡◌, ℕ, ◌+◌, List, [], ◌∷◌, take, Bool, not, ◌&&◌, Option, Some, None, sym, ap, ◌∙◌}
+use Rattle.std.proofs.Common.{◌≡◌, ℕ, List, Bool, not, ◌&&◌, Option, Some, None}
 use Rattle.std.specs.Prelude.{is_some, if◌then◌else◌}
 use Rattle.rule_spec.specs.Rule.{Rule}
 use Rattle.prune_spec.specs.declared.shadow.Shadow.{Shadow}
-use Rattle.prune_spec.specs.declared.check_refusal.CheckRefusal.{CheckRefusal}
 use Rattle.prune_spec.specs.declared.check_refusal.CheckRefusal.TheVariants.{UnknownId, RemovedTwice, KeeperRemoved, NotShadowed}
 use Rattle.prune_spec.specs.Pruned.{is_removed, rule_of, is_shadowed, fault_of}
 use Rattle.rule_prune.specs.Known.{fault_by}

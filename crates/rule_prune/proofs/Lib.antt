@@ -3,6 +3,7 @@ pub mod Sets
 pub mod Faults
 pub mod Known
 pub mod Earlier
+pub mod Tested
 pub mod Nearest
 pub mod Places
 pub mod Tables

@@ -1,5 +1,5 @@
 -- The first place that passes a test, of those that are looked at.
-use Rattle.std.proofs.Common.{◌≡◌, ℕ, zero, suc, ◌+◌, take, length, get_or, ◌≤◌, ◌<◌, List, [], ◌∷◌, ◌++◌, fold, Bool, true, false, cond, ◌&&◌, ◌||◌, ◌==◌, Option, Some, None, refl, sym, ap, ◌∙◌, subst, ⊎_elim, arith}
+use Rattle.std.proofs.Common.{◌≡◌, ℕ, zero, suc, ◌+◌, take, length, get_or, ◌≤◌, ◌<◌, List, [], ◌∷◌, ◌++◌, Bool, true, false, cond, ◌&&◌, ◌||◌, ◌==◌, Option, Some, None, refl, sym, ap, ◌∙◌, subst, ⊎_elim, arith}
 use Rattle.std.specs.Prelude.{nat_lt, IfSome, IsSomeAnd, option_and_then}
 use Rattle.std.specs.List.{list_any, slice_get, find}
 use Rattle.std.specs.Option.{option_map_or}

@@ -1,7 +1,7 @@
 -- Which places are looked at for a rule: all of those whose rules may make it needless.
 use Rattle.std.proofs.Common.{◌≡◌, ℕ, List, [], ◌∷◌, ◌++◌, bytes_eq, Bool, true, false, cond, not, ◌&&◌, ◌||◌, ◌==◌, Option, Some, None, refl, sym, ap, ◌∙◌, subst, ⊎_elim}
 use Rattle.std.specs.Prelude.{nat_eq, IfSome, unwrap_or}
-use Rattle.std.specs.List.{list_any, slice_get, ends_with}
+use Rattle.std.specs.List.{slice_get, ends_with}
 use Rattle.std.proofs.lemmas.Bool.{and_parts, or_cases, or_left, or_right, true≢false, cases_Bool}
 use Rattle.std.proofs.lemmas.Slice.Eq.{bytes_eq-Decides}
 use Rattle.domain_set.specs.Rests.{some_rest}
@@ -119,4 +119,4 @@ complete rules filters listed gone place s at other h =
     by (Some k) e t =
         let out : outdoes rules k s ≡ true = sym (ap (λ (p : Option Rule). one_outdoes rules p (Some s)) e) ∙ t in
         let shadow = (and_parts (shadows k s) (not (shadows s k) || stands_earlier rules k s) out).0 in
-        is_candidate filters other k.condition s.condition (listed other k e) (is_weaker k s shadow)
+        is_candidate filters other k.condition s.condition (listed.places other k e) (is_weaker k s shadow)

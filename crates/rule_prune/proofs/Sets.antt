@@ -45,6 +45,10 @@ module _ {X : Type 0} (place : X → ℕ) (all : List X) (in_all : (x : X) → I
       (λ none. or_left (not (has small x)) (has big x) (not_from_false (has small x) none))
       (true_or_false (has small x))))
 
+  pub each_itself : (list : List X) → list_all (has list) list ≡ true
+  each_itself list =
+      all_pass (has list) list (in_each (λ x. has list x ≡ true) list (λ x i. any_in (λ other. place x == place other) x list i (eq-eqb (place x) (place x) refl)))
+
   pub walks : list_all kept all ≡ list_all (has big) small
   walks = same_truth (list_all kept all) (list_all (has big) small) walked listed
 
@@ -81,3 +85,11 @@ kinds_walked big small = walks kinds.place_of all_kinds in_kinds big small
 
 pub methods_walked : (big small : List Method) → list_all (λ x. not (has_method small x) || has_method big x) all_methods ≡ list_all (has_method big) small
 methods_walked big small = walks methods.place_of all_methods in_methods big small
+
+-- ---- equal sets
+
+pub kinds_equal : (big small : List Kind) → big ≡ small → list_all (has_kind big) small ≡ true
+kinds_equal big small same = ap (λ l. list_all (has_kind l) small) same ∙ each_itself kinds.place_of all_kinds in_kinds small small small
+
+pub methods_equal : (big small : List Method) → big ≡ small → list_all (has_method big) small ≡ true
+methods_equal big small same = ap (λ l. list_all (has_method l) small) same ∙ each_itself methods.place_of all_methods in_methods small small small

@@ -1,8 +1,8 @@
 -- Places of rules in tables by their texts.
-use Rattle.std.proofs.Common.{◌≡◌, ℕ, ◌+◌, ◌<◌, zero, suc, ◌⊎◌, inl, inr, List, [], ◌∷◌, ◌++◌, drop, length, bytes_eq, Bool, true, false, cond, ◌||◌, ◌==◌, Option, Some, None, Vec, Global, refl, sym, ap, ◌∙◌, subst, ⊎_elim, arith}
+use Rattle.std.proofs.Common.{◌≡◌, ℕ, ◌+◌, ◌<◌, suc, ◌⊎◌, inl, inr, List, [], ◌∷◌, ◌++◌, drop, length, bytes_eq, Bool, true, false, cond, ◌==◌, Option, Some, None, Vec, Global, refl, sym, ap, ◌∙◌, subst, ⊎_elim, arith}
 use Rattle.std.specs.Prelude.{IfSome}
 use Rattle.std.specs.List.{slice_get, after_first, position_or_len}
-use Rattle.std.proofs.lemmas.Bool.{cases_Bool, cond-true, cond-false, or_left, eq-eqb, eqb-true, cases_lt}
+use Rattle.std.proofs.lemmas.Bool.{cases_Bool, cond-true, cond-false, or_left, eq-eqb, cases_lt}
 use Rattle.std.proofs.lemmas.Slice.Eq.{bytes_eq-Decides}
 use Rattle.rule_spec.specs.Rule.{Condition, Rule}
 use Rattle.prune_spec.specs.Shadows.{has_no_filter, filter_domain}
@@ -51,9 +51,10 @@ other_stays : (b : Bool) (list : List ℕ) (place other : ℕ) → has_place lis
 other_stays true list place other h = has_front list (place ∷ []) other h
 other_stays false list place other h = h
 
-pub takes_in : (old new : Filters) (place : ℕ) (c : Condition) → new.others.items ≡ cond (has_no_filter c) (old.others.items ++ place ∷ []) old.others.items
+pub takes_in : (old new : Filters) (place : ℕ) (c : Condition) → new.digests.items ≡ old.digests.items → new.others.items ≡ cond (has_no_filter c) (old.others.items ++ place ∷ []) old.others.items
     → AddsGiven old.patterns new.patterns c.url_filter place → AddsGiven old.domains new.domains (filter_domain c) place → AddsGiven old.expressions new.expressions c.regex_filter place → Takes old new place c
-takes_in old new place c others patterns domains expressions = record {
+takes_in old new place c digests others patterns domains expressions = record {
+  digests = digests;
   here = record {
     other = λ none.
         ap (λ l. has_place l place) (others ∙ cond-true (has_no_filter c) (old.others.items ++ place ∷ []) old.others.items none)

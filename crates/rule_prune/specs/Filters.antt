@@ -8,8 +8,10 @@ use Rattle.std.specs.declared.alloc.Global.{Global}
 use Rattle.std.specs.BTreeMap.{BTreeMap, get_by}
 use Rattle.rule_spec.specs.Rule.{Condition, Rule}
 use Rattle.prune_spec.specs.Shadows.{has_no_filter, filter_domain}
-use Rattle.prune_spec.specs.Pruned.{outdoes}
+use Rattle.prune_spec.specs.Pruned.{IdsDiffer, outdoes}
+use Rattle.rule_prune.specs.Digests.{digests_of}
 use Rattle.rule_prune.specs.declared.filters.Filters.{Filters}
+use Rattle.rule_prune.specs.declared.outdone.Search.{Search}
 
 -- ---- the places under a text
 
@@ -48,15 +50,17 @@ pub record IsListed (filters : Filters) (place : ℕ) (condition : Condition) : 
 pub record Takes (old new : Filters) (place : ℕ) (condition : Condition) : Type 0 where
   pub here : IsListed new place condition
   pub others : (other : ℕ) (its : Condition) → IsListed old other its → IsListed new other its
+  pub digests : new.digests.items ≡ old.digests.items
 
 -- the rules before this place are listed
 abbrev pub AreListedBelow : Filters → List Rule → ℕ → Type 0
 AreListedBelow filters rules end =
     (place : ℕ) (rule : Rule) → place < end → slice_get rules place ≡ Some rule → IsListed filters place rule.condition
 
--- every rule is listed
-abbrev pub AreListed : Filters → List Rule → Type 0
-AreListed filters rules = (place : ℕ) (rule : Rule) → slice_get rules place ≡ Some rule → IsListed filters place rule.condition
+-- every rule is listed, and has its digest
+pub record AreListed (filters : Filters) (rules : List Rule) : Type 0 where
+  pub places : (place : ℕ) (rule : Rule) → slice_get rules place ≡ Some rule → IsListed filters place rule.condition
+  pub digests : filters.digests.items ≡ digests_of rules
 
 -- ---- the places that are looked at for a rule
 
@@ -82,6 +86,11 @@ candidates filters s =
     ++ under_given filters.expressions s.regex_filter
 
 -- ---- the first that outdoes a rule
+
+-- the ids of its rules differ, and they have their digests
+pub record IsReady (search : Search) : Type 0 where
+  pub ids : IdsDiffer search.rules.now
+  pub digests : search.digests.now ≡ digests_of search.rules.now
 
 abbrev pub one_outdoes : List Rule → Option Rule → Option Rule → Bool
 one_outdoes rules None s = false

@@ -1,3 +1,4 @@
 pub mod Known
 pub mod Filters
 pub mod Walks
+pub mod Digests

@@ -1,5 +1,5 @@
 -- The walk over a list that finds its removals.
-use Rattle.std.specs.Prelude.{ℕ, List, [], if◌then◌else◌}
+use Rattle.std.specs.Prelude.{List, [], if◌then◌else◌}
 use Rattle.std.specs.List.{find}
 use Rattle.rule_spec.specs.Rule.{Rule}
 use Rattle.prune_spec.specs.declared.shadow.Shadow.{Shadow}

@@ -5,6 +5,7 @@ ghost use Rattle.std.specs.Option.{option_copied};
 ghost use Rattle.prune_spec.specs.Shadows as spec;
 ghost use Rattle.rule_prune.specs.Filters.{Adds, AddsGiven, AreListed, Takes};
 
+use crate::digests::digests_of;
 use crate::shadowing::{filter_domain, has_no_filter};
 use dnr_base::NoMemory;
 use dnr_rules::{Condition, Rule};
@@ -24,6 +25,8 @@ pub(crate) struct Filters<'a> {
     pub domains: Table<'a>,
     // by the text of the regexFilter
     pub expressions: Table<'a>,
+    // of each rule, a number made of what it tests of response headers
+    pub digests: Vec<Option<u32>>,
 }
 
 // Puts a place behind those under this text.
@@ -81,12 +84,15 @@ pub(crate) fn expression_text(condition: &Condition) -> Option<&str>
 }
 
 impl<'a> Filters<'a> {
-    fn new(alloc: Global) -> Filters<'a> {
+    fn new(alloc: Global, digests: Vec<Option<u32>>) -> Filters<'a>
+        ensures { result.digests.items ≡ digests.items }
+    {
         Filters {
             others: Vec::new(alloc),
             patterns: BTreeMap::new(alloc),
             domains: BTreeMap::new(alloc),
             expressions: BTreeMap::new(alloc),
+            digests,
         }
     }
 
@@ -114,7 +120,7 @@ impl<'a> Filters<'a> {
     pub(crate) fn of(alloc: Global, rules: &'a [Rule]) -> Result<Filters<'a>, NoMemory>
         ensures { IfOk result (λ filters. AreListed filters rules.now) }
     {
-        let mut filters = Filters::new(alloc);
+        let mut filters = Filters::new(alloc, digests_of(alloc, rules)?);
         for place in 0..rules.len() {
             filters.take(alloc, place, rules[place].condition())?;
         }

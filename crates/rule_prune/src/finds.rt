@@ -26,7 +26,12 @@ fn is_needless(rules: &[Rule], filters: &Filters<'_>, place: usize, s: &Rule) ->
     ensures { result ≡ spec.is_needless rules.now s.now }
 {
     let gone: &[bool] = &[];
-    let search = Search { rules, gone, place };
+    let search = Search {
+        rules,
+        digests: filters.digests.as_slice(),
+        gone,
+        place,
+    };
     search.first(filters, s.condition()).is_some()
 }
 
@@ -59,6 +64,7 @@ fn keeper_of<'a>(
 {
     let search = Search {
         rules,
+        digests: filters.digests.as_slice(),
         gone: needless,
         place,
     };
@@ -125,7 +131,8 @@ fn removals_of(alloc: Global, rules: &[Rule]) -> Result<Vec<Shadow>, NoMemory>
 ///
 /// A rule is compared with those alone that may make it needless: those with an equal `urlFilter`,
 /// those whose `urlFilter` is the plain domain of its own or one above that, those with an equal
-/// `regexFilter`, and those without a filter. It takes memory for some places a rule.
+/// `regexFilter`, and those without a filter. Most that differ in what they test of response headers
+/// are told apart by one number each. It takes memory for some numbers a rule.
 ///
 /// # Errors
 ///

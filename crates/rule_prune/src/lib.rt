@@ -5,6 +5,7 @@
 #![tactic(auto)]
 
 mod checks;
+mod digests;
 mod filters;
 mod finds;
 mod lists;

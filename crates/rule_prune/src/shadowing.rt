@@ -168,7 +168,7 @@ fn tests_no_others(k: &Condition, s: &Condition) -> bool
             && same_tests(k.not_header_tests(), s.not_header_tests()))
 }
 
-fn has_no_tests(tests: Option<&Items<HeaderTest>>, others: &[HeaderTest]) -> bool
+pub(crate) fn has_no_tests(tests: Option<&Items<HeaderTest>>, others: &[HeaderTest]) -> bool
     ensures { result ≡ spec.has_no_tests (option_copied tests.entry) others.now }
 {
     tests.is_none() && others.is_empty()

@@ -1,10 +1,10 @@
-use Rattle.std.proofs.Common.{sym, ap, ◌∙◌}
-use Rattle.std.specs.Option.{option_copied}
-use Rattle.rule_prune.proofs.Earlier.{outdone_by_place}
+use Rattle.std.specs.List.{slice_get}
+use Rattle.rule_prune.specs.Filters.{one_outdoes}
+use Rattle.rule_prune.proofs.Tested.{never_outdone}
 use Rattle.rule_prune.proofs.outdone.Search.is_outdone_by.Goals as goal
 
 pub returns : goal.returns
 returns c =
-    let at = sym c.rule_at.ensures ∙ ap option_copied c.in-Some.is in
-    let its = sym c.rule_at-2.ensures ∙ ap option_copied c.in-Some-rule_at.is in
-    c.outdoes.ensures ∙ outdone_by_place c.args.self.now.rules.now c.requires c.args.other c.args.self.now.place c.in-Some.k.now c.in-Some-rule_at.s.now at its
+    let search = c.args.self.now in
+    let rules = search.rules.now in
+    never_outdone c.may_be_outdone_by.result (one_outdoes rules (slice_get rules c.args.other) (slice_get rules search.place)) c.may_be_outdone_by.ensures c.if-may_be_outdone_by.false
