@@ -1,7 +1,7 @@
-use Rattle.std.proofs.Common.{◌≡◌, suc, ◌+◌, ◌-◌, length, refl, sym, ap, ◌∙◌, arith}
+use Rattle.std.proofs.Common.{◌+◌, ◌-◌, length, refl, sym, ap, ◌∙◌, arith}
 use Rattle.std.proofs.lemmas.Result.{err_from_is_err_and}
 use Rattle.index_spec.specs.Pairs.{pairs_of}
-use Rattle.follow_spec.specs.declared.next.Next.TheVariants.{Ends, Follows}
+use Rattle.follow_spec.specs.declared.next.Next.TheVariants.{Follows}
 use Rattle.follow_spec.specs.Trace.{Trace, requests_from, sent_to, trace_from}
 use Rattle.std.specs.Prelude.{sum_by}
 use Rattle.follow_chain.specs.Refused.{IsBlamed, IsBlamedAt}
@@ -52,7 +52,7 @@ loop-place-preserved g c =
     let request = c.loop-place.request in
     let sent = sent_to c.in-Follows.view request in
     let added : Added known.suffixes known.state (20 - place) (20 - (place + 1)) hops more request (Follows c.in-Follows.view)
-        = record { one_left = omega arith; added = c.in_ok-end.ensures.hops; follows = sym c.in-Follows.is ∙ c.in_ok-end.ensures.next } in
+    = record { one_left = omega arith; added = c.in_ok-end.ensures.hops; follows = sym c.in-Follows.is ∙ c.in_ok-end.ensures.next } in
     record {
       count = added_length known.suffixes known.state hops more request c.in_ok-end.ensures.hops ∙ ap (λ n. n + 1) c.loop-place.invariant.count;
       frames = c.loop-place.invariant.frames;
