@@ -1,4 +1,4 @@
-ghost use Rattle.std.specs.Prelude.{◌≡◌, ◌≤◌, ◌<◌, ◌+◌, ◌-◌, length, sum_by, IfOk, OnOk};
+ghost use Rattle.std.specs.Prelude.{◌≡◌, ◌≤◌, ◌+◌, length, sum_by, IfOk, OnOk};
 ghost use Rattle.dnr_base.specs.Request.{max_frames};
 ghost use Rattle.follow_chain.specs.Refused.{Ends, IsBlamed, IsBlamedAt};
 ghost use Rattle.follow_spec.specs.Trace as spec;
@@ -41,10 +41,11 @@ pub fn follow<H: RegexHost, L: Ledger>(
     ensures trace { let known = generation.now in
         IfOk result (λ told. told ≡ spec.trace known.suffixes known.state request.now) }
     ensures bound { let known = generation.now in
-        steps.new ≤ steps.old + sum_by (pairs_of known.state) (spec.requests_of known.suffixes known.state request.now) }
+        let requests = spec.requests_of known.suffixes known.state request.now in
+        steps.new ≤ steps.old + sum_by (pairs_of known.state) requests }
     ensures ends { let known = generation.now in
-        Ends (IsBlamed known.state (length (spec.trace known.suffixes known.state request.now).hops))
-        (H.faults host.old) (H.faults host.new) result }
+        let told = spec.trace known.suffixes known.state request.now in
+        Ends (IsBlamed known.state (length told.hops)) (H.faults host.old) (H.faults host.new) result }
 {
     let mut hops = Vec::new(alloc);
     match add_hop(alloc, generation, 0, request, &mut hops, host, steps)? {
@@ -73,11 +74,11 @@ fn follow_on<H: RegexHost, L: Ledger>(
     ensures trace { let known = generation.now in
         IfOk result (λ told. told ≡ spec.trace_from known.suffixes known.state 19 hops.items request) }
     ensures bound { let known = generation.now in
-        steps.new ≤ steps.old
-        + sum_by (pairs_of known.state) (spec.requests_from known.suffixes known.state 19 hops.items request) }
+        let requests = spec.requests_from known.suffixes known.state 19 hops.items request in
+        steps.new ≤ steps.old + sum_by (pairs_of known.state) requests }
     ensures ends { let known = generation.now in
-        Ends (IsBlamed known.state (length (spec.trace_from known.suffixes known.state 19 hops.items request).hops))
-        (H.faults host.old) (H.faults host.new) result }
+        let told = spec.trace_from known.suffixes known.state 19 hops.items request in
+        Ends (IsBlamed known.state (length told.hops)) (H.faults host.old) (H.faults host.new) result }
 {
     for place in 1..MAX_HOPS {
         match add_hop(alloc, generation, place, &request, &mut hops, host, steps)? {
@@ -108,11 +109,14 @@ fn add_hop<H: RegexHost, L: Ledger>(
 ) -> Result<Next, FollowRefusal>
     requires { length request.now.frames ≤ max_frames }
     ensures hops { let known = generation.now in
-        OnOk result (hops.new.items ≡ spec.with_hop known.suffixes known.state hops.old.items request.now) }
+        let all = spec.with_hop known.suffixes known.state hops.old.items request.now in
+        OnOk result (hops.new.items ≡ all) }
     ensures next { let known = generation.now in
-        IfOk result (λ next. next ≡ spec.next_behind known.suffixes known.state hops.new.items request.now) }
+        let next = spec.next_behind known.suffixes known.state hops.new.items request.now in
+        IfOk result (λ told. told ≡ next) }
     ensures bound { steps.new ≤ steps.old + pairs_of generation.now.state request.now }
-    ensures ends { Ends (IsBlamedAt generation.now.state place) (H.faults host.old) (H.faults host.new) result }
+    ensures ends { let blamed = IsBlamedAt generation.now.state place in
+        Ends blamed (H.faults host.old) (H.faults host.new) result }
 {
     match generation.decide(alloc, request, host, steps) {
         Ok(verdict) => {

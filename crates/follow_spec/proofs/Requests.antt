@@ -1,9 +1,8 @@
 -- A trace has the hops of its requests.
-use Rattle.std.specs.Prelude.{◌≡◌, ℕ, zero, suc, List, [], ◌∷◌, ◌++◌, map, refl}
-use Rattle.std.proofs.Common.{◌∙◌, sym, ap, append_assoc, append-nil}
+use Rattle.std.specs.Prelude.{◌≡◌, ℕ, zero, suc, List, [], ◌∷◌, ◌++◌, map}
+use Rattle.std.proofs.Common.{◌∙◌, sym, append_assoc, append-nil}
 use Rattle.dnr_base.specs.declared.request.Request.{Request}
 use Rattle.dnr_spec.specs.Suffixes.{SuffixRule}
-use Rattle.rule_spec.specs.Scan.{scan}
 use Rattle.rule_spec.specs.State.{State}
 use Rattle.follow_spec.specs.declared.next.Next.{Next}
 use Rattle.follow_spec.specs.declared.next.Next.TheVariants.{Ends, Follows}

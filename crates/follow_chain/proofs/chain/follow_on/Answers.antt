@@ -1,7 +1,7 @@
-use Rattle.std.proofs.Common.{◌≡◌, suc, ◌+◌, ◌-◌, length, refl, sym, ap, ◌∙◌, arith}
+use Rattle.std.proofs.Common.{◌+◌, ◌-◌, length, refl, sym, ap, ◌∙◌, arith}
 use Rattle.std.proofs.lemmas.Result.{err_from_is_err_and}
 use Rattle.index_spec.specs.Pairs.{pairs_of}
-use Rattle.follow_spec.specs.declared.next.Next.TheVariants.{Ends, Follows}
+use Rattle.follow_spec.specs.declared.next.Next.TheVariants.{Follows}
 use Rattle.follow_spec.specs.Trace.{Trace, requests_from, sent_to, trace_from}
 use Rattle.std.specs.Prelude.{sum_by}
 use Rattle.follow_chain.specs.Refused.{IsBlamed, IsBlamedAt}
