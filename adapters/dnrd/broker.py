@@ -5,21 +5,20 @@ is known to be by one count of updates, and is held to that.
 """
 import os
 import re
-import selectors
-import time
 from collections import Counter, deque
 from functools import partial
 from typing import NamedTuple
 
-from clients import Client
+from clients import OPEN_QUESTIONS, Client
 from dnr_lines.lines import VERDICTS, dumped, loaded
 from engine import LINES, UPDATES
+from events import READ, WRITE, Events
 from questions import NOBODY, BadLine, Question, read
 from succession import Succession
 
 ROUND, ROUND_BYTES = 1_000, 4_000_000
 TRIES = 3
-WORD = re.compile(rb'"verdict":"(%s)"[,}]' % "|".join(VERDICTS).encode())
+VERDICT = re.compile(rb'"verdict":"(%s)"(?:,.*)?\}' % "|".join(VERDICTS).encode(), re.DOTALL).fullmatch
 
 
 class Settings(NamedTuple):
@@ -38,15 +37,16 @@ class Broker:
 
     def __init__(self, settings, journal, listener, say):
         self.settings, self.journal, self.say = settings, journal, say
-        self.selector = selectors.DefaultSelector()
-        self.selector.register(listener, selectors.EVENT_READ, partial(self.connect, listener))
-        self.engines = Succession(settings, journal, self.selector, say, self)
+        self.events = Events()
+        self.events.register(listener.fileno(), READ, partial(self.connect, listener))
+        self.engines = Succession(settings, journal, self.events, say, self)
         self.waiting, self.updates, self.updating, self.updated_last = deque(), deque(), False, False
-        self.touched, self.counts, self.checked = set(), Counter(), 0.0
+        self.touched, self.checked = set(), 0.0
+        self.verdicts, self.counts = dict.fromkeys(map(str.encode, VERDICTS), 0), Counter()
         self.tick = min(0.1, settings.deadline / 4)
         self.stopping = False
         self.bell, self.ringing = os.pipe()
-        self.selector.register(self.bell, selectors.EVENT_READ, lambda _: os.read(self.bell, 1))
+        self.events.register(self.bell, READ, lambda _: os.read(self.bell, 1))
 
     def stop(self):
         """Ends `run` when the events at hand are done; a signal may call this."""
@@ -56,21 +56,22 @@ class Broker:
     def run(self):
         """Serves until `stop` is called. Raises `Failed` where no engine can be started at first."""
         self.turn()
+        happened = True
         while not self.stopping:
-            quiet = self.engines.quiet and not self.waiting and not self.updates
-            for key, mask in self.selector.select(None if quiet else self.tick):
-                key.data(mask)
+            # (only where nothing happened for a while is it asked whether anything is under way)
+            quiet = not happened and self.engines.quiet and not self.waiting and not self.updates
+            happened = self.events.wait(None if quiet else self.tick)
             self.turn()
 
     def turn(self):
         """What is to be done after some events."""
-        now = time.monotonic()
-        if now - self.checked > self.tick:
-            self.check(now)
-        if not self.engines.coming:
-            self.change(now)
+        if self.events.now - self.checked > self.tick:
+            self.check()
         engine = self.engines.engine
-        if engine and engine.idle and self.waiting:
+        if self.updates or not engine or engine.line > self.settings.lines or engine.count > UPDATES:
+            self.change()
+            engine = self.engines.engine
+        if self.waiting and engine and engine.idle:
             self.updated_last = False
             self.engines.ask(engine, self.next_questions())
         while self.touched:
@@ -85,23 +86,27 @@ class Broker:
         except OSError as error:
             self.say(f"a client couldn't connect: {error.strerror}")
             return
-        Client(connection, self.selector, self.receive, self.touched)
+        Client(connection, self.events, self.receive, self.touched)
 
-    def receive(self, client):
-        """Takes in the lines that a client sent."""
-        now = time.monotonic()
-        for line in client.lines():
-            if line.strip():
-                client.open += 1
-                self.take(client, line, now)
-        client.settle()
+    def receive(self, client, mask):
+        """Takes in the lines that a client sent, and sends what it was not sent."""
+        if mask & ~WRITE:
+            until = self.events.now + self.settings.deadline
+            for line in client.lines():
+                if line and not line.isspace():
+                    client.open += 1
+                    self.take(client, line, until)
+            if client.ended or client.open >= OPEN_QUESTIONS:
+                client.settle()
+        if mask & ~READ:
+            client.flush()
 
-    def take(self, client, line, now):
-        """Takes in one line of a client."""
+    def take(self, client, line, until):
+        """Takes in one line of a client, which may wait until that time."""
         try:
-            question = read(client, line, now + self.settings.deadline)
+            question = read(client, line, until)
         except BadLine as bad:
-            self.by_setting(Question(client, bad.name, line, "request", now), bad.cause)
+            self.by_setting(Question(client, bad.name, line, "request", until), bad.cause)
             return
         if question.kind == "request":
             self.waiting.append(question)
@@ -113,7 +118,10 @@ class Broker:
     def state(self):
         """What `counts` tells."""
         return {
-            "counts": {name: self.counts[name] for name in (*VERDICTS, "relaxed", "closed", "open", "late")},
+            "counts": {
+                **{name.decode(): count for name, count in self.verdicts.items()},
+                **{name: self.counts[name] for name in ("relaxed", "closed", "open", "late")},
+            },
             "engines": self.engines.begun,
             "generation": self.journal.number,
             "installed": [item.name for item in self.journal.installed.items],
@@ -123,54 +131,55 @@ class Broker:
 
     def next_questions(self):
         """The questions of the next round. One with which an engine ended is asked alone."""
-        if self.waiting[0].tries:
-            return [self.waiting.popleft()]
+        waiting = self.waiting
+        if len(waiting) == 1 or waiting[0].tries:
+            return [waiting.popleft()]
         questions, size = [], 0
-        while self.waiting and len(questions) < ROUND and size < ROUND_BYTES and not self.waiting[0].tries:
-            questions.append(self.waiting.popleft())
+        while waiting and len(questions) < ROUND and size < ROUND_BYTES and not waiting[0].tries:
+            questions.append(waiting.popleft())
             size += len(questions[-1].line)
         return questions
 
-    def settle(self, engine, question, answer):
-        """Takes one answer, and whether it is one."""
-        if question.kind == "request":
-            return self.verdict(engine, question, answer)
-        return self.updated(engine, question, answer)
+    def next_round(self, engine):
+        """Asks an engine whose last answers are there what waits, where no update is due before."""
+        if self.waiting and not self.updates and not engine.unwritten:
+            self.updated_last = False
+            engine.ask(self.next_questions(), self.events.now)
+            self.engines.watch(engine)
 
-    def verdict(self, engine, question, answer):
-        """Takes the answer to a request, and whether it is one."""
-        if answer.startswith(engine.says):
-            rest = answer[len(engine.says) :]
-            word = WORD.match(rest)
-            if word:
-                self.tell(question, engine.told, rest, word[1].decode())
-                return True
-            if not rest.startswith(b'"fault":'):
-                return False
-        elif not answer.startswith(b'"bad":'):
+    def verdict(self, engine, question, text):
+        """Hands a line to who asked, where it is the verdict that is to come next, and tells whether it is."""
+        beginning = b'{"line":%d,"generation":%d,' % (engine.line + 1, engine.count)
+        if not text.startswith(beginning):
             return False
-        self.undecided(question, answer)
+        rest = text[len(beginning) :]
+        word = VERDICT(rest)
+        if not word:
+            return False
+        client = question.client
+        if client is not NOBODY:
+            self.verdicts[word[1]] += 1
+            if question.relaxed:
+                self.counts["relaxed"] += 1
+                rest = rest[:-1] + b',"relaxed":true}'
+            client.reply(b'{"id":%s,"generation":%d,%s\n' % (question.name, engine.count + engine.shift, rest))
         return True
 
-    def tell(self, question, told, rest, word):
-        """Hands a verdict to who asked."""
-        if question.client is NOBODY:
-            return
-        self.counts[word] += 1
-        if question.relaxed:
-            self.counts["relaxed"] += 1
-            rest = rest[:-1] + b',"relaxed":true}'
-        question.reply(told + rest)
+    def undecided(self, engine, question, answer):
+        """Takes an answer that is no verdict, and whether it is one to a request.
 
-    def undecided(self, question, answer):
-        """Asks a question again that `dnr` didn't decide, without what may have kept it from that; then the setting counts."""
+        The request is asked again, without what may have kept `dnr` from deciding it; then the setting counts.
+        """
+        if not answer.startswith((b'"generation":%d,"fault":' % engine.count, b'"bad":')):
+            return False
         if question.client is NOBODY:
-            return
+            return True
         if question.relaxed:
             self.by_setting(question, loaded(b"{" + answer))
-            return
-        question.relax()
-        self.waiting.appendleft(question)
+        else:
+            question.relax()
+            self.waiting.appendleft(question)
+        return True
 
     def by_setting(self, question, cause):
         """Replies what the setting says where there is no verdict, and why there is none."""
@@ -182,11 +191,13 @@ class Broker:
 
     # Updates.
 
-    def change(self, now):
+    def change(self):
         """Begins the next update or exchange, where no other is under way."""
         engine = self.engines.engine
+        if self.engines.coming:
+            return
         if not engine:
-            self.engines.start_if_due(now)
+            self.engines.start_if_due(self.events.now)
             return
         while self.updates and self.updates[0].kind == "sync":
             self.updates.popleft().reply(b'"sync":%d}' % self.journal.number)
@@ -266,9 +277,9 @@ class Broker:
         else:
             self.by_setting(question, {"engine": "ended"})
 
-    def check(self, now):
+    def check(self):
         """Looks for questions that have waited too long, and for engines that give nothing."""
-        self.checked = now
+        now = self.checked = self.events.now
         self.engines.check(now, self.updating)
         late = [question for question in self.waiting if question.until < now]
         if late:
@@ -283,4 +294,4 @@ class Broker:
     def close(self):
         """Ends all engines."""
         self.engines.close()
-        self.selector.close()
+        self.events.close()

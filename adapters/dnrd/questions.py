@@ -3,7 +3,11 @@ from dnr_lines.lines import QUESTIONS, UPDATES, dumped, loaded
 
 # What a question keeps when it is asked again: neither headers nor frames, and nobody asks.
 KEPT = ("cmd", "url", "type", "method", "tab")
-OTHERS = ("exchange", "counts", "sync")
+KINDS = {
+    **dict.fromkeys(QUESTIONS, "request"),
+    **dict.fromkeys(UPDATES, "update"),
+    **{name: name for name in ("exchange", "counts", "sync")},
+}
 
 
 class BadLine(Exception):
@@ -25,7 +29,7 @@ NOBODY = Nobody()
 
 
 class Question:
-    """One line of a client. `kind` is "request", "update", "exchange", "counts" or "sync", or "restore"."""
+    """One line of a client. `kind` is "request", "update", "exchange", "counts" or "sync", or the broker's own "restore" or "end"."""
 
     __slots__ = ("client", "name", "line", "kind", "until", "tries", "relaxed")
 
@@ -41,16 +45,7 @@ class Question:
 
     def reply(self, rest):
         """Tells the client what comes behind the `id`, in bytes that end with a brace."""
-        self.client.reply(b'{"id":%s,%s' % (self.name, rest))
-
-
-def kind_of(command):
-    """What a line asks for, or None."""
-    if command in QUESTIONS:
-        return "request"
-    if command in UPDATES:
-        return "update"
-    return command if command in OTHERS else None
+        self.client.reply(b'{"id":%s,%s\n' % (self.name, rest))
 
 
 def read(client, line, until):
@@ -63,9 +58,12 @@ def read(client, line, until):
     except ValueError:
         raise BadLine(b"null", {"bad": "json"}) from None
     name = whole.get("id")
-    name = dumped(name) if name.__class__ in (str, int) else b"null"
+    if name.__class__ is int:
+        name = b"%d" % name
+    else:
+        name = dumped(name) if name.__class__ is str else b"null"
     command = whole.get("cmd", "request")
-    kind = kind_of(command) if isinstance(command, str) else None
+    kind = KINDS.get(command) if command.__class__ is str else None
     if kind is None:
         raise BadLine(name, {"bad": "command", "path": "cmd"})
     return Question(client, name, line, kind, until)

@@ -1,5 +1,4 @@
 """Which engine answers: one at a time, and now and then another that is brought to take its place."""
-import selectors
 import shutil
 import time
 from functools import partial
@@ -8,6 +7,7 @@ from typing import NamedTuple
 
 from dnr_lines.lines import loaded
 from engine import Doubt, Engine
+from events import READ, WRITE
 from questions import NOBODY, Question
 
 # So many updates of a fresh engine stand in a round, so that making them holds up nobody.
@@ -39,12 +39,13 @@ def refusal(last, reason):
 class Succession:
     """`engine` answers, `coming` is to take its place, and `ending` answers its last round; each may be None.
 
-    The owner has `settle`, which takes an answer or raises `Doubt`; `ask_again`, which takes what was left unanswered; and
-    `exchanged` and `not_exchanged`, which are told what became of an exchange.
+    The owner has `verdict`, which takes a line where it is the verdict that was asked for; `undecided` and `updated`, which
+    take an answer and say whether it is one; `next_round`, which may ask an engine whose last answers are there; `ask_again`,
+    which takes what was left unanswered; and `exchanged` and `not_exchanged`, which are told what became of an exchange.
     """
 
-    def __init__(self, settings, journal, selector, say, owner):
-        self.settings, self.journal, self.selector, self.say, self.owner = settings, journal, selector, say, owner
+    def __init__(self, settings, journal, events, say, owner):
+        self.settings, self.journal, self.events, self.say, self.owner = settings, journal, events, say, owner
         self.engine = self.coming = self.ending = None
         self.begun, self.dying = 0, []
         self.failures, self.not_before = 0, 0.0
@@ -64,7 +65,7 @@ class Succession:
         room = self.journal.room(installed)
         engine = Engine(self.settings.program, [*workers, *installed.words()], room)
         self.coming = Coming(engine, installed, installed.lines(), exchange)
-        self.selector.register(engine.output, selectors.EVENT_READ, partial(self.hear, engine))
+        self.events.register(engine.output, READ, partial(self.hear, engine))
         # (its `sync` is answered when the files are read)
         self.ask(engine, self.restoring())
 
@@ -80,19 +81,21 @@ class Succession:
     def ask(self, engine, questions):
         """Begins a round of an engine."""
         try:
-            engine.ask(questions)
-            self.watch(engine)
+            engine.ask(questions, self.events.now)
         except Doubt as doubt:
             self.lose(engine, str(doubt))
+            return
+        if engine.unwritten:
+            self.watch(engine)
 
     def watch(self, engine):
         """Waits for room in the engine's pipe exactly while there is something to write."""
         if bool(engine.unwritten) == engine.watched:
             return
         if engine.unwritten:
-            self.selector.register(engine.input, selectors.EVENT_WRITE, partial(self.write, engine))
+            self.events.register(engine.input, WRITE, partial(self.write, engine))
         else:
-            self.selector.unregister(engine.input)
+            self.events.unregister(engine.input)
         engine.watched = not engine.watched
 
     def write(self, engine, _):
@@ -106,34 +109,50 @@ class Succession:
             self.lose(engine, str(doubt))
 
     def hear(self, engine, _):
-        """Takes the answers that an engine wrote."""
+        """Takes what an engine wrote. Where that is all that it owes it is asked again before the answers are looked at."""
         if engine.closed:
             return
+        asked, verdict = engine.asked, self.owner.verdict
         try:
-            for question, answer in engine.answers():
-                self.settle(engine, question, answer)
+            lines = engine.lines(self.events.now)
+            if engine is self.engine and len(lines) == len(asked):
+                self.owner.next_round(engine)
+            for text in lines:
+                kind = asked[0].kind if asked else None
+                if not (kind == "request" and verdict(engine, asked[0], text) or kind == "end" and engine.ends(text)):
+                    self.settle(engine, text)
+                engine.line += 1
+                asked.popleft()
         except Doubt as doubt:
             self.lose(engine, str(doubt))
             return
-        if engine.idle and engine is self.ending:
-            self.ending = None
-            self.end(engine)
-        elif engine.idle and self.coming and engine is self.coming.engine:
-            updates = self.restoring()
-            if updates:
-                self.ask(engine, updates)
-            else:
-                self.switch()
+        if engine is not self.engine and not asked:
+            self.go_on(engine)
 
-    def settle(self, engine, question, answer):
-        """Takes one answer, or raises `Doubt` and leaves the question with the engine."""
-        if question.kind == "restore":
+    def settle(self, engine, text):
+        """Takes an answer that is no verdict and no end of a round, or raises `Doubt`."""
+        answer = engine.rest(text)
+        question = engine.asked[0]
+        if question.kind == "request":
+            done = self.owner.undecided(engine, question, answer)
+        elif question.kind == "restore":
             done = engine.accepts(answer)
         else:
-            done = self.owner.settle(engine, question, answer)
+            done = question.kind == "update" and self.owner.updated(engine, question, answer)
         if not done:
-            engine.asked.appendleft(question)
-            raise Doubt(f"to line {engine.line} it wrote {answer[:120]!r}")
+            raise Doubt(f"to line {engine.line + 1} it wrote {answer[:120]!r}")
+
+    def go_on(self, engine):
+        """What is to be done with an engine that has answered all, and is not the one that is asked."""
+        if engine is self.ending:
+            self.ending = None
+            self.end(engine)
+            return
+        updates = self.restoring()
+        if updates:
+            self.ask(engine, updates)
+        else:
+            self.switch()
 
     def switch(self):
         """Lets the engine that came take the place of the one before it, which answers its last round."""
@@ -146,13 +165,13 @@ class Succession:
         self.begun += 1
         if coming.exchange:
             self.owner.exchanged(coming)
-        self.engine.number(self.engine.count, self.journal.number - self.engine.count)
+        self.engine.shift = self.journal.number - self.engine.count
 
     def end(self, engine):
         """Lets go of an engine."""
-        self.selector.unregister(engine.output)
+        self.events.unregister(engine.output)
         if engine.watched:
-            self.selector.unregister(engine.input)
+            self.events.unregister(engine.input)
         engine.close()
         self.dying.append(engine.process)
         shutil.rmtree(engine.room, ignore_errors=True)
