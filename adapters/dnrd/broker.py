@@ -176,9 +176,13 @@ class Broker:
             return True
         if question.relaxed:
             self.by_setting(question, loaded(b"{" + answer))
-        else:
+            return True
+        try:
             question.relax()
             self.waiting.appendleft(question)
+        except ValueError:
+            question.name = b"null"
+            self.by_setting(question, {"bad": "json"})
         return True
 
     def by_setting(self, question, cause):

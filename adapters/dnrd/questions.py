@@ -1,4 +1,6 @@
 """What clients ask: a line, its `id`, and the reply that it gets."""
+import re
+
 from dnr_lines.lines import QUESTIONS, UPDATES, dumped, loaded
 
 # What a question keeps when it is asked again: neither headers nor frames, and nobody asks.
@@ -8,6 +10,8 @@ KINDS = {
     **dict.fromkeys(UPDATES, "update"),
     **{name: name for name in ("exchange", "counts", "sync")},
 }
+# How a request begins of which nothing is read but its `id`.
+PLAIN = re.compile(rb'\{"id": ?(0|[1-9][0-9]{0,17}|"[ !#-\[\]-~]*"),').match
 
 
 class BadLine(Exception):
@@ -51,18 +55,19 @@ class Question:
 def read(client, line, until):
     """The question that a line of a client holds, which may wait until that time where it is a request.
 
-    The line is handed on as it stands: to `dnr` the `id` is a key that it doesn't know.
+    The line is handed on as it stands: to `dnr` the `id` is a key that it doesn't know. A line that begins with its `id`,
+    and has no other key or text `id`, no `cmd` and no escapes, is a request with that `id` or no JSON at all; which of
+    these `dnr` tells.
     """
+    plain = PLAIN(line)
+    if plain and b"\\" not in line and b'"cmd"' not in line and line.count(b'"id"') == 1:
+        return Question(client, plain[1], line, "request", until)
     try:
         whole = loaded(line)
     except ValueError:
         raise BadLine(b"null", {"bad": "json"}) from None
-    name = whole.get("id")
-    if name.__class__ is int:
-        name = b"%d" % name
-    else:
-        name = dumped(name) if name.__class__ is str else b"null"
-    command = whole.get("cmd", "request")
+    name, command = whole.get("id"), whole.get("cmd", "request")
+    name = dumped(name) if name.__class__ in (str, int) else b"null"
     kind = KINDS.get(command) if command.__class__ is str else None
     if kind is None:
         raise BadLine(name, {"bad": "command", "path": "cmd"})

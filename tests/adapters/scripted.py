@@ -73,7 +73,10 @@ def main():
         print('{"file":"refused","refused":"too-many-rules","count":3}', flush=True)
         sys.exit(1)
     for number, text in enumerate(sys.stdin, 1):
-        told = answer(number, json.loads(text))
+        try:
+            told = answer(number, json.loads(text))
+        except json.JSONDecodeError:
+            told = {"line": number, "bad": "json"}
         if told:
             out.append(json.dumps(told, separators=(",", ":")) + "\n")
         if '"sync"' in text:
