@@ -45,10 +45,16 @@ class Cutter:
         """The lines that end in a further chunk of bytes."""
         lines = chunk.split(b"\n")
         last = lines.pop()
+        if last or self.rest:
+            self.mend(lines, last)
+        return lines
+
+    def mend(self, lines, last):
+        """Puts what was left over before the first of some lines, and keeps the last piece, which has no end.
+
+        Each byte of a long line is copied once, however many chunks it comes in.
+        """
         if self.rest and lines:
             lines[0] = bytes(self.rest) + lines[0]
             self.rest.clear()
-        if last:
-            # (each byte of a long line is copied once, however many chunks it comes in)
-            self.rest += last
-        return lines
+        self.rest += last

@@ -3,7 +3,6 @@
 A round is what came while the last one was answered; no timer makes one. Updates have a round of their own, so each answer
 is known to be by one count of updates, and is held to that.
 """
-import os
 import re
 from collections import Counter, deque
 from functools import partial
@@ -12,12 +11,14 @@ from typing import NamedTuple
 from clients import OPEN_QUESTIONS, Client
 from dnr_lines.lines import VERDICTS, dumped, loaded
 from engine import LINES, UPDATES
-from events import READ, WRITE, Events
-from questions import NOBODY, BadLine, Question, read
+from events import READ, WRITE, Bell, Events
+from questions import NOBODY, read
 from succession import Succession
 
 ROUND, ROUND_BYTES = 1_000, 4_000_000
 TRIES = 3
+# The causes of what can't be asked.
+BAD = {"json": {"bad": "json"}, "command": {"bad": "command", "path": "cmd"}}
 VERDICT = re.compile(rb'"verdict":"(%s)"(?:,.*)?\}' % "|".join(VERDICTS).encode(), re.DOTALL).fullmatch
 
 
@@ -41,41 +42,40 @@ class Broker:
         self.events.register(listener.fileno(), READ, partial(self.connect, listener))
         self.engines = Succession(settings, journal, self.events, say, self)
         self.waiting, self.updates, self.updating, self.updated_last = deque(), deque(), False, False
-        self.touched, self.checked = set(), 0.0
+        self.touched = set()
         self.verdicts, self.counts = dict.fromkeys(map(str.encode, VERDICTS), 0), Counter()
         self.tick = min(0.1, settings.deadline / 4)
-        self.stopping = False
-        self.bell, self.ringing = os.pipe()
-        self.events.register(self.bell, READ, lambda _: os.read(self.bell, 1))
+        self.bell, self.stopping = Bell(self.events, self.check), False
 
     def stop(self):
         """Ends `run` when the events at hand are done; a signal may call this."""
         self.stopping = True
-        os.write(self.ringing, b"!")
+        self.bell.ring()
 
     def run(self):
         """Serves until `stop` is called. Raises `Failed` where no engine can be started at first."""
-        self.turn()
-        happened = True
         while not self.stopping:
-            # (only where nothing happened for a while is it asked whether anything is under way)
-            quiet = not happened and self.engines.quiet and not self.waiting and not self.updates
-            happened = self.events.wait(None if quiet else self.tick)
             self.turn()
+            self.events.wait()
 
     def turn(self):
         """What is to be done after some events."""
-        if self.events.now - self.checked > self.tick:
-            self.check()
         engine = self.engines.engine
         if self.updates or not engine or engine.line > self.settings.lines or engine.count > UPDATES:
             self.change()
             engine = self.engines.engine
-        if self.waiting and engine and engine.idle:
+        if self.waiting and engine and not engine.asked:
             self.updated_last = False
             self.engines.ask(engine, self.next_questions())
         while self.touched:
             self.touched.pop().flush()
+        if not self.bell.often and not self.quiet:
+            self.bell.every(self.tick)
+
+    @property
+    def quiet(self):
+        """Whether nothing is under way."""
+        return not self.waiting and not self.updates and self.engines.quiet
 
     # Clients.
 
@@ -95,21 +95,20 @@ class Broker:
             for line in client.lines():
                 if line and not line.isspace():
                     client.open += 1
-                    self.take(client, line, until)
+                    question = read(client, line, until)
+                    if question.kind == "request":
+                        self.waiting.append(question)
+                    else:
+                        self.take(question)
             if client.ended or client.open >= OPEN_QUESTIONS:
                 client.settle()
         if mask & ~READ:
             client.flush()
 
-    def take(self, client, line, until):
-        """Takes in one line of a client, which may wait until that time."""
-        try:
-            question = read(client, line, until)
-        except BadLine as bad:
-            self.by_setting(Question(client, bad.name, line, "request", until), bad.cause)
-            return
-        if question.kind == "request":
-            self.waiting.append(question)
+    def take(self, question):
+        """Takes in what is no request."""
+        if question.kind in BAD:
+            self.by_setting(question, BAD[question.kind])
         elif question.kind == "counts":
             question.reply(dumped(self.state())[1:])
         else:
@@ -142,14 +141,14 @@ class Broker:
 
     def next_round(self, engine):
         """Asks an engine whose last answers are there what waits, where no update is due before."""
-        if self.waiting and not self.updates and not engine.unwritten:
+        if not self.updates and not engine.unwritten:
             self.updated_last = False
-            engine.ask(self.next_questions(), self.events.now)
-            self.engines.watch(engine)
+            self.engines.ask(engine, self.next_questions())
 
     def verdict(self, engine, question, text):
         """Hands a line to who asked, where it is the verdict that is to come next, and tells whether it is."""
-        beginning = b'{"line":%d,"generation":%d,' % (engine.line + 1, engine.count)
+        count = engine.count
+        beginning = b'{"line":%d,"generation":%d,' % (engine.line + 1, count)
         if not text.startswith(beginning):
             return False
         rest = text[len(beginning) :]
@@ -162,7 +161,7 @@ class Broker:
             if question.relaxed:
                 self.counts["relaxed"] += 1
                 rest = rest[:-1] + b',"relaxed":true}'
-            client.reply(b'{"id":%s,"generation":%d,%s\n' % (question.name, engine.count + engine.shift, rest))
+            client.reply(b'{"id":%s,"generation":%d,%s\n' % (question.name, count + engine.shift, rest))
         return True
 
     def undecided(self, engine, question, answer):
@@ -182,7 +181,7 @@ class Broker:
             self.waiting.appendleft(question)
         except ValueError:
             question.name = b"null"
-            self.by_setting(question, {"bad": "json"})
+            self.by_setting(question, BAD["json"])
         return True
 
     def by_setting(self, question, cause):
@@ -212,7 +211,7 @@ class Broker:
         elif engine.line > self.settings.lines or engine.count > UPDATES:
             self.say(f"a fresh engine takes over after {engine.line:,} lines and {engine.count:,} updates")
             self.engines.start(self.journal.installed)
-        elif self.updates and engine.idle and not (self.waiting and self.updated_last):
+        elif self.updates and not engine.asked and not (self.waiting and self.updated_last):
             self.updating = self.updated_last = True
             self.engines.ask(engine, [self.updates.popleft()])
 
@@ -282,8 +281,8 @@ class Broker:
             self.by_setting(question, {"engine": "ended"})
 
     def check(self):
-        """Looks for questions that have waited too long, and for engines that give nothing."""
-        now = self.checked = self.events.now
+        """Looks for questions that have waited too long, and for engines that give nothing; the bell calls it."""
+        now = self.events.now
         self.engines.check(now, self.updating)
         late = [question for question in self.waiting if question.until < now]
         if late:
@@ -294,8 +293,11 @@ class Broker:
             self.counts["late"] += 1
             self.by_setting(question, {"late": True})
             question.client = NOBODY
+        if self.quiet:
+            self.bell.every(0)
 
     def close(self):
         """Ends all engines."""
         self.engines.close()
+        self.bell.close()
         self.events.close()

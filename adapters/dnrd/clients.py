@@ -35,7 +35,10 @@ class Client:
         except OSError:
             chunk = b""
             self.leave()
-        lines = self.cutter.lines(chunk)
+        lines = chunk.split(b"\n")
+        last = lines.pop()
+        if last or self.cutter.rest:
+            self.cutter.mend(lines, last)
         if not chunk or len(self.cutter.rest) > LONGEST:
             self.ended = True
         return lines

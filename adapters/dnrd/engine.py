@@ -59,31 +59,6 @@ class Engine:
         self.ended = self.watched = self.closed = False
         self.moved = time.monotonic()
 
-    @property
-    def idle(self):
-        """Whether all that it was asked is answered."""
-        return not self.asked
-
-    def ask(self, questions, now):
-        """Begins a round with these questions, which have a `line` each."""
-        self.asked += questions
-        self.asked.append(END)
-        lines = [question.line for question in questions]
-        lines.append(SYNC_LINE)
-        self.unwritten += b"\n".join(lines)
-        self.moved = now
-        self.write()
-
-    def write(self):
-        """Writes what the pipe takes now."""
-        try:
-            taken = os.write(self.input, self.unwritten)
-        except BlockingIOError:
-            return
-        except OSError as error:
-            raise Doubt(f"it takes no more lines ({error.strerror})") from None
-        self.unwritten = self.unwritten[taken:]
-
     def lines(self, now):
         """Reads what the engine wrote: the whole lines."""
         try:
@@ -94,7 +69,11 @@ class Engine:
             self.ended = True
             raise Doubt(f"it ended with status {self.status()}")
         self.moved = now
-        return self.cutter.lines(chunk)
+        lines = chunk.split(b"\n")
+        last = lines.pop()
+        if last or self.cutter.rest:
+            self.cutter.mend(lines, last)
+        return lines
 
     def rest(self, text):
         """What stands in the next line behind its number. Raises `Doubt` where it is no answer to what was asked next."""
@@ -103,10 +82,6 @@ class Engine:
             self.odd = text
             raise Doubt(f"line {self.line + 1} was to be answered, and it wrote {text[:80]!r}")
         return text[len(beginning) :]
-
-    def ends(self, text):
-        """Whether the next line is this, as the answer to the end of a round."""
-        return text == b'{"line":%d,"sync":%d}' % (self.line + 1, self.count)
 
     def accepts(self, answer):
         """Whether this answer says that the next update was accepted; it is counted then."""

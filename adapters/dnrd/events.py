@@ -1,5 +1,7 @@
 """What the broker waits for: one thread, and one function for each descriptor on which something may happen."""
+import os
 import select
+import signal
 import time
 
 READ, WRITE = select.EPOLLIN, select.EPOLLOUT
@@ -29,20 +31,52 @@ class Events:
         self.poll.unregister(descriptor)
         del self.calls[descriptor]
 
-    def wait(self, seconds):
-        """Waits until something happens, at most so long, and calls what is to be called. It tells whether anything happened.
+    def wait(self):
+        """Waits until something happens, and calls what is to be called.
 
         A call may take away a descriptor of which an event is at hand, or let another have its number. So no call relies
         on an event: each reads and writes without waiting.
         """
-        happened = self.poll.poll(seconds)
+        happened = self.poll.poll()
         self.now = time.monotonic()
         for descriptor, mask in happened:
             call = self.calls.get(descriptor)
             if call:
                 call(mask)
-        return bool(happened)
 
     def close(self):
         """Ends the watching."""
         self.poll.close()
+
+
+class Bell:
+    """Ends the waiting and calls a function: from a signal's handler, and every so often while it is set to.
+
+    One timer of the process does that: to wait for a limited time would set and clear a timer for each event.
+    """
+
+    def __init__(self, events, call):
+        self.call, self.often = call, False
+        self.hears, self.rings = os.pipe()
+        os.set_blocking(self.rings, False)
+        events.register(self.hears, READ, self.heard)
+        signal.signal(signal.SIGALRM, self.ring)
+
+    def ring(self, *_):
+        """Ends the waiting."""
+        os.write(self.rings, b"!")
+
+    def heard(self, _):
+        """What is called when the bell was rung."""
+        os.read(self.hears, 1 << 10)
+        self.call()
+
+    def every(self, seconds):
+        """Rings every so many seconds from now on, or not at all where they are 0."""
+        self.often = seconds > 0
+        signal.setitimer(signal.ITIMER_REAL, seconds, seconds)
+
+    def close(self):
+        """Rings no more."""
+        self.every(0)
+        signal.signal(signal.SIGALRM, signal.SIG_IGN)

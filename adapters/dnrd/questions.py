@@ -14,14 +14,6 @@ KINDS = {
 PLAIN = re.compile(rb'\{"id": ?(0|[1-9][0-9]{0,17}|"[ !#-\[\]-~]*"),').match
 
 
-class BadLine(Exception):
-    """A line that can't be asked: its `id` as JSON, and a cause in the words of `dnr`."""
-
-    def __init__(self, name, cause):
-        super().__init__(cause)
-        self.name, self.cause = name, cause
-
-
 class Nobody:
     """Who a question belongs to that no client asked, or whose client has had its reply."""
 
@@ -33,7 +25,9 @@ NOBODY = Nobody()
 
 
 class Question:
-    """One line of a client. `kind` is "request", "update", "exchange", "counts" or "sync", or the broker's own "restore" or "end"."""
+    """One line of a client. `kind` is "request", "update", "exchange", "counts" or "sync"; "json" or "command" where it is
+    bad as such; or the broker's own "restore" or "end". `name` is its `id` as JSON in bytes.
+    """
 
     __slots__ = ("client", "name", "line", "kind", "until", "tries", "relaxed")
 
@@ -65,10 +59,8 @@ def read(client, line, until):
     try:
         whole = loaded(line)
     except ValueError:
-        raise BadLine(b"null", {"bad": "json"}) from None
+        return Question(client, b"null", line, "json", until)
     name, command = whole.get("id"), whole.get("cmd", "request")
     name = dumped(name) if name.__class__ in (str, int) else b"null"
-    kind = KINDS.get(command) if command.__class__ is str else None
-    if kind is None:
-        raise BadLine(name, {"bad": "command", "path": "cmd"})
+    kind = KINDS.get(command, "command") if command.__class__ is str else "command"
     return Question(client, name, line, kind, until)

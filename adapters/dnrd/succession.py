@@ -1,12 +1,13 @@
 """Which engine answers: one at a time, and now and then another that is brought to take its place."""
+import os
 import shutil
 import time
 from functools import partial
 from itertools import islice
 from typing import NamedTuple
 
-from dnr_lines.lines import loaded
-from engine import Doubt, Engine
+from dnr_lines.lines import SYNC, loaded
+from engine import END, Doubt, Engine
 from events import READ, WRITE
 from questions import NOBODY, Question
 
@@ -53,7 +54,7 @@ class Succession:
     @property
     def quiet(self):
         """Whether there is an engine, and nothing is under way."""
-        return self.engine and self.engine.idle and not self.coming and not self.ending
+        return self.engine and not self.engine.asked and not self.coming and not self.ending
 
     def engines(self):
         """All engines that run."""
@@ -79,66 +80,60 @@ class Succession:
         return [Question(NOBODY, b"", line, "restore", 0) for line in islice(self.coming.lines, RESTORED)]
 
     def ask(self, engine, questions):
-        """Begins a round of an engine."""
-        try:
-            engine.ask(questions, self.events.now)
-        except Doubt as doubt:
-            self.lose(engine, str(doubt))
-            return
-        if engine.unwritten:
-            self.watch(engine)
+        """Begins a round of an engine with these questions, which have a `line` each."""
+        engine.moved = self.events.now
+        engine.asked += questions
+        engine.asked.append(END)
+        engine.unwritten += b"\n".join([question.line for question in questions] + [SYNC, b""])
+        self.write(engine)
 
-    def watch(self, engine):
-        """Waits for room in the engine's pipe exactly while there is something to write."""
-        if bool(engine.unwritten) == engine.watched:
-            return
-        if engine.unwritten:
-            self.events.register(engine.input, WRITE, partial(self.write, engine))
-        else:
-            self.events.unregister(engine.input)
-        engine.watched = not engine.watched
-
-    def write(self, engine, _):
-        """Writes what is left of a round."""
+    def write(self, engine, _=None):
+        """Writes what an engine's pipe takes now, and waits for room exactly while there is more."""
         if engine.closed:
             return
         try:
-            engine.write()
-            self.watch(engine)
-        except Doubt as doubt:
-            self.lose(engine, str(doubt))
+            engine.unwritten = engine.unwritten[os.write(engine.input, engine.unwritten) :]
+        except BlockingIOError:
+            pass
+        except OSError as error:
+            self.lose(engine, f"it takes no more lines ({error.strerror})")
+            return
+        if engine.unwritten and not engine.watched:
+            self.events.register(engine.input, WRITE, partial(self.write, engine))
+            engine.watched = True
+        elif engine.watched and not engine.unwritten:
+            self.events.unregister(engine.input)
+            engine.watched = False
 
     def hear(self, engine, _):
         """Takes what an engine wrote. Where that is all that it owes it is asked again before the answers are looked at."""
-        if engine.closed:
-            return
         asked, verdict = engine.asked, self.owner.verdict
         try:
-            lines = engine.lines(self.events.now)
-            if engine is self.engine and len(lines) == len(asked):
+            lines = [] if engine.closed else engine.lines(self.events.now)
+            if self.owner.waiting and engine is self.engine and len(lines) == len(asked):
                 self.owner.next_round(engine)
             for text in lines:
-                kind = asked[0].kind if asked else None
-                if not (kind == "request" and verdict(engine, asked[0], text) or kind == "end" and engine.ends(text)):
-                    self.settle(engine, text)
+                question = asked[0] if asked else END
+                if question.kind == "request" and verdict(engine, question, text):
+                    pass
+                elif question.kind != "end" or text != b'{"line":%d,"sync":%d}' % (engine.line + 1, engine.count):
+                    self.settle(engine, question, text)
                 engine.line += 1
                 asked.popleft()
         except Doubt as doubt:
             self.lose(engine, str(doubt))
-            return
-        if engine is not self.engine and not asked:
+        if not asked and engine is not self.engine and not engine.closed:
             self.go_on(engine)
 
-    def settle(self, engine, text):
-        """Takes an answer that is no verdict and no end of a round, or raises `Doubt`."""
-        answer = engine.rest(text)
-        question = engine.asked[0]
-        if question.kind == "request":
+    def settle(self, engine, question, text):
+        """Takes an answer that is neither a verdict nor the end of a round, or raises `Doubt`."""
+        answer, kind = engine.rest(text), question.kind
+        if kind == "request":
             done = self.owner.undecided(engine, question, answer)
-        elif question.kind == "restore":
-            done = engine.accepts(answer)
+        elif kind == "update":
+            done = self.owner.updated(engine, question, answer)
         else:
-            done = question.kind == "update" and self.owner.updated(engine, question, answer)
+            done = kind == "restore" and engine.accepts(answer)
         if not done:
             raise Doubt(f"to line {engine.line + 1} it wrote {answer[:120]!r}")
 
@@ -157,7 +152,7 @@ class Succession:
     def switch(self):
         """Lets the engine that came take the place of the one before it, which answers its last round."""
         coming, self.coming = self.coming, None
-        if self.engine and self.engine.idle:
+        if self.engine and not self.engine.asked:
             self.end(self.engine)
         elif self.engine:
             self.ending = self.engine
@@ -212,7 +207,7 @@ class Succession:
         for engine in self.engines():
             patient = updating or (self.coming and engine is self.coming.engine)
             limit = self.settings.patience if patient else self.settings.deadline
-            if not engine.idle and now - engine.moved > limit:
+            if engine.asked and now - engine.moved > limit:
                 self.lose(engine, f"it gave nothing for {limit:g} s")
 
     def close(self):

@@ -72,14 +72,14 @@ def main():
     if "refused=refused" in sys.argv:
         print('{"file":"refused","refused":"too-many-rules","count":3}', flush=True)
         sys.exit(1)
-    for number, text in enumerate(sys.stdin, 1):
+    for number, text in enumerate(sys.stdin.buffer, 1):
         try:
-            told = answer(number, json.loads(text))
-        except json.JSONDecodeError:
+            told = answer(number, json.loads(text.decode()))
+        except (ValueError, RecursionError):
             told = {"line": number, "bad": "json"}
         if told:
             out.append(json.dumps(told, separators=(",", ":")) + "\n")
-        if '"sync"' in text:
+        if b'"sync"' in text:
             sys.stdout.write("".join(out))
             sys.stdout.flush()
             out.clear()
