@@ -42,19 +42,13 @@ class Cutter:
         self.rest = bytearray()
 
     def lines(self, chunk):
-        """The lines that end in a further chunk of bytes."""
+        """The lines that end in a further chunk of bytes. Each byte of a line is copied once, however many chunks it comes in."""
         lines = chunk.split(b"\n")
         last = lines.pop()
-        if last or self.rest:
-            self.mend(lines, last)
-        return lines
-
-    def mend(self, lines, last):
-        """Puts what was left over before the first of some lines, and keeps the last piece, which has no end.
-
-        Each byte of a long line is copied once, however many chunks it comes in.
-        """
-        if self.rest and lines:
+        if not last and not self.rest:
+            return lines
+        if lines:
             lines[0] = bytes(self.rest) + lines[0]
             self.rest.clear()
         self.rest += last
+        return lines

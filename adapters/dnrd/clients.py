@@ -19,8 +19,7 @@ class Client:
 
     def __init__(self, connection, events, receive, touched):
         connection.setblocking(False)
-        self.connection, self.events, self.touched = connection, events, touched
-        self.happened = partial(receive, self)
+        self.connection, self.events, self.receive, self.touched = connection, events, receive, touched
         self.cutter, self.replies, self.unsent = Cutter(), [], b""
         self.open, self.mask = 0, 0
         self.ended = self.gone = False
@@ -35,10 +34,7 @@ class Client:
         except OSError:
             chunk = b""
             self.leave()
-        lines = chunk.split(b"\n")
-        last = lines.pop()
-        if last or self.cutter.rest:
-            self.cutter.mend(lines, last)
+        lines = self.cutter.lines(chunk)
         if not chunk or len(self.cutter.rest) > LONGEST:
             self.ended = True
         return lines
@@ -70,7 +66,7 @@ class Client:
 
     def settle(self):
         """Says what this client waits for; one that has ended and is owed nothing leaves."""
-        if self.ended and not self.open and not self.unsent:
+        if self.gone or self.ended and not self.open and not self.unsent:
             self.leave()
             return
         reading = not self.ended and self.open < OPEN_QUESTIONS and len(self.unsent) < UNSENT
@@ -80,7 +76,7 @@ class Client:
         if not mask:
             self.events.unregister(self.connection.fileno())
         elif not self.mask:
-            self.events.register(self.connection.fileno(), mask, self.happened)
+            self.events.register(self.connection.fileno(), mask, partial(self.receive, self))
         else:
             self.events.modify(self.connection.fileno(), mask)
         self.mask = mask

@@ -13,8 +13,8 @@ PIPE = 1 << 20
 CHUNK = 1 << 16
 # A session has at most 2^32 - 1 lines and 1,000,000 updates; an engine is replaced by a fresh one before.
 LINES, UPDATES = 4_000_000_000, 900_000
-# What stands behind the questions of a round, and is answered as the last of it.
-END, SYNC_LINE = Question(NOBODY, b"", SYNC, "end", 0), SYNC + b"\n"
+# What stands behind the questions of a round, and is answered as the last of it; and what is asked where nothing is.
+END, NOTHING = Question(NOBODY, b"", SYNC, "end", 0), Question(NOBODY, b"", b"", "nothing", 0)
 
 
 class Doubt(Exception):
@@ -69,11 +69,7 @@ class Engine:
             self.ended = True
             raise Doubt(f"it ended with status {self.status()}")
         self.moved = now
-        lines = chunk.split(b"\n")
-        last = lines.pop()
-        if last or self.cutter.rest:
-            self.cutter.mend(lines, last)
-        return lines
+        return self.cutter.lines(chunk)
 
     def rest(self, text):
         """What stands in the next line behind its number. Raises `Doubt` where it is no answer to what was asked next."""

@@ -26,7 +26,7 @@ NOBODY = Nobody()
 
 class Question:
     """One line of a client. `kind` is "request", "update", "exchange", "counts" or "sync"; "json" or "command" where it is
-    bad as such; or the broker's own "restore" or "end". `name` is its `id` as JSON in bytes.
+    bad as such; or the broker's own "restore", "end" or "nothing". `name` is its `id` as JSON in bytes.
     """
 
     __slots__ = ("client", "name", "line", "kind", "until", "tries", "relaxed")

@@ -7,7 +7,7 @@ from itertools import islice
 from typing import NamedTuple
 
 from dnr_lines.lines import SYNC, loaded
-from engine import END, Doubt, Engine
+from engine import END, NOTHING, Doubt, Engine
 from events import READ, WRITE
 from questions import NOBODY, Question
 
@@ -107,13 +107,17 @@ class Succession:
 
     def hear(self, engine, _):
         """Takes what an engine wrote. Where that is all that it owes it is asked again before the answers are looked at."""
+        if engine.closed:
+            return
         asked, verdict = engine.asked, self.owner.verdict
         try:
-            lines = [] if engine.closed else engine.lines(self.events.now)
+            lines = engine.lines(self.events.now)
             if self.owner.waiting and engine is self.engine and len(lines) == len(asked):
                 self.owner.next_round(engine)
+                if engine.closed:
+                    return
             for text in lines:
-                question = asked[0] if asked else END
+                question = asked[0] if asked else NOTHING
                 if question.kind == "request" and verdict(engine, question, text):
                     pass
                 elif question.kind != "end" or text != b'{"line":%d,"sync":%d}' % (engine.line + 1, engine.count):

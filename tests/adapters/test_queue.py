@@ -51,6 +51,15 @@ class Queue(unittest.TestCase):
             self.assertEqual(client.ask(asked("elsewhen.test")), {"id": 1, "generation": 0, "verdict": "none"})
         self.assertIn("another one is asked", broker.words_said())
 
+    def test_an_answer_too_many_gives_no_wrong_one(self):
+        broker = self.start()
+        with broker.client() as client:
+            client.ask(block(1, "a.test"))
+            for number, host in enumerate(["repeats.test", "a.test", "b.test"]):
+                told = client.ask(asked(host, number))
+                self.assertEqual((told["id"], told["verdict"]), (number, "block" if host == "a.test" else "none"))
+        self.assertIn("another one is asked", broker.words_said())
+
     def test_a_question_may_wait_so_long_and_then_the_setting_counts(self):
         for setting, verdict in (("closed", "block"), ("open", "none")):
             broker = self.start("--deadline", "0.4", "--undecided", setting)
