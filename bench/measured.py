@@ -6,9 +6,12 @@ import shutil
 import subprocess
 import sys
 from pathlib import Path
+from statistics import median
 
 TOP = Path(__file__).resolve().parent.parent
 RUNS = 3
+# So many times as many runs there may be, until differences tell something.
+PATIENCE = 5
 # A process that Python starts would count Python's own memory as its peak.
 TIME = "/usr/bin/time"
 
@@ -49,6 +52,34 @@ def run(words, output, folder=None):
 def best(words, output, folder=None):
     """The least seconds and the least peak memory of some runs."""
     return tuple(map(min, zip(*(run(words, output, folder) for _ in range(RUNS)))))
+
+
+def tells(pairs):
+    """Whether a whole took longer than its part in three of four pairs. Where it did not, other work hides the difference."""
+    return 4 * sum(whole > part for part, whole, _ in pairs) >= 3 * len(pairs)
+
+
+def in_turn(measures, runs=RUNS):
+    """For each name the least seconds of a part, how much longer the whole takes, and the least peak memory of the whole.
+
+    A measure is two functions that run the part and the whole, and give seconds and peak memory. They are run one behind the
+    other, and the names take turns. The difference is the median of those of all pairs: the least whole and the least part
+    may come from moments that differ by more than that. There are more runs where other work hides it.
+    """
+    pairs = {name: [] for name in measures}
+    while min(map(len, pairs.values())) < runs or not all(map(tells, pairs.values())):
+        if min(map(len, pairs.values())) >= PATIENCE * runs:
+            break
+        for name, (part, whole) in measures.items():
+            (seconds, _), (total, peak) = part(), whole()
+            pairs[name].append((seconds, total, peak))
+    return {name: summed(rows) for name, rows in pairs.items()}
+
+
+def summed(pairs):
+    """What pairs come to: the least part, the median difference, and the least peak memory."""
+    parts, _, peaks = zip(*pairs)
+    return min(parts), median(whole - part for part, whole, _ in pairs), min(peaks)
 
 
 def compiled(program, name, folder):

@@ -25,7 +25,7 @@ def number(value, form, unit=""):
 
 
 def seconds(value):
-    """Seconds in the unit that fits them. What is less than nothing is so by other work on the machine."""
+    """Seconds in the unit that fits them. A difference that is less than nothing is hidden by other work on the machine."""
     value = float(value)
     if value <= 0:
         return "too little to tell"
@@ -89,10 +89,11 @@ Nothing of this is promised, and what is proved says nothing of time or memory.
         ["instructions", f"{of['valgrind']}, cachegrind" if of["valgrind"] else "not counted, since valgrind was missing"],
         ["lists", of["lists"] + package if of["lists"] else "none"],
     ]
+    pairs = " What is told without what stands before it, as a request without the loading, is the median of the differences of such pairs of runs, one right behind the other."
     tail = f"""
 ![Time and instructions a request, memory and loading against the number of rules; requests a second by workers; updates](measured.svg)
 
-A time is one of the processor, so that other work counts little, and the least of {of["runs"]} runs or more in which the programs take turns; where it is by the clock it says so.
+A time is one of the processor, so that other work counts little, and the least of {of["runs"]} runs or more in which the programs take turns; where it is by the clock it says so.{pairs if of.get("differences") else ""}
 """
     return head + table(["what", ""], told) + tail
 

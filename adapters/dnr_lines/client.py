@@ -1,7 +1,10 @@
 """A connection to the broker, for programs that ask one line after another."""
 import socket
+from collections import deque
 
-from dnr_lines.lines import dumped, loaded
+from dnr_lines.lines import Cutter, dumped, loaded
+
+CHUNK = 1 << 16
 
 
 class Client:
@@ -11,25 +14,30 @@ class Client:
         self.connection = socket.socket(socket.AF_UNIX)
         self.connection.settimeout(seconds)
         self.connection.connect(path)
-        self.file = self.connection.makefile("rb")
+        self.cutter, self.lines = Cutter(), deque()
 
     def __enter__(self):
         return self
 
     def __exit__(self, *_):
-        self.file.close()
         self.connection.close()
 
     def send(self, line):
         """Sends one line, an object, which has an `id` where its reply is to be told from others."""
         self.connection.sendall(dumped(line) + b"\n")
 
+    def line(self):
+        """The next reply that comes, in bytes without its LF."""
+        while not self.lines:
+            chunk = self.connection.recv(CHUNK)
+            if not chunk:
+                raise OSError("the broker has left")
+            self.lines += self.cutter.lines(chunk)
+        return self.lines.popleft()
+
     def reply(self):
         """The next reply that comes."""
-        text = self.file.readline()
-        if not text.endswith(b"\n"):
-            raise OSError("the broker has left")
-        return loaded(text)
+        return loaded(self.line())
 
     def ask(self, line):
         """The reply to one line, where no other is open."""

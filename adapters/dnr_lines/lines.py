@@ -7,28 +7,48 @@ SYNC = b'{"cmd":"sync"}'
 QUESTIONS = ("request", "explain")
 UPDATES = ("dynamic", "session", "rulesets", "static", "install", "uninstall", "batch")
 VERDICTS = ("none", "block", "allow", "redirect", "upgrade")
+# White space of JSON.
+SPACES = " \t\r\n"
+# (`json.dumps` makes an encoder for each text whose form is not its own, and `json.loads` looks for white space twice)
+WITH_LETTERS = json.JSONEncoder(separators=(",", ":"), ensure_ascii=False).encode
+ESCAPED = json.JSONEncoder(separators=(",", ":")).encode
+SCANNED = json.JSONDecoder().scan_once
 
 
 def dumped(value):
     """A value as one line of JSON without its LF, in bytes; what is not ASCII stands as it is, where UTF-8 has it."""
     try:
-        return json.dumps(value, separators=(",", ":"), ensure_ascii=False).encode()
+        return WITH_LETTERS(value).encode()
     except UnicodeEncodeError:
-        return json.dumps(value, separators=(",", ":")).encode()
+        return ESCAPED(value).encode()
 
 
 def loaded(line):
     """The object that a line of bytes holds. Raises ValueError where it is none, or nothing that `dnr` can be asked."""
+    text = line.decode().strip(SPACES)
     try:
-        value = json.loads(line.decode())
-    except RecursionError:
-        raise ValueError("too many nestings") from None
-    if not isinstance(value, dict):
+        value, end = SCANNED(text, 0)
+    except (StopIteration, RecursionError):
+        raise ValueError("no JSON, or too many nestings") from None
+    if end != len(text) or not isinstance(value, dict):
         raise ValueError("no object")
     return value
 
 
-def cut(rest, chunk):
-    """The whole lines of what was left over and a further chunk of bytes, and what is left over then."""
-    lines = (rest + chunk).split(b"\n")
-    return lines[:-1], lines[-1]
+class Cutter:
+    """Cuts into lines what comes in chunks; `rest` is what came of a line that has no end yet."""
+
+    def __init__(self):
+        self.rest = bytearray()
+
+    def lines(self, chunk):
+        """The lines that end in a further chunk of bytes. Each byte of a line is copied once, however many chunks it comes in."""
+        lines = chunk.split(b"\n")
+        last = lines.pop()
+        if not last and not self.rest:
+            return lines
+        if lines:
+            lines[0] = bytes(self.rest) + lines[0]
+            self.rest.clear()
+        self.rest += last
+        return lines

@@ -3,23 +3,23 @@
 A round is what came while the last one was answered; no timer makes one. Updates have a round of their own, so each answer
 is known to be by one count of updates, and is held to that.
 """
-import os
 import re
-import selectors
-import time
 from collections import Counter, deque
 from functools import partial
 from typing import NamedTuple
 
-from clients import Client
+from clients import OPEN_QUESTIONS, Client
 from dnr_lines.lines import VERDICTS, dumped, loaded
 from engine import LINES, UPDATES
-from questions import NOBODY, BadLine, Question, read
+from events import READ, WRITE, Bell, Events
+from questions import NOBODY, read
 from succession import Succession
 
 ROUND, ROUND_BYTES = 1_000, 4_000_000
 TRIES = 3
-WORD = re.compile(rb'"verdict":"(%s)"[,}]' % "|".join(VERDICTS).encode())
+# The causes of what can't be asked.
+BAD = {"json": {"bad": "json"}, "command": {"bad": "command", "path": "cmd"}}
+VERDICT = re.compile(rb'"verdict":"(%s)"(?:,.*)?\}' % "|".join(VERDICTS).encode(), re.DOTALL).fullmatch
 
 
 class Settings(NamedTuple):
@@ -38,43 +38,44 @@ class Broker:
 
     def __init__(self, settings, journal, listener, say):
         self.settings, self.journal, self.say = settings, journal, say
-        self.selector = selectors.DefaultSelector()
-        self.selector.register(listener, selectors.EVENT_READ, partial(self.connect, listener))
-        self.engines = Succession(settings, journal, self.selector, say, self)
+        self.events = Events()
+        self.events.register(listener.fileno(), READ, partial(self.connect, listener))
+        self.engines = Succession(settings, journal, self.events, say, self)
         self.waiting, self.updates, self.updating, self.updated_last = deque(), deque(), False, False
-        self.touched, self.counts, self.checked = set(), Counter(), 0.0
+        self.touched = set()
+        self.verdicts, self.counts = dict.fromkeys(map(str.encode, VERDICTS), 0), Counter()
         self.tick = min(0.1, settings.deadline / 4)
-        self.stopping = False
-        self.bell, self.ringing = os.pipe()
-        self.selector.register(self.bell, selectors.EVENT_READ, lambda _: os.read(self.bell, 1))
+        self.bell, self.stopping = Bell(self.events, self.check), False
 
     def stop(self):
         """Ends `run` when the events at hand are done; a signal may call this."""
         self.stopping = True
-        os.write(self.ringing, b"!")
+        self.bell.ring()
 
     def run(self):
         """Serves until `stop` is called. Raises `Failed` where no engine can be started at first."""
-        self.turn()
         while not self.stopping:
-            quiet = self.engines.quiet and not self.waiting and not self.updates
-            for key, mask in self.selector.select(None if quiet else self.tick):
-                key.data(mask)
             self.turn()
+            self.events.wait()
 
     def turn(self):
         """What is to be done after some events."""
-        now = time.monotonic()
-        if now - self.checked > self.tick:
-            self.check(now)
-        if not self.engines.coming:
-            self.change(now)
         engine = self.engines.engine
-        if engine and engine.idle and self.waiting:
+        if self.updates or not engine or engine.line > self.settings.lines or engine.count > UPDATES:
+            self.change()
+            engine = self.engines.engine
+        if self.waiting and engine and not engine.asked:
             self.updated_last = False
             self.engines.ask(engine, self.next_questions())
         while self.touched:
             self.touched.pop().flush()
+        if not self.bell.often and not self.quiet:
+            self.bell.every(self.tick)
+
+    @property
+    def quiet(self):
+        """Whether nothing is under way."""
+        return not self.waiting and not self.updates and self.engines.quiet
 
     # Clients.
 
@@ -85,26 +86,29 @@ class Broker:
         except OSError as error:
             self.say(f"a client couldn't connect: {error.strerror}")
             return
-        Client(connection, self.selector, self.receive, self.touched)
+        Client(connection, self.events, self.receive, self.touched)
 
-    def receive(self, client):
-        """Takes in the lines that a client sent."""
-        now = time.monotonic()
-        for line in client.lines():
-            if line.strip():
-                client.open += 1
-                self.take(client, line, now)
-        client.settle()
+    def receive(self, client, mask):
+        """Takes in the lines that a client sent, and sends what it was not sent."""
+        if mask & ~WRITE:
+            until = self.events.now + self.settings.deadline
+            for line in client.lines():
+                if line and not line.isspace():
+                    client.open += 1
+                    question = read(client, line, until)
+                    if question.kind == "request":
+                        self.waiting.append(question)
+                    else:
+                        self.take(question)
+            if client.ended or client.open >= OPEN_QUESTIONS:
+                client.settle()
+        if mask & ~READ:
+            client.flush()
 
-    def take(self, client, line, now):
-        """Takes in one line of a client."""
-        try:
-            question = read(client, line, now + self.settings.deadline)
-        except BadLine as bad:
-            self.by_setting(Question(client, bad.name, line, "request", now), bad.cause)
-            return
-        if question.kind == "request":
-            self.waiting.append(question)
+    def take(self, question):
+        """Takes in what is no request."""
+        if question.kind in BAD:
+            self.by_setting(question, BAD[question.kind])
         elif question.kind == "counts":
             question.reply(dumped(self.state())[1:])
         else:
@@ -113,7 +117,10 @@ class Broker:
     def state(self):
         """What `counts` tells."""
         return {
-            "counts": {name: self.counts[name] for name in (*VERDICTS, "relaxed", "closed", "open", "late")},
+            "counts": {
+                **{name.decode(): count for name, count in self.verdicts.items()},
+                **{name: self.counts[name] for name in ("relaxed", "closed", "open", "late")},
+            },
             "engines": self.engines.begun,
             "generation": self.journal.number,
             "installed": [item.name for item in self.journal.installed.items],
@@ -123,54 +130,59 @@ class Broker:
 
     def next_questions(self):
         """The questions of the next round. One with which an engine ended is asked alone."""
-        if self.waiting[0].tries:
-            return [self.waiting.popleft()]
+        waiting = self.waiting
+        if len(waiting) == 1 or waiting[0].tries:
+            return [waiting.popleft()]
         questions, size = [], 0
-        while self.waiting and len(questions) < ROUND and size < ROUND_BYTES and not self.waiting[0].tries:
-            questions.append(self.waiting.popleft())
+        while waiting and len(questions) < ROUND and size < ROUND_BYTES and not waiting[0].tries:
+            questions.append(waiting.popleft())
             size += len(questions[-1].line)
         return questions
 
-    def settle(self, engine, question, answer):
-        """Takes one answer, and whether it is one."""
-        if question.kind == "request":
-            return self.verdict(engine, question, answer)
-        return self.updated(engine, question, answer)
+    def next_round(self, engine):
+        """Asks an engine whose last answers are there what waits, where no update is due before."""
+        if not self.updates and not engine.unwritten:
+            self.updated_last = False
+            self.engines.ask(engine, self.next_questions())
 
-    def verdict(self, engine, question, answer):
-        """Takes the answer to a request, and whether it is one."""
-        if answer.startswith(engine.says):
-            rest = answer[len(engine.says) :]
-            word = WORD.match(rest)
-            if word:
-                self.tell(question, engine.told, rest, word[1].decode())
-                return True
-            if not rest.startswith(b'"fault":'):
-                return False
-        elif not answer.startswith(b'"bad":'):
+    def verdict(self, engine, question, text):
+        """Hands a line to who asked, where it is the verdict that is to come next, and tells whether it is."""
+        count = engine.count
+        beginning = b'{"line":%d,"generation":%d,' % (engine.line + 1, count)
+        if not text.startswith(beginning):
             return False
-        self.undecided(question, answer)
+        rest = text[len(beginning) :]
+        word = VERDICT(rest)
+        if not word:
+            return False
+        client = question.client
+        if client is not NOBODY:
+            self.verdicts[word[1]] += 1
+            if question.relaxed:
+                self.counts["relaxed"] += 1
+                rest = rest[:-1] + b',"relaxed":true}'
+            client.reply(b'{"id":%s,"generation":%d,%s\n' % (question.name, count + engine.shift, rest))
         return True
 
-    def tell(self, question, told, rest, word):
-        """Hands a verdict to who asked."""
-        if question.client is NOBODY:
-            return
-        self.counts[word] += 1
-        if question.relaxed:
-            self.counts["relaxed"] += 1
-            rest = rest[:-1] + b',"relaxed":true}'
-        question.reply(told + rest)
+    def undecided(self, engine, question, answer):
+        """Takes an answer that is no verdict, and whether it is one to a request.
 
-    def undecided(self, question, answer):
-        """Asks a question again that `dnr` didn't decide, without what may have kept it from that; then the setting counts."""
+        The request is asked again, without what may have kept `dnr` from deciding it; then the setting counts.
+        """
+        if not answer.startswith((b'"generation":%d,"fault":' % engine.count, b'"bad":')):
+            return False
         if question.client is NOBODY:
-            return
+            return True
         if question.relaxed:
             self.by_setting(question, loaded(b"{" + answer))
-            return
-        question.relax()
-        self.waiting.appendleft(question)
+            return True
+        try:
+            question.relax()
+            self.waiting.appendleft(question)
+        except ValueError:
+            question.name = b"null"
+            self.by_setting(question, BAD["json"])
+        return True
 
     def by_setting(self, question, cause):
         """Replies what the setting says where there is no verdict, and why there is none."""
@@ -182,11 +194,13 @@ class Broker:
 
     # Updates.
 
-    def change(self, now):
+    def change(self):
         """Begins the next update or exchange, where no other is under way."""
         engine = self.engines.engine
+        if self.engines.coming:
+            return
         if not engine:
-            self.engines.start_if_due(now)
+            self.engines.start_if_due(self.events.now)
             return
         while self.updates and self.updates[0].kind == "sync":
             self.updates.popleft().reply(b'"sync":%d}' % self.journal.number)
@@ -197,7 +211,7 @@ class Broker:
         elif engine.line > self.settings.lines or engine.count > UPDATES:
             self.say(f"a fresh engine takes over after {engine.line:,} lines and {engine.count:,} updates")
             self.engines.start(self.journal.installed)
-        elif self.updates and engine.idle and not (self.waiting and self.updated_last):
+        elif self.updates and not engine.asked and not (self.waiting and self.updated_last):
             self.updating = self.updated_last = True
             self.engines.ask(engine, [self.updates.popleft()])
 
@@ -266,9 +280,9 @@ class Broker:
         else:
             self.by_setting(question, {"engine": "ended"})
 
-    def check(self, now):
-        """Looks for questions that have waited too long, and for engines that give nothing."""
-        self.checked = now
+    def check(self):
+        """Looks for questions that have waited too long, and for engines that give nothing; the bell calls it."""
+        now = self.events.now
         self.engines.check(now, self.updating)
         late = [question for question in self.waiting if question.until < now]
         if late:
@@ -279,8 +293,11 @@ class Broker:
             self.counts["late"] += 1
             self.by_setting(question, {"late": True})
             question.client = NOBODY
+        if self.quiet:
+            self.bell.every(0)
 
     def close(self):
         """Ends all engines."""
         self.engines.close()
-        self.selector.close()
+        self.bell.close()
+        self.events.close()

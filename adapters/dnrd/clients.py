@@ -1,25 +1,26 @@
 """The socket side: clients, the lines that they send, and the replies that they are sent."""
 import grp
 import os
-import selectors
 import socket
+from functools import partial
 
-from dnr_lines.lines import LONGEST, cut
+from dnr_lines.lines import LONGEST, Cutter
+from events import READ, WRITE
 
-CHUNK = 1 << 18
+# So many bytes are read at once. (For many more than a line has, memory would be mapped and given back for each line.)
+CHUNK = 1 << 14
 # A client that has so many questions open, or leaves so many bytes unread, is not read from until that falls.
 OPEN_QUESTIONS = 1_000
 UNSENT = 1 << 20
-READ, WRITE = selectors.EVENT_READ, selectors.EVENT_WRITE
 
 
 class Client:
     """One connection. `open` counts its questions that have no reply yet."""
 
-    def __init__(self, connection, selector, on_event, touched):
+    def __init__(self, connection, events, receive, touched):
         connection.setblocking(False)
-        self.connection, self.selector, self.on_event, self.touched = connection, selector, on_event, touched
-        self.unread, self.replies, self.unsent = b"", [], b""
+        self.connection, self.events, self.receive, self.touched = connection, events, receive, touched
+        self.cutter, self.replies, self.unsent = Cutter(), [], b""
         self.open, self.mask = 0, 0
         self.ended = self.gone = False
         self.settle()
@@ -33,8 +34,8 @@ class Client:
         except OSError:
             chunk = b""
             self.leave()
-        lines, self.unread = cut(self.unread, chunk)
-        if not chunk or len(self.unread) > LONGEST:
+        lines = self.cutter.lines(chunk)
+        if not chunk or len(self.cutter.rest) > LONGEST:
             self.ended = True
         return lines
 
@@ -49,7 +50,7 @@ class Client:
         if self.gone:
             return
         if self.replies:
-            self.unsent += b"\n".join(self.replies) + b"\n"
+            self.unsent += b"".join(self.replies)
             self.replies.clear()
         if self.unsent:
             try:
@@ -59,11 +60,13 @@ class Client:
             except OSError:
                 self.leave()
                 return
-        self.settle()
+        # (one that is read from, and was sent all, waits for what it waited for)
+        if self.unsent or self.ended or self.mask != READ:
+            self.settle()
 
     def settle(self):
-        """Tells the selector what this client waits for; one that has ended and is owed nothing leaves."""
-        if self.ended and not self.open and not self.unsent:
+        """Says what this client waits for; one that has ended and is owed nothing leaves."""
+        if self.gone or self.ended and not self.open and not self.unsent:
             self.leave()
             return
         reading = not self.ended and self.open < OPEN_QUESTIONS and len(self.unsent) < UNSENT
@@ -71,26 +74,19 @@ class Client:
         if mask == self.mask:
             return
         if not mask:
-            self.selector.unregister(self.connection)
+            self.events.unregister(self.connection.fileno())
         elif not self.mask:
-            self.selector.register(self.connection, mask, self.happened)
+            self.events.register(self.connection.fileno(), mask, partial(self.receive, self))
         else:
-            self.selector.modify(self.connection, mask, self.happened)
+            self.events.modify(self.connection.fileno(), mask)
         self.mask = mask
-
-    def happened(self, mask):
-        """What the selector calls: questions are handed on, and unsent replies go out."""
-        if mask & READ:
-            self.on_event(self)
-        if mask & WRITE:
-            self.flush()
 
     def leave(self):
         """Closes the connection; replies that come later are dropped."""
         if self.gone:
             return
         if self.mask:
-            self.selector.unregister(self.connection)
+            self.events.unregister(self.connection.fileno())
         self.mask, self.gone = 0, True
         self.connection.close()
 

@@ -5,11 +5,16 @@ import subprocess
 import time
 from collections import deque
 
-from dnr_lines.lines import SYNC, cut
+from dnr_lines.lines import SYNC, Cutter
+from questions import NOBODY, Question
 
 PIPE = 1 << 20
+# So many bytes are read at once, the answers of a round. (For 128 KiB memory would be mapped and given back for each read.)
+CHUNK = 1 << 16
 # A session has at most 2^32 - 1 lines and 1,000,000 updates; an engine is replaced by a fresh one before.
 LINES, UPDATES = 4_000_000_000, 900_000
+# What stands behind the questions of a round, and is answered as the last of it; and what is asked where nothing is.
+END, NOTHING = Question(NOBODY, b"", SYNC, "end", 0), Question(NOBODY, b"", b"", "nothing", 0)
 
 
 class Doubt(Exception):
@@ -25,10 +30,11 @@ def widen(pipe):
 
 
 class Engine:
-    """A running program. It has one round at most: some questions and the `sync` behind them.
+    """A running program. `asked` is what it owes an answer to, in the order of its lines: the questions of a round and `END`.
+    A round is asked when the answers of the last one are there, be they looked at or not; so there are two at most.
 
     `closed` says that it was let go, and an event of its pipes at hand is to be passed over;
-    `watched` says whether a selector waits for room in its pipe.
+    `watched` says whether somebody waits for room in its pipe.
     `count` is the number of updates that it accepted, and `shift` what is added to it in what clients are told.
     """
 
@@ -47,82 +53,42 @@ class Engine:
         for pipe in (self.input, self.output):
             os.set_blocking(pipe, False)
             widen(pipe)
-        self.line = 0
-        self.number(0, 0)
-        self.asked, self.synced = deque(), True
-        self.unwritten, self.unread, self.odd = b"", b"", b""
+        self.line = self.count = self.shift = 0
+        self.asked = deque()
+        self.unwritten, self.cutter, self.odd = b"", Cutter(), b""
         self.ended = self.watched = self.closed = False
         self.moved = time.monotonic()
 
-    def number(self, count, shift):
-        """Sets the count, and the bytes in which an answer says it and a client is told it."""
-        self.count, self.shift = count, shift
-        self.says, self.told = (b'"generation":%d,' % it for it in (count, count + shift))
-
-    @property
-    def idle(self):
-        """Whether the last round has ended."""
-        return self.synced
-
-    def ask(self, questions):
-        """Begins a round with these questions, which have a `line` each."""
-        self.asked.extend(questions)
-        self.synced = False
-        self.moved = time.monotonic()
-        self.unwritten = b"\n".join([question.line for question in questions] + [SYNC, b""])
-        self.write()
-
-    def write(self):
-        """Writes what the pipe takes now."""
+    def lines(self, now):
+        """Reads what the engine wrote: the whole lines."""
         try:
-            taken = os.write(self.input, self.unwritten)
+            chunk = os.read(self.output, CHUNK)
         except BlockingIOError:
-            return
-        except OSError as error:
-            raise Doubt(f"it takes no more lines ({error.strerror})") from None
-        self.unwritten = self.unwritten[taken:]
-
-    def answers(self):
-        """Reads what the engine wrote, and gives pairs of a question and the rest of its answer behind the line's number.
-
-        Raises `Doubt` at the first line that is not the answer to what is to be answered next; what came before it holds.
-        """
-        try:
-            chunk = os.read(self.output, PIPE)
-        except BlockingIOError:
-            return
+            return []
         if not chunk:
             self.ended = True
             raise Doubt(f"it ended with status {self.status()}")
-        self.moved = time.monotonic()
-        lines, self.unread = cut(self.unread, chunk)
-        for text in lines:
-            beginning = b'{"line":%d,' % (self.line + 1)
-            if self.synced or not text.startswith(beginning) or not text.endswith(b"}"):
-                self.odd = text
-                raise Doubt(f"line {self.line + 1} was to be answered, and it wrote {text[:80]!r}")
-            self.line += 1
-            if self.asked:
-                yield self.asked.popleft(), text[len(beginning) :]
-            else:
-                self.end_round(text[len(beginning) :])
+        self.moved = now
+        return self.cutter.lines(chunk)
 
-    def end_round(self, answer):
-        """Takes the answer to the `sync` of a round."""
-        if answer != b'"sync":%d}' % self.count:
-            raise Doubt(f"{self.count} updates were accepted, and it says {answer[:80]!r}")
-        self.synced = True
+    def rest(self, text):
+        """What stands in the next line behind its number. Raises `Doubt` where it is no answer to what was asked next."""
+        beginning = b'{"line":%d,' % (self.line + 1)
+        if not self.asked or not text.startswith(beginning) or not text.endswith(b"}"):
+            self.odd = text
+            raise Doubt(f"line {self.line + 1} was to be answered, and it wrote {text[:80]!r}")
+        return text[len(beginning) :]
 
     def accepts(self, answer):
         """Whether this answer says that the next update was accepted; it is counted then."""
         if answer != b'"accepted":%d}' % (self.count + 1):
             return False
-        self.number(self.count + 1, self.shift)
+        self.count += 1
         return True
 
     def last_words(self):
         """The line that was no answer, or else what was left of one, and the status where it has ended."""
-        return (self.odd or self.unread).decode(errors="replace").strip(), self.status()
+        return bytes(self.odd or self.cutter.rest).decode(errors="replace").strip(), self.status()
 
     def status(self):
         """The status of an engine that has ended, and None where it hasn't. Where its output has ended it soon does."""

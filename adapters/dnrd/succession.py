@@ -1,13 +1,14 @@
 """Which engine answers: one at a time, and now and then another that is brought to take its place."""
-import selectors
+import os
 import shutil
 import time
 from functools import partial
 from itertools import islice
 from typing import NamedTuple
 
-from dnr_lines.lines import loaded
-from engine import Doubt, Engine
+from dnr_lines.lines import SYNC, loaded
+from engine import END, NOTHING, Doubt, Engine
+from events import READ, WRITE
 from questions import NOBODY, Question
 
 # So many updates of a fresh engine stand in a round, so that making them holds up nobody.
@@ -39,12 +40,13 @@ def refusal(last, reason):
 class Succession:
     """`engine` answers, `coming` is to take its place, and `ending` answers its last round; each may be None.
 
-    The owner has `settle`, which takes an answer or raises `Doubt`; `ask_again`, which takes what was left unanswered; and
-    `exchanged` and `not_exchanged`, which are told what became of an exchange.
+    The owner has `verdict`, which takes a line where it is the verdict that was asked for; `undecided` and `updated`, which
+    take an answer and say whether it is one; `next_round`, which may ask an engine whose last answers are there; `ask_again`,
+    which takes what was left unanswered; and `exchanged` and `not_exchanged`, which are told what became of an exchange.
     """
 
-    def __init__(self, settings, journal, selector, say, owner):
-        self.settings, self.journal, self.selector, self.say, self.owner = settings, journal, selector, say, owner
+    def __init__(self, settings, journal, events, say, owner):
+        self.settings, self.journal, self.events, self.say, self.owner = settings, journal, events, say, owner
         self.engine = self.coming = self.ending = None
         self.begun, self.dying = 0, []
         self.failures, self.not_before = 0, 0.0
@@ -52,7 +54,7 @@ class Succession:
     @property
     def quiet(self):
         """Whether there is an engine, and nothing is under way."""
-        return self.engine and self.engine.idle and not self.coming and not self.ending
+        return self.engine and not self.engine.asked and not self.coming and not self.ending
 
     def engines(self):
         """All engines that run."""
@@ -64,7 +66,7 @@ class Succession:
         room = self.journal.room(installed)
         engine = Engine(self.settings.program, [*workers, *installed.words()], room)
         self.coming = Coming(engine, installed, installed.lines(), exchange)
-        self.selector.register(engine.output, selectors.EVENT_READ, partial(self.hear, engine))
+        self.events.register(engine.output, READ, partial(self.hear, engine))
         # (its `sync` is answered when the files are read)
         self.ask(engine, self.restoring())
 
@@ -78,67 +80,83 @@ class Succession:
         return [Question(NOBODY, b"", line, "restore", 0) for line in islice(self.coming.lines, RESTORED)]
 
     def ask(self, engine, questions):
-        """Begins a round of an engine."""
-        try:
-            engine.ask(questions)
-            self.watch(engine)
-        except Doubt as doubt:
-            self.lose(engine, str(doubt))
+        """Begins a round of an engine with these questions, which have a `line` each."""
+        engine.moved = self.events.now
+        engine.asked += questions
+        engine.asked.append(END)
+        engine.unwritten += b"\n".join([question.line for question in questions] + [SYNC, b""])
+        self.write(engine)
 
-    def watch(self, engine):
-        """Waits for room in the engine's pipe exactly while there is something to write."""
-        if bool(engine.unwritten) == engine.watched:
-            return
-        if engine.unwritten:
-            self.selector.register(engine.input, selectors.EVENT_WRITE, partial(self.write, engine))
-        else:
-            self.selector.unregister(engine.input)
-        engine.watched = not engine.watched
-
-    def write(self, engine, _):
-        """Writes what is left of a round."""
+    def write(self, engine, _=None):
+        """Writes what an engine's pipe takes now, and waits for room exactly while there is more."""
         if engine.closed:
             return
         try:
-            engine.write()
-            self.watch(engine)
-        except Doubt as doubt:
-            self.lose(engine, str(doubt))
+            engine.unwritten = engine.unwritten[os.write(engine.input, engine.unwritten) :]
+        except BlockingIOError:
+            pass
+        except OSError as error:
+            self.lose(engine, f"it takes no more lines ({error.strerror})")
+            return
+        if engine.unwritten and not engine.watched:
+            self.events.register(engine.input, WRITE, partial(self.write, engine))
+            engine.watched = True
+        elif engine.watched and not engine.unwritten:
+            self.events.unregister(engine.input)
+            engine.watched = False
 
     def hear(self, engine, _):
-        """Takes the answers that an engine wrote."""
+        """Takes what an engine wrote. Where that is all that it owes it is asked again before the answers are looked at."""
         if engine.closed:
             return
+        asked, verdict = engine.asked, self.owner.verdict
         try:
-            for question, answer in engine.answers():
-                self.settle(engine, question, answer)
+            lines = engine.lines(self.events.now)
+            if self.owner.waiting and engine is self.engine and len(lines) == len(asked):
+                self.owner.next_round(engine)
+                if engine.closed:
+                    return
+            for text in lines:
+                question = asked[0] if asked else NOTHING
+                if question.kind == "request" and verdict(engine, question, text):
+                    pass
+                elif question.kind != "end" or text != b'{"line":%d,"sync":%d}' % (engine.line + 1, engine.count):
+                    self.settle(engine, question, text)
+                engine.line += 1
+                asked.popleft()
         except Doubt as doubt:
             self.lose(engine, str(doubt))
-            return
-        if engine.idle and engine is self.ending:
+        if not asked and engine is not self.engine and not engine.closed:
+            self.go_on(engine)
+
+    def settle(self, engine, question, text):
+        """Takes an answer that is neither a verdict nor the end of a round, or raises `Doubt`."""
+        answer, kind = engine.rest(text), question.kind
+        if kind == "request":
+            done = self.owner.undecided(engine, question, answer)
+        elif kind == "update":
+            done = self.owner.updated(engine, question, answer)
+        else:
+            done = kind == "restore" and engine.accepts(answer)
+        if not done:
+            raise Doubt(f"to line {engine.line + 1} it wrote {answer[:120]!r}")
+
+    def go_on(self, engine):
+        """What is to be done with an engine that has answered all, and is not the one that is asked."""
+        if engine is self.ending:
             self.ending = None
             self.end(engine)
-        elif engine.idle and self.coming and engine is self.coming.engine:
-            updates = self.restoring()
-            if updates:
-                self.ask(engine, updates)
-            else:
-                self.switch()
-
-    def settle(self, engine, question, answer):
-        """Takes one answer, or raises `Doubt` and leaves the question with the engine."""
-        if question.kind == "restore":
-            done = engine.accepts(answer)
+            return
+        updates = self.restoring()
+        if updates:
+            self.ask(engine, updates)
         else:
-            done = self.owner.settle(engine, question, answer)
-        if not done:
-            engine.asked.appendleft(question)
-            raise Doubt(f"to line {engine.line} it wrote {answer[:120]!r}")
+            self.switch()
 
     def switch(self):
         """Lets the engine that came take the place of the one before it, which answers its last round."""
         coming, self.coming = self.coming, None
-        if self.engine and self.engine.idle:
+        if self.engine and not self.engine.asked:
             self.end(self.engine)
         elif self.engine:
             self.ending = self.engine
@@ -146,13 +164,13 @@ class Succession:
         self.begun += 1
         if coming.exchange:
             self.owner.exchanged(coming)
-        self.engine.number(self.engine.count, self.journal.number - self.engine.count)
+        self.engine.shift = self.journal.number - self.engine.count
 
     def end(self, engine):
         """Lets go of an engine."""
-        self.selector.unregister(engine.output)
+        self.events.unregister(engine.output)
         if engine.watched:
-            self.selector.unregister(engine.input)
+            self.events.unregister(engine.input)
         engine.close()
         self.dying.append(engine.process)
         shutil.rmtree(engine.room, ignore_errors=True)
@@ -193,7 +211,7 @@ class Succession:
         for engine in self.engines():
             patient = updating or (self.coming and engine is self.coming.engine)
             limit = self.settings.patience if patient else self.settings.deadline
-            if not engine.idle and now - engine.moved > limit:
+            if engine.asked and now - engine.moved > limit:
                 self.lose(engine, f"it gave nothing for {limit:g} s")
 
     def close(self):

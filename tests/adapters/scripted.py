@@ -7,6 +7,7 @@ It knows one kind of rule, `||HOST^` in a dynamic update, and these URLs, each o
     http://skips.test/      this line's answer is left out
     http://elsewhen.test/   the answer names another generation
     http://sleeps.test/     no answer for a long time
+    http://repeats.test/    the `sync` behind it is answered twice
 """
 import json
 import os
@@ -14,7 +15,7 @@ import sys
 import time
 from urllib.parse import urlsplit
 
-hosts, count, out = {}, 0, []
+hosts, count, out, repeats = {}, 0, [], False
 
 
 def first_time(name):
@@ -28,7 +29,8 @@ def first_time(name):
 
 def request(number, line):
     """The answer to a request, or None."""
-    global count
+    global repeats
+    repeats = False
     host = urlsplit(line["url"]).hostname
     if "\u00e9" in line.get("initiator", "") or line.get("requestHeaders") == "bad":
         return {"line": number, "bad": "url", "path": "initiator", "why": "bad-url"}
@@ -40,6 +42,7 @@ def request(number, line):
         time.sleep(60)
     if host == "skips.test" and first_time(host):
         return None
+    repeats = host == "repeats.test" and first_time(host)
     shift = 1 if host == "elsewhen.test" and first_time(host) else 0
     if host in hosts.values():
         rule = next(it for it, name in hosts.items() if name == host)
@@ -72,11 +75,15 @@ def main():
     if "refused=refused" in sys.argv:
         print('{"file":"refused","refused":"too-many-rules","count":3}', flush=True)
         sys.exit(1)
-    for number, text in enumerate(sys.stdin, 1):
-        told = answer(number, json.loads(text))
+    for number, text in enumerate(sys.stdin.buffer, 1):
+        try:
+            told = answer(number, json.loads(text.decode()))
+        except (ValueError, RecursionError):
+            told = {"line": number, "bad": "json"}
         if told:
             out.append(json.dumps(told, separators=(",", ":")) + "\n")
-        if '"sync"' in text:
+        if b'"sync"' in text:
+            out.extend([f'{{"line":{number + 1},"sync":{count}}}\n'] * repeats)
             sys.stdout.write("".join(out))
             sys.stdout.flush()
             out.clear()

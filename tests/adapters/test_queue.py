@@ -1,6 +1,7 @@
 """How the broker queues, over a scripted child that goes wrong when told: no built program is asked here."""
 import json
 import threading
+import time
 import unittest
 
 from support import SCRIPTED, Broker, room, wait_for
@@ -50,6 +51,15 @@ class Queue(unittest.TestCase):
             self.assertEqual(client.ask(asked("elsewhen.test")), {"id": 1, "generation": 0, "verdict": "none"})
         self.assertIn("another one is asked", broker.words_said())
 
+    def test_an_answer_too_many_gives_no_wrong_one(self):
+        broker = self.start()
+        with broker.client() as client:
+            client.ask(block(1, "a.test"))
+            for number, host in enumerate(["repeats.test", "a.test", "b.test"]):
+                told = client.ask(asked(host, number))
+                self.assertEqual((told["id"], told["verdict"]), (number, "block" if host == "a.test" else "none"))
+        self.assertIn("another one is asked", broker.words_said())
+
     def test_a_question_may_wait_so_long_and_then_the_setting_counts(self):
         for setting, verdict in (("closed", "block"), ("open", "none")):
             broker = self.start("--deadline", "0.4", "--undecided", setting)
@@ -76,13 +86,53 @@ class Queue(unittest.TestCase):
 
     def test_lines_that_cannot_be_asked_are_no_leave_to_pass(self):
         with self.start().client() as client:
-            lines = {b"{": "json", b"[]": "json", b'{"cmd":"zzz","id":1}': "command", b'{"cmd":1}': "command"}
-            for line, cause in lines.items():
+            for line, name, cause in (
+                (b"{", None, "json"),
+                (b"[]", None, "json"),
+                (b'{"id":1,', None, "json"),
+                (b'{"id":1,"url":"http://b.test/"}}', None, "json"),
+                (b'{"id":1,"url":"http://b.test/","x":"\xff"}', None, "json"),
+                (b'{"id":1,"url":"http://b.test/","x":' + b"[" * 5_000 + b"]" * 5_000 + b"}", None, "json"),
+                (b'{"cmd":"zzz","id":1}', 1, "command"),
+                (b'{"id":1,"cmd":[]}', 1, "command"),
+                (b'{"cmd":1}', None, "command"),
+            ):
                 client.connection.sendall(line + b"\n")
                 told = client.reply()
-                self.assertEqual((told["verdict"], told["cause"]["bad"]), ("block", cause), line)
+                self.assertEqual((told["id"], told["verdict"], told["cause"]["bad"]), (name, "block", cause), line)
             client.connection.sendall(b"\n  \n")
             self.assertEqual(client.ask(asked("b.test"))["verdict"], "none")
+
+    def test_a_reply_has_the_id_of_its_line_whatever_its_form(self):
+        with self.start().client() as client:
+            for line, name in (
+                (b'{"id":1,%s}', b"1"),
+                (b'{"id": 1, %s}', b"1"),
+                (b'\t{"id" :1 ,%s} \r', b"1"),
+                (b'{%s,"id":"a"}', b'"a"'),
+                (b'{"id":1,%s,"id":2}', b"2"),
+                (b'{"id":1,"x":{"id":2},%s}', b"1"),
+                (b'{"id":1,%s,"\\u0069d":3}', b"3"),
+                (b'{"id":"\\u0041\\"",%s}', b'"A\\""'),
+                (b'{"id":"\xc3\xa9","cmd":"explain",%s}', b'"\xc3\xa9"'),
+                (b'{"id":1234567890123456789012,%s}', b"1234567890123456789012"),
+                (b'{"id":-0,%s}', b"0"),
+                (b'{"id":1.5,%s}', b"null"),
+                (b'{"id":true,%s}', b"null"),
+                (b"{%s}", b"null"),
+            ):
+                client.connection.sendall(line % b'"url":"http://b.test/"' + b"\n")
+                self.assertEqual(client.line(), b'{"id":%s,"generation":0,"verdict":"none"}' % name, line)
+            client.connection.sendall(b'{"id":1,"\\u0063md":"sync"}\n')
+            self.assertEqual(client.line(), b'{"id":1,"sync":0}')
+
+    def test_lines_may_come_in_pieces_and_many_at_once(self):
+        with self.start().client() as client:
+            lines = b"".join(b'{"id":%d,"url":"http://b.test/"}\n' % number for number in range(3_000))
+            for start in range(0, len(lines), 9_973):
+                client.connection.sendall(lines[start : start + 9_973])
+                time.sleep(0.001)
+            self.assertEqual([client.reply()["id"] for _ in range(3_000)], list(range(3_000)))
 
     def test_a_line_without_an_end_ends_its_client_alone(self):
         broker = self.start()
