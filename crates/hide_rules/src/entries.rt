@@ -47,7 +47,8 @@ fn read_entry(alloc: Global, piece: &[u8]) -> Result<Option<DomainEntry>, NoMemo
 fn read_pieces(alloc: Global, text: &[u8]) -> Result<Option<Vec<DomainEntry>>, NoMemory>
     ensures { IfOk result (AreEntriesOf (map spec.entry_of (pieces.pieces_of 44 text.now))) }
 {
-    let mut entries = Vec::new(alloc);
+    // Most lines name one domain, so no more room is taken than for that.
+    let mut entries = Vec::with_capacity(alloc, 1)?;
     let mut rest = text;
     'pieces: loop {
         let (piece, later) = cut_at(b',', rest);
