@@ -1,5 +1,5 @@
 -- The lines of a script that a round was read from, and what a round is to them.
-use Rattle.std.specs.Prelude.{◌≡◌, ◌⊎◌, ℕ, suc, ◌+◌, List, [], ◌∷◌, ◌++◌, true, Result, Ok, Err}
+use Rattle.std.specs.Prelude.{◌≡◌, ◌⊎◌, ℕ, suc, ◌+◌, List, [], ◌∷◌, ◌++◌, true, false, Result, Ok, Err}
 use Rattle.dnr_spec.specs.Suffixes.{SuffixRule}
 use Rattle.generation.specs.Basis.{Basis}
 use Rattle.rule_spec.specs.State.{State}
