@@ -1,4 +1,5 @@
 """What the broker waits for: one thread, and one function for each descriptor on which something may happen."""
+import contextlib
 import os
 import select
 import signal
@@ -64,7 +65,9 @@ class Bell:
 
     def ring(self, *_):
         """Ends the waiting."""
-        os.write(self.rings, b"!")
+        # (where the pipe is full it was rung often enough)
+        with contextlib.suppress(BlockingIOError):
+            os.write(self.rings, b"!")
 
     def heard(self, _):
         """What is called when the bell was rung."""
