@@ -1,5 +1,5 @@
 -- The counts of hosts, of which a part of a run had some, or had them later.
-use Rattle.std.proofs.Common.{◌≡◌, ℕ, zero, suc, ◌≤◌, List, [], ◌∷◌, ◌++◌, length, map, take, drop, append-nil, Bool, Option, Some, None, Result, Ok, Err, refl, sym, ap, ◌∙◌, inl, inr, subst, arith}
+use Rattle.std.proofs.Common.{◌≡◌, ℕ, zero, suc, ◌≤◌, List, [], ◌∷◌, ◌++◌, length, map, take, drop, append-nil, Option, Some, None, Result, Ok, Err, refl, sym, ap, ◌∙◌, inl, inr, subst, arith}
 use Rattle.std.specs.Prelude.{IfSome, slice_get, slice_index_or, slice_set}
 use Rattle.std.specs.List.{AllZip}
 use Rattle.std.proofs.lemmas.List.{take_all, drop_all, map-append}
@@ -13,8 +13,7 @@ use Rattle.session_serve.specs.declared.stop.ServeStop.{ServeStop}
 use Rattle.session_serve.specs.declared.stop.ServeStop.TheVariants as serve
 use Rattle.session_spec.specs.Rounds.{rounds_of, whole_rounds_of, short_lines, ended_lines}
 use Rattle.session_spec.specs.Answers.{Setting, Serves, HostRisesBy}
-use Rattle.session_spec.specs.Loading.{Loaded}
-use Rattle.session_spec.specs.Out.{Outside, Out}
+use Rattle.session_spec.specs.Out.{Out}
 use Rattle.session_laws.specs.Turns.{NoneFell, counts_between}
 use Rattle.session_laws.proofs.Rises.{nothing_risen, none_fell_yet}
 use Rattle.std.specs.Io.KnownBytes.{Appends}
@@ -22,7 +21,6 @@ use Rattle.session_serve.specs.Position.{Position}
 use Rattle.session_serve.specs.Round.{setting_with}
 use Rattle.session_spec.specs.Words.{Task, task_of}
 use Rattle.text_commands.specs.Ends.{MayEnd, outside}
-use Rattle.dnr_top.specs.Run.{SaysNoLess, MayServe}
 use Rattle.dnr_top.proofs.Tasks.{out_of}
 
 -- what rose among some hosts rose among them and others, which stay
@@ -52,22 +50,6 @@ rose_since first middle last earlier rose = omega (arith, earlier, rose)
 -- a start is counted, and what is read after it starts nothing
 pub rose_by_start : (before started now : ℕ) → started ≡ next_count before → now ≡ started → Rose before now
 rose_by_start before started now counted same = subst (λ (n : ℕ). next_count before ≤ n) (sym (same ∙ counted)) (omega arith)
-
--- what is said of more is said of less
-pub less_on : (a b c : Outside) → SaysNoLess a b → SaysNoLess b c → SaysNoLess a c
-less_on a b c p q = record {
-  shelf_rose = λ rose. p.shelf_rose (q.shelf_rose rose);
-  same_started = p.same_started ∙ q.same_started;
-  same_sink = p.same_sink ∙ q.same_sink;
-  hosts = λ place times rises. p.hosts place times (q.hosts place times rises);
-  same_left = p.same_left ∙ q.same_left;
-}
-
-pub serves_more : (known : Option Files) (loaded : Loaded) (updates : Bool) (workers : ℕ) (script : List ℕ) (before now : Option (List ℕ)) (more part : Outside) (ended : Status)
-    → SaysNoLess more part → MayServe known loaded updates workers script before now part ended → MayServe known loaded updates workers script before now more ended
-serves_more None loaded updates workers script before now more part ended less serves = tt
-serves_more (Some files) loaded updates workers script before now more part ended less serves =
-    λ session whole loads takes works above. serves session whole loads takes works (less_on whole more part above less)
 
 -- ---- what was served with some of the hosts
 

@@ -155,9 +155,6 @@ returns-in-None-clause-hosts g c =
 pub answer_requests-requires-clause-names : goal.answer_requests-requires-clause-names
 answer_requests-requires-clause-names g c κs within = subst (MayAskFor g.F.Shelf.allows (g.F.Source.files c.args.shelf.now)) (sym c.in-Some-Match.ensures ∙ ap (λ t. Some (task_seen t)) c.in-Some-Match.field-0-is) c.requires.names
 
-pub answer_requests-in-Some-Follow-requires-clause-names : goal.answer_requests-in-Some-Follow-requires-clause-names
-answer_requests-in-Some-Follow-requires-clause-names g c κs within = subst (MayAskFor g.F.Shelf.allows (g.F.Source.files c.args.shelf.now)) (sym c.in-Some-Follow.ensures ∙ ap (λ t. Some (task_seen t)) c.in-Some-Follow.field-0-is) c.requires.names
-
 pub serve_script-requires-clause-names : goal.serve_script-requires-clause-names
 serve_script-requires-clause-names g c κs within = subst (MayAskFor g.F.Shelf.allows (g.F.Source.files c.args.shelf.now)) (sym c.in-Some-Serve.ensures ∙ ap (λ t. Some (task_seen t)) c.in-Some-Serve.field-0-is) c.requires.names
 
