@@ -1,0 +1,4 @@
+pub mod Normal
+pub mod Judged
+pub mod Reads
+pub mod Accepted
