@@ -1,5 +1,5 @@
 -- Lists of payloads that are read and accepted, and one payload more.
-use Rattle.std.proofs.Common.{◌≡◌, ◌⊎◌, ⊎_elim, ℕ, List, [], ◌∷◌, ◌++◌, map, filter_map, Bool, true, false, cond, Option, Some, None, Result, Ok, Err, bytes_eq, refl, sym, ap, ◌∙◌}
+use Rattle.std.proofs.Common.{◌≡◌, ◌⊎◌, ⊎_elim, ℕ, List, [], ◌∷◌, ◌++◌, map, filter_map, Bool, true, false, cond, Option, Some, None, Result, Ok, Err, bytes_eq, refl, sym, ap, ◌∙◌, length, arith}
 use Rattle.std.specs.List.{list_all, cons_option}
 use Rattle.std.proofs.lemmas.Bool.{and_parts, and_from}
 use Rattle.std.proofs.lemmas.List.{map-append}
@@ -12,7 +12,7 @@ use Rattle.keep_records.specs.Records.{payloads}
 use Rattle.keep_records.specs.Ends.{IsBeforeOrAfter}
 use Rattle.keep_spec.specs.Kept.{dynamic_of, dynamic_in, update_at, kept, start, state_of, accepts, all_accepted, takes_read, takes}
 use Rattle.keep_spec.specs.Agrees.{AreRead, IsSound, IsFirstRefused}
-use Rattle.keep_laws.specs.Laws.{is_dynamic, AreDynamic}
+use Rattle.keep_laws.specs.Laws.{is_dynamic, AreDynamic, EmptyDisksAreSound}
 
 heads : {X : Type 0} (x y : X) (xs ys : List X) → x ∷ xs ≡ y ∷ ys → x ≡ y
 heads x y xs ys e = cc
@@ -148,3 +148,17 @@ sound_after name old image payload v sound is accepted added =
       accepted = accepted_push name sound.list v sound.accepted accepted;
     })
     added.either
+
+-- ---- an empty file
+
+pub empty_is_sound : (name image : List ℕ) → image ≡ [] → IsSound name image
+unfolding payloads
+empty_is_sound name image is = record {
+  short = omega (arith, ap length is);
+  list = [];
+  read = ap (λ (file : List ℕ). map (update_at name) (payloads file)) is;
+  accepted = refl;
+}
+
+pub empty_disks_are_sound : EmptyDisksAreSound
+empty_disks_are_sound name images only image left = empty_is_sound name image (only image left)

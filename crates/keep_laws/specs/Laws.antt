@@ -1,6 +1,7 @@
 -- Laws of updates that are written, and of updates that are the same but for the order of what they list as sets.
-use Rattle.std.specs.Prelude.{◌≡◌, ℕ, List, map, Bool, true, false, IsTrue, IsUtf8, All, Some}
+use Rattle.std.specs.Prelude.{◌≡◌, ℕ, List, [], map, Bool, true, false, IsTrue, IsUtf8, All, Some}
 use Rattle.std.specs.List.{list_all}
+use Rattle.keep_disk.specs.Images.{Only}
 use Rattle.rule_spec.specs.Rule.{Rule}
 use Rattle.rule_spec.specs.IsRule.{IsRule, is_number}
 use Rattle.written_laws.specs.Normal.{normal}
@@ -8,7 +9,7 @@ use Rattle.written_laws.specs.Read.{IdsDiffer}
 use Rattle.update_spec.specs.Update.{Update, dynamic}
 use Rattle.update_spec.specs.Judge.{judge_update}
 use Rattle.keep_spec.specs.Kept.{update_at, state_of}
-use Rattle.keep_spec.specs.Agrees.{normal_update, AreAlike}
+use Rattle.keep_spec.specs.Agrees.{normal_update, AreAlike, Sound}
 use Rattle.keep_spec.specs.Written.{payload_text, are_tabless}
 
 abbrev pub is_dynamic : Update → Bool
@@ -35,3 +36,7 @@ AlikeUpdatesAreJudgedAlike =
 -- the normal form of a normal form is itself
 abbrev pub NormalUpdatesStay : Type 0
 NormalUpdatesStay = (update : Update) → normal_update (normal_update update) ≡ normal_update update
+
+-- a disk that a crash now can only leave empty is sound for every extension
+abbrev pub EmptyDisksAreSound : Type 0
+EmptyDisksAreSound = (name : List ℕ) (images : List ℕ → Type 0) → Only [] images → Sound name images

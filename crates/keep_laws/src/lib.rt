@@ -3,7 +3,7 @@
 #![tactic(auto)]
 
 ghost use Rattle.keep_laws.specs.Laws.{WrittenUpdatesAreRead, AlikeUpdatesAreJudgedAlike};
-ghost use Rattle.keep_laws.specs.Laws.{NormalUpdatesStay};
+ghost use Rattle.keep_laws.specs.Laws.{NormalUpdatesStay, EmptyDisksAreSound};
 
 use written_laws::{normal_rules_are_the_same, written_rules_are_read};
 
@@ -22,3 +22,9 @@ pub fn alike_updates_are_judged_alike()
 {
     normal_rules_are_the_same();
 }
+
+/// A disk that a crash now can only leave empty is sound for every extension.
+#[tactic(auto, using(crate::proofs::Accepted::empty_disks_are_sound))]
+pub fn empty_disks_are_sound()
+    ensures { EmptyDisksAreSound }
+{}

@@ -1,20 +1,25 @@
 -- What a crash leaves while an update is added.
-use Rattle.std.proofs.Common.{◌≡◌, inl, inr, ⊎_elim, ℕ, ◌+◌, ◌<◌, ◌≤◌, true, List, [], ◌∷◌, ◌++◌, map, filter_map, length, Some, None, is_none, Result, Ok, Err, is_err, OnOk, sym, ◌∙◌, ap, arith}
+use Rattle.std.proofs.Common.{◌≡◌, inl, inr, ⊎_elim, ℕ, ◌+◌, ◌<◌, ◌≤◌, true, List, [], ◌∷◌, ◌++◌, map, filter_map, length, Some, None, is_none, Result, Ok, Err, is_err, OnOk, sym, ◌∙◌, ap, arith, refl, subst}
+use Rattle.std.proofs.lemmas.Bool.{and_parts, and_from}
 use Rattle.std.proofs.lemmas.List.{map-append}
 use Rattle.std.proofs.lemmas.List.Elements.{filter_map-append}
-use Rattle.std.specs.List.{cons_option}
+use Rattle.std.specs.List.{list_all, cons_option}
 use Rattle.keep_disk.specs.Moments.{LeavesOnly}
 use Rattle.keep_disk.proofs.Moments.{weakened}
 use Rattle.rule_spec.specs.Rule.{Rule}
+use Rattle.rule_spec.specs.State.{State}
 use Rattle.update_spec.specs.Update.{Update, dynamic}
 use Rattle.update_spec.specs.Judge.{judge_update}
+use Rattle.update_spec.specs.Entries.{one, after}
+use Rattle.ruleset_store.specs.declared.update.Update as held
+use Rattle.ruleset_store.specs.Seen.{update_seen, updates_seen}
 use Rattle.keep_records.specs.Records.{payloads}
 use Rattle.keep_records.specs.Ends.{AllEnd, MayAdd, Adds}
 use Rattle.keep_spec.specs.Kept.{Kept, update_at, kept, state_of, accepts}
 use Rattle.keep_spec.specs.Agrees.{normal_update, AreAlike, HasList, Agrees, HasBeforeOrAfter, IsSound, Sound}
 use Rattle.keep_spec.specs.Written.{update_written, payload_text, text_of, MayBeKept}
 use Rattle.keep_laws.specs.Laws.{is_dynamic, AreDynamic, NormalUpdatesStay, AlikeUpdatesAreJudgedAlike}
-use Rattle.keep_laws.proofs.Accepted.{are_dynamic, kept_is, sound_after}
+use Rattle.keep_laws.proofs.Accepted.{are_dynamic, kept_is, state_push, sound_after}
 use Rattle.rule_keep.proofs.Opens.{same_kept}
 
 pub at_ok : {T E : Type 0} (r : Result T E) (P : Type 0) → is_err r ≡ false → OnOk r P → P
@@ -32,6 +37,17 @@ text_is_some name update may = omega (arith, ap (λ (u : Update). length (text_o
 
 pub text_is : (name : List ℕ) (update : Update) (may : MayBeKept name update) → text_of update ≡ payload_text name may.remove may.add
 text_is name update may = ap text_of may.is
+
+-- the parts of an update that may be kept
+pub record Parts (name extension remove : List ℕ) (add : List Rule) (may : MayBeKept name (dynamic extension remove add)) : Type 0 where
+  pub extension_is : extension ≡ name
+  pub remove_is : remove ≡ may.remove
+  pub add_is : add ≡ may.add
+
+pub parts : (name extension remove : List ℕ) (add : List Rule) (may : MayBeKept name (dynamic extension remove add)) → Parts name extension remove add may
+parts name extension remove add may =
+    let is = may.is in
+    record { extension_is = cc is; remove_is = cc is; add_is = cc is }
 
 -- ---- lists
 
@@ -110,3 +126,34 @@ module _ {D : Type 0} (moment : D → ℕ) (left_since : D → ℕ → List ℕ 
       → Sound keep.name (images old) → Sound keep.name (images new)
   stays_sound law are dynamic accepted sound image left =
       sound_put (images old) keep update payload stay is agrees law are dynamic accepted sound image (added_now image left)
+
+-- ---- what the program holds
+
+pub seen_push : (list new : List held.Update) (copy update : held.Update) → new ≡ list ++ copy ∷ [] → update_seen copy ≡ update_seen update
+    → updates_seen new ≡ updates_seen list ++ update_seen update ∷ []
+seen_push list new copy update is same =
+    ap updates_seen is ∙ map-append update_seen list (copy ∷ []) ∙ ap (λ (u : Update). updates_seen list ++ u ∷ []) same
+
+dynamic_push : (list : List Update) (update : Update) → AreDynamic list → is_dynamic update ≡ true → AreDynamic (list ++ update ∷ [])
+dynamic_push [] update are is = and_from (is_dynamic update) true is refl
+dynamic_push (first ∷ list) update are is =
+    let parts = and_parts (is_dynamic first) (list_all is_dynamic list) are in
+    and_from (is_dynamic first) (list_all is_dynamic (list ++ update ∷ [])) parts.0 (dynamic_push list update parts.1 is)
+
+pub kept_push : (name : List ℕ) (list new : List Update) (update : Update) (store : State) → new ≡ list ++ update ∷ [] → store ≡ after (state_of name list) (one update)
+    → AreDynamic list → is_dynamic update ≡ true → (store ≡ state_of name new) × AreDynamic new
+kept_push name list new update store new_is store_is are is =
+    (store_is ∙ sym (state_push name list update) ∙ ap (state_of name) (sym new_is), subst AreDynamic (sym new_is) (dynamic_push list update are is))
+
+pub may_be_dynamic : (name : List ℕ) (update : Update) → MayBeKept name update → is_dynamic update ≡ true
+may_be_dynamic name update may = ap is_dynamic may.is
+
+-- the list with the update at its end agrees with what is left
+pub agrees_after : (images left : List ℕ → Type 0) (keep : Kept) (update : Update) (payload : List ℕ) → NormalUpdatesStay
+    → update_at keep.name payload ≡ Some (normal_update update) → Agrees images keep
+    → (name : List ℕ) (list : List Update) (place : ℕ) → name ≡ keep.name → list ≡ keep.list ++ update ∷ []
+    → ((image : List ℕ) → left image → Adds images place payload image) → (image : List ℕ) → left image → HasList name list place image
+agrees_after images left keep update payload stay is agrees name list place name_is list_is adds image now =
+    subst (λ (n : List ℕ). HasList n list place image) (sym name_is)
+    (subst (λ (l : List Update). HasList keep.name l place image) (sym list_is)
+    (has_after images keep update payload stay is agrees place image (adds image now)))

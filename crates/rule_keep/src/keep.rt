@@ -186,11 +186,11 @@ impl Keep {
         let bytes = bytes_of(alloc, disk)?;
         let read = read_list(alloc, name, &bytes, host)?;
         let copies = again(alloc, &read.list)?;
-        let name = name_of(alloc, name)?;
+        let named = name_of(alloc, name)?;
         mend_end(disk, &bytes, read.place)?;
         let keep = Keep {
             alloc,
-            name,
+            name: named,
             list: read.list,
             store: read.store,
             place: read.place,
@@ -268,9 +268,11 @@ impl Keep {
             ≡ Some (normal_update (update_seen update.now))) }
     {
         match update {
-            Update::Dynamic { remove, add, .. } => {
-                payload_of(self.alloc, self.name.as_str(), remove.as_slice(), add)
-            }
+            Update::Dynamic {
+                extension,
+                remove,
+                add,
+            } => payload_of(self.alloc, extension.as_str(), remove.as_slice(), add),
             _ => Err(NoMemory),
         }
     }

@@ -16,8 +16,8 @@ pub returns-in_err-copies-clause-any_moment : goal.returns-in_err-copies-clause-
 returns-in_err-copies-clause-any_moment g c = λ told.
     read_leaves g.D.Disk.moment g.D.Disk.left_since g.D.Disk.images c.args.disk.now c.bytes_of.new.disk c.bytes_of.ensures.any_moment
 
-pub returns-in_err-name-clause-any_moment : goal.returns-in_err-name-clause-any_moment
-returns-in_err-name-clause-any_moment g c = λ told.
+pub returns-in_err-named-clause-any_moment : goal.returns-in_err-named-clause-any_moment
+returns-in_err-named-clause-any_moment g c = λ told.
     read_leaves g.D.Disk.moment g.D.Disk.left_since g.D.Disk.images c.args.disk.now c.bytes_of.new.disk c.bytes_of.ensures.any_moment
 
 pub returns-in_err-mend_end-clause-any_moment : goal.returns-in_err-mend_end-clause-any_moment
