@@ -1,6 +1,6 @@
 -- What a call leaves that was done, and one that was not.
-use Rattle.std.proofs.Common.{◌≡◌, inl, inr, ⊎_elim, ◌⊎◌, ℕ, ◌+◌, ◌≤◌, min, List, [], ◌∷◌, ◌++◌, length, take, Result, Ok, Err, OnErr, refl, sym, ◌∙◌, ap, subst, arith}
-use Rattle.keep_disk.specs.Images.{written, Torn, Shortened, ComesFrom, Follows, AddsNone, Only}
+use Rattle.std.proofs.Common.{◌≡◌, ℕ, ◌≤◌, min, List, length, Result, Ok, Err, OnErr, sym, ◌∙◌, ap, subst, arith}
+use Rattle.keep_disk.specs.Images.{written, Torn, Shortened, ComesFrom}
 use Rattle.keep_disk.specs.Moments.{Elapses}
 use Rattle.keep_disk.specs.Undone.{torn_nothing, shortened_nothing}
 use Rattle.keep_disk.specs.declared.call.Call.{Call}

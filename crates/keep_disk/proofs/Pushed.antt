@@ -1,13 +1,13 @@
 -- The record of calls with one more.
-use Rattle.std.proofs.Common.{◌≡◌, inl, inr, ⊎_elim, ℕ, zero, suc, ◌+◌, ◌≤◌, ◌<◌, min, replicate, List, [], ◌∷◌, ◌++◌, length, take, drop, refl, sym, ◌∙◌, ap, subst, arith, length-append}
+use Rattle.std.proofs.Common.{◌≡◌, inl, inr, ℕ, ◌+◌, ◌≤◌, min, replicate, List, [], ◌∷◌, ◌++◌, length, take, refl, sym, ◌∙◌, ap, subst, arith}
 use Rattle.std.proofs.lemmas.Bool.{cases_lt}
 use Rattle.std.proofs.lemmas.List.{take_all, take-append-le, length_push}
-use Rattle.keep_disk.specs.Images.{written, Torn, Shortened, ComesFrom, Follows, AddsNone, Only}
+use Rattle.keep_disk.specs.Images.{written}
 use Rattle.keep_disk.specs.Moments.{Elapses}
 use Rattle.keep_disk.specs.declared.call.Call.{Call}
-use Rattle.keep_disk.specs.declared.call.Call.TheVariants.{Looked, Wrote, Cut, Synced}
+use Rattle.keep_disk.specs.declared.call.Call.TheVariants.{Wrote}
 use Rattle.keep_disk.specs.Calls.{done, images_by, settled_by, marked_by, seen_after, images_after, settled_after, marked_after}
-use Rattle.keep_disk.specs.Memory.{Memory, seen_of, ImagesOf, LeftSince, HasDone, HasNothing}
+use Rattle.keep_disk.specs.Memory.{ImagesOf, LeftSince}
 use Rattle.keep_disk.specs.Laws.{three_of}
 
 pub push_seen : (calls : List Call) (call : Call) (file : List ℕ) → seen_after file (calls ++ call ∷ []) ≡ done call (seen_after file calls)

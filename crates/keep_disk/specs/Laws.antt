@@ -1,7 +1,7 @@
 -- The laws of a disk in memory.
-use Rattle.std.proofs.Common.{◌≡◌, ℕ, zero, suc, ◌+◌, ◌≤◌, min, max, List, [], ◌∷◌, ◌++◌, length, take, drop, replicate, refl, sym, ◌∙◌, ap, subst, arith, append_assoc, length-append, length-take, length-drop}
+use Rattle.std.proofs.Common.{◌≡◌, ℕ, ◌+◌, ◌≤◌, min, max, List, [], ◌∷◌, ◌++◌, length, take, drop, replicate, refl, sym, ◌∙◌, ap, subst, arith, append_assoc, length-append, length-take, length-drop}
 use Rattle.std.proofs.lemmas.List.{take_at, drop_at, take_all, take_min, length-replicate}
-use Rattle.keep_disk.specs.Images.{written, Torn, Shortened, ComesFrom}
+use Rattle.keep_disk.specs.Images.{written, Torn, Shortened}
 use Rattle.keep_disk.specs.Undone.{torn_nothing, shortened_nothing}
 use Rattle.keep_disk.specs.declared.call.Call.{Call}
 use Rattle.keep_disk.specs.declared.call.Call.TheVariants.{Looked, Wrote, Cut, Synced}

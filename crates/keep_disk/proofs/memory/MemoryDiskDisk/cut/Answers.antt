@@ -1,5 +1,5 @@
 use Rattle.keep_disk.specs.declared.call.Call.TheVariants.{Cut}
-use Rattle.keep_disk.proofs.Done.{same_seen, done_seen, same_time, done_time, cut_shortened, cut_nothing, cut_no_part, at_err}
+use Rattle.keep_disk.proofs.Done.{done_seen, same_time, done_time, cut_shortened, cut_nothing, cut_no_part, at_err}
 use Rattle.keep_disk.proofs.memory.MemoryDiskDisk.cut.Goals as goal
 
 pub returns-in_err-shorten-clause-time : goal.returns-in_err-shorten-clause-time

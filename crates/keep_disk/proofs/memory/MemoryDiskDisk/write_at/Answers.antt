@@ -1,6 +1,6 @@
 use Rattle.std.proofs.Common.{refl}
 use Rattle.keep_disk.specs.declared.call.Call.TheVariants.{Wrote}
-use Rattle.keep_disk.proofs.Done.{same_seen, done_seen, same_time, done_time, wrote_torn, wrote_bytes, wrote_nothing, wrote_no_part, at_err}
+use Rattle.keep_disk.proofs.Done.{same_time, done_time, wrote_torn, wrote_bytes, wrote_nothing, wrote_no_part, at_err}
 use Rattle.keep_disk.proofs.memory.MemoryDiskDisk.write_at.Goals as goal
 
 pub returns-in_err-overwrite-clause-time : goal.returns-in_err-overwrite-clause-time
