@@ -1,4 +1,4 @@
 pub mod Normal
 pub mod Judged
-pub mod Reads
+pub mod Payloads
 pub mod Accepted

@@ -1,7 +1,6 @@
 -- Laws of updates that are written, and of updates that are the same but for the order of what they list as sets.
 use Rattle.std.specs.Prelude.{◌≡◌, ℕ, List, [], map, Bool, true, false, IsTrue, IsUtf8, All, Some}
 use Rattle.std.specs.List.{list_all}
-use Rattle.keep_disk.specs.Images.{Only}
 use Rattle.rule_spec.specs.Rule.{Rule}
 use Rattle.rule_spec.specs.IsRule.{IsRule, is_number}
 use Rattle.written_laws.specs.Normal.{normal}
@@ -39,4 +38,5 @@ NormalUpdatesStay = (update : Update) → normal_update (normal_update update) �
 
 -- a disk that a crash now can only leave empty is sound for every extension
 abbrev pub EmptyDisksAreSound : Type 0
-EmptyDisksAreSound = (name : List ℕ) (images : List ℕ → Type 0) → Only [] images → Sound name images
+EmptyDisksAreSound =
+    (name : List ℕ) (images : List ℕ → Type 0) → ((image : List ℕ) → images image → image ≡ []) → Sound name images

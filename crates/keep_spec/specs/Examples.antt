@@ -7,7 +7,6 @@ use Rattle.update_spec.specs.Update.{Update, dynamic}
 use Rattle.update_spec.specs.Judge.{judge_update}
 use Rattle.keep_records.specs.Records.{payloads, end_of, behind_gate}
 use Rattle.keep_spec.specs.Kept.{update_at, kept, start, state_of}
-use Rattle.keep_spec.specs.Written.{payload_text}
 
 -- the extension, a rule that blocks what `a.com` and its subdomains give, and the update that adds it
 abbrev pub name : List ℕ
@@ -36,10 +35,6 @@ other_file = 1 ∷ 0 ∷ 0 ∷ 0 ∷ 2 ∷ codes "{}" ++ 0 ∷ []
 -- An empty file keeps nothing, and neither does one byte, whatever it is.
 abbrev pub ShortFilesKeepNothing : Type 0
 ShortFilesKeepNothing = (kept name [] ≡ []) × (kept name (1 ∷ []) ≡ []) × (kept name (0 ∷ []) ≡ [])
-
--- The text of an update, whose keys ascend.
-abbrev pub UpdatesHaveTexts : Type 0
-UpdatesHaveTexts = payload_text name [] (rule ∷ []) ≡ text
 
 -- A file keeps the update of its record, and ends at the next gate byte; of another extension it keeps nothing.
 abbrev pub RecordsKeepUpdates : Type 0

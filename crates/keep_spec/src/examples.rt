@@ -1,20 +1,13 @@
 //! Examples of files. Each is stated in `specs/Examples.antt` and computed from the definitions by the prover; the
 //! functions do nothing.
 
-ghost use Rattle.keep_spec.specs.Examples.{ShortFilesKeepNothing, UpdatesHaveTexts};
-ghost use Rattle.keep_spec.specs.Examples.{RecordsKeepUpdates, OtherPayloadsAreNone};
-ghost use Rattle.keep_spec.specs.Examples.{UpdatesAreAcceptedOnce};
+ghost use Rattle.keep_spec.specs.Examples.{ShortFilesKeepNothing, RecordsKeepUpdates};
+ghost use Rattle.keep_spec.specs.Examples.{OtherPayloadsAreNone, UpdatesAreAcceptedOnce};
 
 /// An empty file keeps nothing, and neither does one byte.
 #[tactic(auto, using(crate::proofs::Computed::short_files_keep_nothing))]
 pub fn short_files_keep_nothing()
     ensures { ShortFilesKeepNothing }
-{}
-
-/// The text of an update has its keys in ascending order, and no space.
-#[tactic(auto, using(crate::proofs::Computed::updates_have_texts))]
-pub fn updates_have_texts()
-    ensures { UpdatesHaveTexts }
 {}
 
 /// A file keeps the update of its record, and ends at the next gate byte.

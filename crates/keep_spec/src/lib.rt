@@ -9,5 +9,5 @@ mod examples;
 
 pub use examples::{
     other_payloads_are_none, records_keep_updates, short_files_keep_nothing,
-    updates_are_accepted_once, updates_have_texts,
+    updates_are_accepted_once,
 };

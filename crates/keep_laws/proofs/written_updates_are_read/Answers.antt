@@ -1,4 +1,4 @@
-use Rattle.keep_laws.proofs.Reads.{written_is_read}
+use Rattle.keep_laws.proofs.Payloads.{written_is_read}
 use Rattle.keep_laws.proofs.written_updates_are_read.Goals as goal
 
 pub returns : goal.returns

@@ -34,8 +34,8 @@ write_through-requires g c = λ told.
     let here = c.requires.ends told (g.D.Disk.seen c.args.disk.now) (g.met.D.Disk.seen_is_image c.args.disk.now told) in
     omega (arith, here.there)
 
-pub write_through-2-requires : goal.write_through-2-requires
-write_through-2-requires g c = λ told.
+pub write_through-requires-2 : goal.write_through-requires-2
+write_through-requires-2 g c = λ told.
     let was = sym c.write_through.ensures.told ∙ told in
     gate_there g.D.Disk.moment g.D.Disk.left_since g.D.Disk.images g.D.Disk.seen c.args.disk.now c.write_through.new.disk c.write_through.new.disk
     c.args.place c.args.payload.now c.args.bytes.now c.requires.bytes c.requires.some c.requires.fits (c.requires.ends was)
