@@ -1,0 +1,4 @@
+pub mod Normal
+pub mod Judged
+pub mod Payloads
+pub mod Accepted
