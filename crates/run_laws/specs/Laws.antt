@@ -9,12 +9,14 @@ use Rattle.update_spec.specs.declared.refusal.Refusal.{Refusal}
 use Rattle.update_spec.specs.Entries.{Entry, judge}
 use Rattle.session_spec.specs.Answers.{Setting, Applies, RoundSays, Serves}
 use Rattle.session_spec.specs.Loading.{Loaded}
-use Rattle.session_spec.specs.Out.{Outside, HostRose, Session, HasLongFileOf, HoldsTooMuch, RefusesSession, in_rounds, EndsBy, hosts_needed, Opens, Out}
+use Rattle.session_spec.specs.Out.{Outside, HostRose, Session, HasLongFileOf, HoldsTooMuch, RefusesSession, in_rounds, EndsBy, hosts_needed, Opens, Out, setting_of}
 use Rattle.session_spec.specs.Rounds.{Held, holds_nothing}
 use Rattle.session_spec.specs.Said.{Answer, Said, answered, numbers_by, NeverFall}
 use Rattle.session_spec.specs.Words.{list, Serving, Task, serve_script, task_of}
 use Rattle.run_laws.specs.History.{entry_in, Place, command_at, Transcript, SaysAt, IsTranscript, IsHistory}
 use Rattle.run_laws.specs.Printed.{IsAfterSoMany, IsSettled, FaultIsCounted}
+use Rattle.run_laws.specs.Finished.{GoesOn, StandsWritten, CanBeFinished}
+use Rattle.run_laws.specs.InTurn.{NoneFell, text_in_turn, MayAnswerInTurn}
 use Rattle.run_laws.specs.Listed.{BlocksAsListed}
 use Rattle.run_laws.specs.Ready.{IsReady}
 use Rattle.run_laws.specs.Wrote.{IsSession, Wrote}
@@ -44,6 +46,45 @@ abbrev pub SessionsAreHistories : Type 0
 SessionsAreHistories =
     (words : List (List ℕ)) (files : Files) (outside : Outside) (ended : Status) (written : List ℕ) (session : Session) (name : List ℕ)
     → IsSession (task_of words) session name → Out words files outside ended written → Wrote files outside session name ended written
+
+-- ---- what may be written, and what stands written
+
+-- A session may answer its lines one after another, each on the state that the earlier ones leave.
+abbrev pub RoundsInTurnAreServed : Type 0
+RoundsInTurnAreServed =
+    (hosts : List Count) (setting : Setting) (first : State) (rounds : List (List (List ℕ))) → NoneFell hosts
+    → Serves hosts setting first rounds (text_in_turn setting first rounds)
+
+-- So of a script that is there something may always be written, once all before it was read and installed: with Done, or
+-- with FileTooLong where the script is too long.
+abbrev pub SessionsMayAnswerInTurn : Type 0
+SessionsMayAnswerInTurn =
+    (words : List (List ℕ)) (files : Files) (outside : Outside) (session : Session) (name : List ℕ) (loaded : Loaded) (first : State) (script : List ℕ)
+    → IsSession (task_of words) session name → NoneFell outside.hosts → Opens files session loaded first → files name ≡ Some script
+    → MayAnswerInTurn words files outside (setting_of session loaded.suffixes) first script
+
+-- However rounds were served, any rounds may be served behind them: what stands of the first is in nobody's way.
+abbrev pub ServedRoundsGoOn : Type 0
+ServedRoundsGoOn =
+    (hosts : List Count) (setting : Setting) (first : State) (rounds more : List (List (List ℕ))) (written : List ℕ)
+    → Serves hosts setting first rounds written → GoesOn hosts setting first rounds more written
+
+-- Whatever the command and the status, nothing stands written, or a beginning of what may be written whole.
+abbrev pub WhatStandsIsABeginning : Type 0
+WhatStandsIsABeginning =
+    (words : List (List ℕ)) (files : Files) (outside : Outside) (ended : Status) (written : List ℕ)
+    → Out words files outside ended written → StandsWritten words files outside written
+
+-- Where all before the script was read and installed, and nothing is refused: whatever the status, what a session wrote is a
+-- beginning of what it may write with Done; with FileTooLong, where its script is too long.
+abbrev pub SessionsCanBeFinished : Type 0
+SessionsCanBeFinished =
+    (words : List (List ℕ)) (files : Files) (outside : Outside) (session : Session) (name : List ℕ) (loaded : Loaded) (first : State) (script : List ℕ)
+    (ended : Status) (written : List ℕ) → IsSession (task_of words) session name → NoneFell outside.hosts → Opens files session loaded first
+    → ((line : List ℕ) → RefusesSession files outside session line → ⊥) → files name ≡ Some script → Out words files outside ended written
+    → CanBeFinished words files outside script written
+
+-- ---- one line
 
 -- A verdict that a session wrote is that of the precedence scan over all rules that exactly as many accepted updates and
 -- batches leave as the verdict prints: the first so many of one list. Among them are all of the earlier rounds, and all that
