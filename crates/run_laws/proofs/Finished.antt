@@ -23,6 +23,7 @@ use Rattle.run_laws.specs.Wrote.{IsSession}
 use Rattle.run_laws.proofs.Cuts.{Begins, begins_on, begins_all, begins_taken, rounds_given, rounds_within}
 use Rattle.run_laws.proofs.Going.{served_in_turn, goes_on}
 use Rattle.run_laws.proofs.Ready.{same_file}
+use Rattle.run_laws.proofs.Wrote.{of_session}
 
 -- ---- sessions that answer in turn
 
@@ -219,18 +220,6 @@ pub what_stands_is_a_beginning : WhatStandsIsABeginning
 what_stands_is_a_beginning words files outside ended written out = words_stand (task_of words) files outside ended written out
 
 -- ---- a session that can be served
-
-of_session : (task : Option Task) (files : Files) (outside : Outside) (session : Session) (name : List ℕ) (ended : Status) (written : List ℕ) → IsSession task session name
-    → EndsFor files outside task ended written → EndsBy outside (in_rounds files outside session name) ended written
-of_session None files outside session name ended written is ends = absurd is
-of_session (Some (match_files rules script)) files outside session name ended written is ends = rw (is.0, is.1) ends
-of_session (Some (follow_files rules script)) files outside session name ended written is ends = rw (is.0, is.1) ends
-of_session (Some (check_file kind file)) files outside session name ended written is ends = absurd is
-of_session (Some (compile_file file)) files outside session name ended written is ends = absurd is
-of_session (Some (serve_script serving)) files outside session name ended written is ends = rw (is.0, is.1) ends
-of_session (Some (make_sample sample)) files outside session name ended written is ends = absurd is
-of_session (Some (hide_page file host)) files outside session name ended written is ends = absurd is
-of_session (Some (prune_file file)) files outside session name ended written is ends = absurd is
 
 -- nothing, or what one text begins with
 from_nothing : (May : List ℕ → Type 0) (written text : List ℕ) → written ≡ [] → May text → IsBeginning May written

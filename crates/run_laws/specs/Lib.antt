@@ -3,6 +3,7 @@ pub mod Printed
 pub mod Wrote
 pub mod InTurn
 pub mod Finished
+pub mod Runs
 pub mod Listed
 pub mod Ready
 pub mod Laws

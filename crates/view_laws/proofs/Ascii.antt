@@ -1,9 +1,8 @@
 -- The serialization of a URL that is read without a base is ASCII.
-use Rattle.std.proofs.Common.{◌≡◌, ℕ, ◌+◌, ◌^◌, ◌<◌, Bool, true, false, cond, not, ◌&&◌, ◌||◌, ◌==◌, nat_lt, List, [], ◌∷◌, ◌++◌, length, get_or, take, drop, Option, Some, None, Result, Ok, Err, IsAscii, All, refl, subst, arith, lit<}
+use Rattle.std.proofs.Common.{◌≡◌, ℕ, ◌+◌, ◌^◌, ◌<◌, Bool, true, false, cond, ◌&&◌, ◌||◌, ◌==◌, nat_lt, List, [], ◌∷◌, get_or, take, drop, Option, Some, None, Ok, Err, IsAscii, subst, arith, lit<}
 use Rattle.std.specs.Prelude.{is_some, unwrap_or, option_map, decimal, codes}
 use Rattle.std.specs.Char.{is_ascii_digit, is_ascii_alphabetic}
 use Rattle.std.specs.List.{concat, list_all, prefix_len}
-use Rattle.std.specs.Option.{option_eq}
 use Rattle.std.specs.Str.Parse.{digits_value}
 use Rattle.std.proofs.lemmas.Bool.{cond_both, and_parts}
 use Rattle.std.proofs.lemmas.Bool.Decides.{nat_tests}
@@ -15,17 +14,16 @@ use Rattle.percent_encoding.proofs.PercentLemmas.{IsAscii-percent_encode}
 use Rattle.percent_encoding.specs.declared.ascii_set.AsciiSet.{AsciiSet}
 use Rattle.percent_encoding.specs.Percent.{percent_encode}
 use Rattle.url.specs.declared.sets.TheConstants.{FRAGMENT, USERINFO, OPAQUE_PATH}
-use Rattle.url.specs.declared.error.ParseError.{ParseError}
 use Rattle.url.specs.declared.host.Host.{Host}
 use Rattle.url.specs.declared.host.Host.TheVariants.{Domain}
 use Rattle.url.specs.declared.scheme.SchemeType.TheVariants.{File, NotSpecial}
 use Rattle.url.specs.Head.{scheme_only, with_authority}
-use Rattle.url.specs.Host.{host_text, parse_host, parse_file_host}
+use Rattle.url.specs.Host.{parse_host, parse_file_host}
 use Rattle.url.specs.Input.{when, is_empty, lowercase, split_once, rsplit_once, strip_tabs_and_new_lines, trim_c0_control_and_space}
-use Rattle.url.specs.Parser.{Parsed, and_then, split_port, without_default_port, parse_port, lacks_host, parse_authority, with_path, leading_slashes, after_double_slash, parse_non_special, skip_slashes, file_with_host, after_file_double_slash, parse_file, parse_not_file, parse_body, with_tail, end_path, before_tail, parse_all, parse_parts, split_scheme, parse_by_scheme, parse_url}
-use Rattle.url.specs.Parts.{Parts, kind_of, has_authority, has_credentials, host_or_empty, needs_guard, query_set, pieces, serialize}
+use Rattle.url.specs.Parser.{Parsed, and_then, split_port, without_default_port, parse_port, lacks_host, parse_authority, with_path, leading_slashes, after_double_slash, parse_non_special, skip_slashes, file_with_host, after_file_double_slash, parse_file, parse_body, with_tail, end_path, before_tail, parse_parts, split_scheme, parse_by_scheme, parse_url}
+use Rattle.url.specs.Parts.{Parts, kind_of, has_authority, host_or_empty, needs_guard, query_set, pieces, serialize}
 use Rattle.url.specs.Path.{segment_len, is_windows_drive_letter, parse_path, parse_path_start, escape_end}
-use Rattle.url.specs.Scheme.{scheme_type, is_special, is_file, is_scheme_byte, scheme_len, default_port}
+use Rattle.url.specs.Scheme.{scheme_type, is_special, is_file, is_scheme_byte, scheme_len}
 use Rattle.url.proofs.InputLemmas.{Passes, All-take-prefix_len}
 use Rattle.view_laws.proofs.Hosts.{IfRead, IsAsciiHost, host_ascii, file_ascii}
 use Rattle.view_laws.proofs.Paths.{path_ascii, start_ascii, escape_ascii}
@@ -68,16 +66,37 @@ guard_ascii false = IsAscii-nil
 
 written_ascii : (url : Parts) → AllAscii url → IsAscii (serialize url)
 written_ascii url all =
-    concat_ascii (pieces url)
-    (all.scheme, (slashes_ascii (has_authority url), (all.username, (mark_ascii _ 58 (lit< tt), (all.password, (mark_ascii _ 64 (lit< tt), (all.host, (mark_ascii _ 58 (lit< tt),
-    (all.port, (guard_ascii (needs_guard url), (all.path, (mark_ascii _ 63 (lit< tt), (all.query, (mark_ascii _ 35 (lit< tt), (all.fragment, tt)))))))))))))))
+    concat_ascii (pieces url) (
+      all.scheme,
+      (
+        slashes_ascii (has_authority url),
+        (
+          all.username,
+          (
+            mark_ascii _ 58 (lit< tt),
+            (
+              all.password,
+              (
+                mark_ascii _ 64 (lit< tt),
+                (
+                  all.host,
+                  (
+                    mark_ascii _ 58 (lit< tt),
+                    (all.port, (guard_ascii (needs_guard url), (all.path, (mark_ascii _ 63 (lit< tt), (all.query, (mark_ascii _ 35 (lit< tt), (all.fragment, tt))))))),
+                  ),
+                ),
+              ),
+            ),
+          ),
+        ),
+      ),
+    )
 
 -- ---- the parts, one step after another
 
 then_read : {T U : Type 0} (P : T → Type 0) (Q : U → Type 0) (read : Parsed T) (next : T → Parsed U) → IfRead P read → ((x : T) → P x → IfRead Q (next x)) → IfRead Q (and_then read next)
 then_read P Q (Ok x) next first later = later x first
 then_read P Q (Err e) next first later = tt
-
 
 default_left_out : (scheme : List ℕ) (n : ℕ) → n < 2 ^ 16 → IsAscii (port_text (without_default_port scheme (Some n)))
 default_left_out scheme n fits =

@@ -1,5 +1,5 @@
 -- The host that a URL has which is read is written in ASCII.
-use Rattle.std.proofs.Common.{◌≡◌, ℕ, zero, suc, ◌-◌, ◌^◌, ◌<◌, Bool, true, false, ◌==◌, List, [], ◌∷◌, ◌++◌, length, get_or, Option, Some, None, Result, Ok, Err, IsAscii, All, sym, refl, subst, arith, lit<}
+use Rattle.std.proofs.Common.{◌≡◌, ℕ, zero, suc, ◌-◌, ◌^◌, ◌<◌, ◌==◌, List, [], ◌∷◌, ◌++◌, length, get_or, Option, Some, None, Result, Ok, Err, IsAscii, refl, arith, lit<}
 use Rattle.std.specs.Prelude.{bytes_eq, codes, slice_range}
 use Rattle.std.specs.Int.{w32, to_be_bytes}
 use Rattle.std.specs.List.{list_any}
@@ -9,13 +9,11 @@ use Rattle.std.specs.Result.{result_map_both}
 use Rattle.std.proofs.NetLemmas.Alphabet.{IsDigitOrDot, IsHexOrColon, All-ipv4_text, All-hex_groups_text}
 use Rattle.std.proofs.NetLemmas.Ipv6.{read_ipv6_sound}
 use Rattle.std.proofs.lemmas.Bool.{cond_both}
-use Rattle.std.proofs.lemmas.Bool.Decides.{nat_tests}
 use Rattle.std.proofs.lemmas.List.Elements.{All-weaker}
 use Rattle.std.proofs.lemmas.Str.{IsAscii-append}
 use Rattle.std.proofs.lemmas.Str.Ascii.{IsAscii-nil, IsAscii-cons, IsAscii-from_all}
 use Rattle.percent_encoding.specs.declared.ascii_set.TheConstants.{CONTROLS}
-use Rattle.percent_encoding.specs.Percent.{IsKept, percent_encode, percent_decode}
-use Rattle.percent_encoding.proofs.AsciiSetLemmas.{ascii_from_kept}
+use Rattle.percent_encoding.specs.Percent.{percent_encode, percent_decode}
 use Rattle.percent_encoding.proofs.PercentLemmas.{IsAscii-percent_encode, IsAscii_from_kept}
 use Rattle.url.specs.declared.sets.TheConstants.{FORBIDDEN_DOMAIN}
 use Rattle.url.specs.declared.error.ParseError.{ParseError}

@@ -1,6 +1,6 @@
 -- Where the host stands in a serialization.
-use Rattle.std.proofs.Common.{◌≡◌, ◌≢◌, ℕ, zero, suc, ◌+◌, ◌-◌, ◌<◌, ◌≤◌, ◌⊎◌, Bool, true, false, cond, not, ◌&&◌, ◌||◌, ◌==◌, List, [], ◌∷◌, ◌++◌, length, get_or, take, drop, Option, Some, None, All, sym, refl, ap, ◌∙◌, subst, inl, inr, ⊎_elim, append_assoc, append-nil, arith, length-append}
-use Rattle.std.specs.Prelude.{codes, nat_eq, option_map, option_and_then, slice_range}
+use Rattle.std.proofs.Common.{◌≡◌, ℕ, suc, ◌+◌, ◌-◌, ◌<◌, ◌≤◌, ◌⊎◌, Bool, true, false, cond, not, ◌&&◌, ◌||◌, ◌==◌, List, [], ◌∷◌, ◌++◌, length, get_or, drop, Option, Some, None, All, sym, refl, ap, ◌∙◌, subst, inl, inr, ⊎_elim, append_assoc, append-nil, arith, length-append}
+use Rattle.std.specs.Prelude.{codes, nat_eq, option_map, option_and_then}
 use Rattle.std.specs.List.{starts_with}
 use Rattle.std.proofs.lemmas.Bool.{cases_Bool, cases_lt, cond_both, eq-eqb, and_parts, or_left, or_right}
 use Rattle.std.proofs.lemmas.Bool.Decides.{nat_tests}
@@ -11,7 +11,7 @@ use Rattle.url.specs.Parser.{host_len}
 use Rattle.url.proofs.InputLemmas.{IsNot, split_once_at}
 use Rattle.dnr_base.specs.declared.span.Span.{Span}
 use Rattle.dnr_base.specs.View.{fragment_place, begins_host, ends_host}
-use Rattle.dnr_spec.specs.UrlView.{without_fragment, scheme_part, body_part, authority_in, authority_of, host_and_port, host_at, host_span}
+use Rattle.dnr_spec.specs.UrlView.{without_fragment, scheme_part, body_part, authority_in, host_and_port, host_at, host_span}
 
 -- ---- what is cut at a byte
 
@@ -212,6 +212,7 @@ end_or_byte named behind n ends follows = ⊎_elim (at_end behind follows) at_co
     at_end (b ∷ rest) after end =
         let here : get_or (named ++ b ∷ rest) n 0 ≡ b = get_or_at named b rest 0 n (sym end) in
         inr (omega (arith, end, length-append named (b ∷ rest)), ap ends_host here ∙ ⊎_elim (λ (slash : b ≡ 47). ap ends_host slash) (λ (mark : b ≡ 63). ap ends_host mark) after)
+
     at_colon : get_or named n 0 ≡ 58 → (n ≡ length (named ++ behind)) ⊎ ((n < length (named ++ behind)) × (ends_host (get_or (named ++ behind) n 0) ≡ true))
     at_colon colon = ⊎_elim (at_end behind follows) (λ (inside : n < length named). inr (omega (arith, inside, length-append named behind), ap ends_host (get_or_append_left named behind 0 n inside ∙ colon)))
         (within_or_end n (length named) ends.within)

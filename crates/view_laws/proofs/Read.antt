@@ -1,6 +1,6 @@
 -- A view that a text gives is a view.
-use Rattle.std.proofs.Common.{◌≡◌, ℕ, ◌-◌, ◌<◌, ◌≤◌, Bool, true, false, cond, List, [], ◌∷◌, length, take, drop, Option, Some, None, Result, Ok, Err, IsAscii, sym, refl, ap, ◌∙◌, subst, ⊎_elim, arith}
-use Rattle.std.specs.Prelude.{nat_lt, slice_range, if◌then◌else◌}
+use Rattle.std.proofs.Common.{◌≡◌, ℕ, ◌-◌, ◌<◌, ◌≤◌, true, false, List, [], length, take, drop, Option, Some, None, Result, Ok, Err, IsAscii, sym, refl, ap, ◌∙◌, subst, ⊎_elim, arith}
+use Rattle.std.specs.Prelude.{nat_lt, slice_range}
 use Rattle.std.proofs.lemmas.Bool.{cases_Bool, cases_lt}
 use Rattle.std.proofs.lemmas.Bool.Decides.{nat_tests}
 use Rattle.url.specs.declared.error.ParseError.{ParseError}
@@ -11,8 +11,7 @@ use Rattle.dnr_base.specs.declared.span.Span.{Span}
 use Rattle.dnr_base.specs.Scheme.{scheme_named}
 use Rattle.dnr_base.specs.View.{View, IsView, is_host}
 use Rattle.dnr_spec.specs.declared.view_refusal.ViewRefusal.{ViewRefusal}
-use Rattle.dnr_spec.specs.declared.view_refusal.ViewRefusal.TheVariants.{UrlTooLong, BadHost}
-use Rattle.dnr_spec.specs.UrlView.{max_url, without_fragment, scheme_part, host_span, if_short, with_host, with_scheme, view_of_full, view_of_url, view_of}
+use Rattle.dnr_spec.specs.UrlView.{max_url, without_fragment, scheme_part, host_span, if_short, with_host, with_scheme, view_of_url, view_of}
 use Rattle.view_laws.specs.Laws.{TextsGiveViews}
 use Rattle.view_laws.proofs.Ascii.{url_ascii}
 use Rattle.view_laws.proofs.Places.{StandsIn, stands_in, fragment_is}
