@@ -85,9 +85,9 @@ stays_on [] left = record { ended = []; still = []; more = raw_lines_of left; he
 stays_on (b ∷ given) left =
     let stays = stays_on given left in
     ⊎_elim
-    (λ (ends : (b == 10) ≡ true). rw (ends, ends) (one_end (raw_lines_of given) (raw_lines_of (given ++ left)) stays))
+    (λ (ends : (b == 10) ≡ true). rw ends (one_end (raw_lines_of given) (raw_lines_of (given ++ left)) stays))
     (λ (goes_on : (b == 10) ≡ false).
-    rw (goes_on, goes_on, stays.here, stays.later) (one_byte b stays.ended stays.still stays.more stays.all stays.none))
+    rw (goes_on, stays.here, stays.later) (one_byte b stays.ended stays.still stays.more stays.all stays.none))
     (cases_Bool (b == 10))
 
 while_on : (line : RawLine) (lines : List RawLine) → is_short line ≡ true → take_while is_short (line ∷ lines) ≡ line ∷ take_while is_short lines
@@ -160,12 +160,12 @@ whole_stay held number (line ∷ lines) more =
     ⊎_elim
     (λ (ends : ends_round held number line ≡ true).
     let later = whole_stay holds_nothing (number + 1) lines more in
-    record { rest = later.rest; split = rw (ends, ends) (ap (λ l. (line ∷ []) ∷ l) later.split) })
+    record { rest = later.rest; split = rw ends (ap (λ l. (line ∷ []) ∷ l) later.split) })
     (λ (goes_on : ends_round held number line ≡ false).
     let rounds = whole_rounds_from (with_line held number line) (number + 1) lines in
     let later = whole_stay (with_line held number line) (number + 1) lines more in
     let on = onto_first_whole line rounds later.rest in
-    record { rest = on.rest; split = rw (goes_on, goes_on) (ap (onto_whole line) later.split ∙ on.split) })
+    record { rest = on.rest; split = rw goes_on (ap (onto_whole line) later.split ∙ on.split) })
     (cases_Bool (ends_round held number line))
 
 onto_whole_first : (line : List ℕ) (rounds more : List (List (List ℕ))) → Begins (List (List ℕ)) (onto_whole line rounds) (onto_first line (rounds ++ more))
@@ -179,12 +179,12 @@ whole_first held number (line ∷ lines) =
     ⊎_elim
     (λ (ends : ends_round held number line ≡ true).
     let later = whole_first holds_nothing (number + 1) lines in
-    record { rest = later.rest; split = rw (ends, ends) (ap (λ l. (line ∷ []) ∷ l) later.split) })
+    record { rest = later.rest; split = rw ends (ap (λ l. (line ∷ []) ∷ l) later.split) })
     (λ (goes_on : ends_round held number line ≡ false).
     let rounds = whole_rounds_from (with_line held number line) (number + 1) lines in
     let later = whole_first (with_line held number line) (number + 1) lines in
     let on = onto_whole_first line rounds later.rest in
-    record { rest = on.rest; split = rw (goes_on, goes_on) (ap (onto_first line) later.split ∙ on.split) })
+    record { rest = on.rest; split = rw goes_on (ap (onto_first line) later.split ∙ on.split) })
     (cases_Bool (ends_round held number line))
 
 -- the whole rounds of what was given are the first of those of the script

@@ -63,7 +63,7 @@ applied_quiet now (together all) (Some at) = record { finders = λ seat. refl; c
 
 answer_quiet : (by number : ℕ) (answer : Answer) → is_failed answer ≡ false → IsQuiet (answered by number answer)
 answer_quiet by number answer whole = record {
-  finders = λ seat. cond_both (by == seat) (is_failed answer) false (λ (fails : Bool). (cond fails 1 0) + 0 ≡ 0) (λ _. rw whole refl) (λ _. refl);
+  finders = λ seat. cond_both (by == seat) (is_failed answer) false (λ (fails : Bool). 0 + cond {A = ℕ} fails 1 0 ≡ 0) (λ _. rw whole refl) (λ _. refl);
   checker = refl;
 }
 
@@ -246,7 +246,7 @@ low_both most said more a b seat =
 
 lines_low : (most : ℕ) (setting : Setting) (states : List State) (now : State) (number asked : ℕ) (lines : List (List ℕ)) (said : List Said) (through : List State) (last : State) → Below most states
     → LinesSay setting states now number asked lines said through last → Low most said
-lines_low most setting states now number asked [] said through last below says seat = rw says.0 (All-nil (λ (n : ℕ). n ≤ most))
+lines_low most setting states now number asked [] said through last below says = λ seat. rw says.0 (All-nil (λ (n : ℕ). n ≤ most))
 lines_low most setting states now number asked (line ∷ lines) said through last below says =
     subst (Low most) (sym says.all)
     (low_both most (says.told ∷ []) says.others (line_low most setting states now number (asked % setting.workers) line says.told says.next below says.first)
@@ -263,7 +263,7 @@ rounds_rise setting now number (round ∷ rounds) said last says =
     omega (arith, one, rounds_rise setting says.next (number + length round) rounds says.others last says.rest)
 
 rounds_low : (setting : Setting) (now : State) (number : ℕ) (rounds : List (List (List ℕ))) (said : List Said) (last : State) → RoundsSay setting now number rounds said last → Low last.count said
-rounds_low setting now number [] said last says seat = rw says.0 (All-nil (λ (n : ℕ). n ≤ last.count))
+rounds_low setting now number [] said last says = λ seat. rw says.0 (All-nil (λ (n : ℕ). n ≤ last.count))
 rounds_low setting now number (round ∷ rounds) said last says =
     let states = says.first.states in
     let below = wider says.next.count last.count states (rounds_rise setting says.next (number + length round) rounds says.others last says.rest)

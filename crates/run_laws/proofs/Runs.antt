@@ -1,6 +1,6 @@
 -- The worked examples of whole runs are what a command may write.
-use Rattle.std.specs.Prelude.{ℕ, zero, suc, List, [], ◌∷◌, codes, slice_get, Bool, false, true, Some, None, Result, Ok, Err, length, refl}
-use Rattle.std.proofs.Common.{◌≡◌, ◌≤◌, arith, inl, inr, subst, lit≤, ⊤}
+use Rattle.std.specs.Prelude.{ℕ, zero, suc, List, [], ◌∷◌, codes, slice_get, Bool, false, true, Some, None, Result, Ok, Err, length, refl, ⊤}
+use Rattle.std.proofs.Common.{◌≡◌, ◌≤◌, arith, inl, inr, subst, lit≤}
 use Rattle.std.specs.Str.{is_utf8}
 use Rattle.url.proofs.OnLiterals.{url_on_literals}
 use Rattle.serde_json.proofs.OnLiterals.{serde_json_on_literals}

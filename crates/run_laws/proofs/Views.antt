@@ -132,7 +132,7 @@ named_viewed number d (Some name.Batch) = then_any AsksViewed (batch_in d) (λ u
 
 members_viewed : (number : ℕ) (d : Data) (members : Option Members) → IfRead AsksViewed (command_of_members number d members)
 members_viewed number d None = tt
-members_viewed number d (Some members) = named_viewed number d (name_in d)
+members_viewed number d (Some _) = named_viewed number d (name_in d)
 
 tree_viewed : (number : ℕ) (tree : Option Data) → IfRead AsksViewed (command_of_tree number tree)
 unfolding command_in
