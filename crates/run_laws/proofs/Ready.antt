@@ -32,7 +32,7 @@ use Rattle.session_laws.proofs.Laws.{sessions_complete}
 
 -- ---- one file
 
-same_file : (files : Files) (name one other : List ℕ) → files name ≡ Some one → files name ≡ Some other → one ≡ other
+pub same_file : (files : Files) (name one other : List ℕ) → files name ≡ Some one → files name ≡ Some other → one ≡ other
 same_file files name one other is as_well = let both : Some one ≡ Some other = sym is ∙ as_well in cc both
 
 same_rules : (files : Files) (kind : RuleKind) (name : List ℕ) (one other : List Rule) → HoldsRules files kind name one → HoldsRules files kind name other → one ≡ other

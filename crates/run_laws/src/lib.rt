@@ -6,8 +6,12 @@
 #![tactic(auto)]
 
 ghost use Rattle.run_laws.specs.Laws.{ServedRoundsAreAHistory, SessionsBeginAtZero, SessionsAreHistories};
+ghost use Rattle.run_laws.specs.Laws.{RoundsInTurnAreServed, ServedRoundsGoOn, SessionsMayAnswerInTurn};
+ghost use Rattle.run_laws.specs.Laws.{WhatStandsIsABeginning, SessionsCanBeFinished, RunsAreInTurn};
 ghost use Rattle.run_laws.specs.Laws.{VerdictsAreScans, RefusalsNameTheirCause, CommandsComplete};
+ghost use Rattle.run_laws.specs.Laws.{RequestsHaveViews, ListsBlockWhatTheySay};
 ghost use Rattle.run_laws.specs.Laws.{ServedListsBlockWhatTheySay, FaultsAreCounted};
+ghost use Rattle.run_laws.specs.Runs.{WorkedRuns};
 
 /// Nothing is counted before the first line of a script.
 #[tactic(auto, using(crate::proofs::Laws::sessions_begin_at_zero))]
@@ -24,6 +28,41 @@ pub fn served_rounds_are_a_history()
 #[tactic(auto, using(crate::proofs::Wrote::sessions_are_histories))]
 pub fn sessions_are_histories()
     ensures { SessionsAreHistories }
+{}
+
+/// Rounds may be served in turn: each line is answered on the state that the earlier ones leave.
+pub fn rounds_in_turn_are_served()
+    ensures { RoundsInTurnAreServed }
+{}
+
+/// However rounds were served, any rounds may be served behind them.
+pub fn served_rounds_go_on()
+    ensures { ServedRoundsGoOn }
+{}
+
+/// Of a script that is there something may always be written, once all before it was read and installed.
+pub fn sessions_may_answer_in_turn()
+    ensures { SessionsMayAnswerInTurn }
+{}
+
+/// Whatever the command and the status, nothing stands written, or a beginning of what may be written whole.
+pub fn what_stands_is_a_beginning()
+    ensures { WhatStandsIsABeginning }
+{}
+
+/// Whatever the status, what a session wrote that can be served is a beginning of what it may write with Done.
+pub fn sessions_can_be_finished()
+    ensures { SessionsCanBeFinished }
+{}
+
+/// What the definitions compute of a whole run of `match` or `follow` is an example of what may be written.
+pub fn runs_are_in_turn()
+    ensures { RunsAreInTurn }
+{}
+
+/// Each worked example of a whole run is one of what may be written.
+pub fn runs_are_worked()
+    ensures { WorkedRuns }
 {}
 
 /// A verdict, or an explanation, is the scan after exactly as many accepted updates and batches as it prints.
@@ -43,7 +82,17 @@ pub fn commands_complete()
     ensures { CommandsComplete }
 {}
 
-/// A session in which a filter list is all that is installed blocks exactly what the supported lines of the list say.
+/// A request that a line asks about has the URLs of views.
+pub fn requests_have_views()
+    ensures { RequestsHaveViews }
+{}
+
+/// Where a filter list is all that is installed, a transcript blocks exactly what the supported lines of the list say.
+pub fn lists_block_what_they_say()
+    ensures { ListsBlockWhatTheySay }
+{}
+
+/// So does what a session wrote in which a filter list is all that is installed, whatever its status.
 pub fn served_lists_block_what_they_say()
     ensures { ServedListsBlockWhatTheySay }
 {}
