@@ -11,18 +11,17 @@ use Rattle.load_spec.specs.Files.{Files, HoldsLongFile}
 use Rattle.session_spec.specs.Answers.{HostRisesBy, Serves}
 use Rattle.session_spec.specs.Hiding.{IsHidden, HidesTooMuch}
 use Rattle.session_spec.specs.Loading.{PrintsRefusedRules, PrintsRefusedList, Loaded}
-use Rattle.session_spec.specs.Out.{Outside, HostRose, IsCounted, IsCompiled, Session, of_rules, of_words, setting_of, RefusesSession, Opens, ServesAll, ServesShort, ServesSome, Conduct, at_once, in_rounds, conduct_of, IsBeginning, EndsBy, EndsFor, Out}
+use Rattle.session_spec.specs.Out.{Outside, HostRose, IsCounted, IsCompiled, Session, of_rules, of_words, setting_of, Opens, ServesAll, ServesShort, ServesSome, Conduct, at_once, in_rounds, conduct_of, IsBeginning, EndsBy, EndsFor}
 use Rattle.session_spec.specs.Pruning.{IsPruned, RefusesPruning}
 use Rattle.session_spec.specs.Rounds.{rounds_of, whole_rounds_of, short_lines}
 use Rattle.session_spec.specs.Sample.{IsSampled}
 use Rattle.session_spec.specs.Words.{Task, match_files, follow_files, check_file, compile_file, serve_script, make_sample, hide_page, prune_file, task_of}
 use Rattle.run_laws.specs.Finished.{CanBeFinished, EndsWith}
-use Rattle.run_laws.specs.InTurn.{NoneFell, text_in_turn, MayAnswerInTurn}
+use Rattle.run_laws.specs.InTurn.{NoneFell, text_in_turn}
 use Rattle.run_laws.specs.Laws.{RoundsInTurnAreServed, ServedRoundsGoOn, SessionsMayAnswerInTurn, WhatStandsIsABeginning, SessionsCanBeFinished}
 use Rattle.run_laws.specs.Wrote.{IsSession}
 use Rattle.run_laws.proofs.Cuts.{Begins, begins_on, begins_all, begins_taken, rounds_given, rounds_within}
 use Rattle.run_laws.proofs.Going.{served_in_turn, goes_on}
-use Rattle.run_laws.proofs.Ready.{same_file}
 use Rattle.run_laws.proofs.Wrote.{of_session}
 
 -- ---- sessions that answer in turn
