@@ -1,5 +1,5 @@
 -- The rounds that stand written are the first of a script.
-use Rattle.std.proofs.Common.{◌≡◌, ℕ, zero, suc, ◌+◌, ◌≤◌, List, [], ◌∷◌, ◌++◌, length, take, drop, Bool, true, false, ◌==◌, nat_le, refl, sym, ap, ◌∙◌, ⊎_elim, subst, arith, append_assoc, append-nil, one-add, take_all}
+use Rattle.std.proofs.Common.{◌≡◌, ℕ, zero, suc, ◌+◌, ◌≤◌, List, [], ◌∷◌, ◌++◌, length, take, drop, true, false, ◌==◌, nat_le, refl, sym, ap, ◌∙◌, ⊎_elim, subst, arith, append_assoc, append-nil, one-add, take_all}
 use Rattle.std.specs.Prelude.{filter, map, take_while}
 use Rattle.std.specs.List.{list_all}
 use Rattle.std.proofs.lemmas.Bool.{cases_Bool, and_parts}

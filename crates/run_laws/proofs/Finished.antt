@@ -1,5 +1,5 @@
 -- What stands written is a beginning of what may be written whole.
-use Rattle.std.proofs.Common.{◌≡◌, ◌⊎◌, ℕ, zero, suc, ◌≤◌, List, [], ◌∷◌, ◌++◌, length, take, Bool, true, false, Option, Some, None, refl, sym, ap, ◌∙◌, inl, inr, ⊎_elim, subst, arith, append_assoc, append-nil, All}
+use Rattle.std.proofs.Common.{◌≡◌, ◌⊎◌, ℕ, zero, suc, ◌≤◌, List, [], ◌∷◌, ◌++◌, length, take, true, false, Option, Some, None, refl, sym, ap, ◌∙◌, inl, inr, ⊎_elim, subst, arith, append_assoc, append-nil}
 use Rattle.std.specs.Prelude.{slice_get}
 use Rattle.std.proofs.lemmas.Bool.{cases_Bool, both_ways}
 use Rattle.dnr_base.specs.Faults.{Count}
@@ -8,21 +8,20 @@ use Rattle.dnr_spec.specs.declared.status.Status.TheVariants as status
 use Rattle.dnr_spec.specs.Lines.{lines_of, is_within_limits}
 use Rattle.rule_spec.specs.State.{State}
 use Rattle.load_spec.specs.Files.{Files, HoldsLongFile}
-use Rattle.session_spec.specs.Answers.{Setting, HostRisesBy, Serves}
+use Rattle.session_spec.specs.Answers.{HostRisesBy, Serves}
 use Rattle.session_spec.specs.Hiding.{IsHidden, HidesTooMuch}
 use Rattle.session_spec.specs.Loading.{PrintsRefusedRules, PrintsRefusedList, Loaded}
-use Rattle.session_spec.specs.Out.{Outside, HostRose, HoldsScript, HoldsTooMuch, IsCounted, IsCompiled, Session, of_rules, of_words, setting_of, RefusesSession, Opens, IsServed, ServesAll, ServesShort, ServesSome, Conduct, at_once, in_rounds, conduct_of, IsBeginning, EndsBy, EndsFor, Out}
+use Rattle.session_spec.specs.Out.{Outside, HostRose, IsCounted, IsCompiled, Session, of_rules, of_words, setting_of, Opens, ServesAll, ServesShort, ServesSome, Conduct, at_once, in_rounds, conduct_of, IsBeginning, EndsBy, EndsFor}
 use Rattle.session_spec.specs.Pruning.{IsPruned, RefusesPruning}
 use Rattle.session_spec.specs.Rounds.{rounds_of, whole_rounds_of, short_lines}
 use Rattle.session_spec.specs.Sample.{IsSampled}
 use Rattle.session_spec.specs.Words.{Task, match_files, follow_files, check_file, compile_file, serve_script, make_sample, hide_page, prune_file, task_of}
-use Rattle.run_laws.specs.Finished.{GoesOn, IsWhole, StandsWritten, EndsWith, CanBeFinished}
-use Rattle.run_laws.specs.InTurn.{NoneFell, text_in_turn, MayAnswerInTurn}
+use Rattle.run_laws.specs.Finished.{CanBeFinished, EndsWith}
+use Rattle.run_laws.specs.InTurn.{NoneFell, text_in_turn}
 use Rattle.run_laws.specs.Laws.{RoundsInTurnAreServed, ServedRoundsGoOn, SessionsMayAnswerInTurn, WhatStandsIsABeginning, SessionsCanBeFinished}
 use Rattle.run_laws.specs.Wrote.{IsSession}
 use Rattle.run_laws.proofs.Cuts.{Begins, begins_on, begins_all, begins_taken, rounds_given, rounds_within}
 use Rattle.run_laws.proofs.Going.{served_in_turn, goes_on}
-use Rattle.run_laws.proofs.Ready.{same_file}
 use Rattle.run_laws.proofs.Wrote.{of_session}
 
 -- ---- sessions that answer in turn
@@ -219,52 +218,40 @@ words_stand (Some task) files outside ended written ends = task_stands task file
 pub what_stands_is_a_beginning : WhatStandsIsABeginning
 what_stands_is_a_beginning words files outside ended written out = words_stand (task_of words) files outside ended written out
 
--- ---- a session that can be served
-
--- nothing, or what one text begins with
-from_nothing : (May : List ℕ → Type 0) (written text : List ℕ) → written ≡ [] → May text → IsBeginning May written
-from_nothing May written text none whole = record { rest = text; whole = subst (λ (w : List ℕ). May (w ++ text)) (sym none) whole }
+-- ---- the whole script of a session
 
 front_of_nothing : (written rest : List ℕ) → written ++ rest ≡ [] → written ≡ []
 front_of_nothing [] rest none = refl
 front_of_nothing (b ∷ written) rest none = absurd (let long = ap length none in omega (arith, long))
 
--- a script is within the limits, or it is not
-both_limits : (files : Files) (name script other : List ℕ) → files name ≡ Some script → files name ≡ Some other → is_within_limits script ≡ true → is_within_limits other ≡ false → ⊥
-both_limits files name script other one two within beyond =
-    let same : script ≡ other = same_file files name script other one two in absurd (both_ways (is_within_limits other) beyond (ap is_within_limits (sym same) ∙ within))
+module _ (words : List (List ℕ)) (files : Files) (outside : Outside) (session : Session) (name : List ℕ) (is : IsSession (task_of words) session name) where
+  ends_with : (ended : Status) (written rest : List ℕ) → EndsBy outside (in_rounds files outside session name) ended (written ++ rest) → EndsWith words files outside ended written
+  ends_with ended written rest ends = record { rest = rest; whole = at_session (task_of words) files outside session name ended (written ++ rest) is ends }
 
-module _ (words : List (List ℕ)) (files : Files) (outside : Outside) (session : Session) (name script : List ℕ) (is : IsSession (task_of words) session name)
-    (accepted : (line : List ℕ) → RefusesSession files outside session line → ⊥) (held : files name ≡ Some script) where
+  of_whole : (written rest : List ℕ) → WholeBy (in_rounds files outside session name) (written ++ rest)
+      → (written ≡ []) ⊎ EndsWith words files outside status.Refused written ⊎ CanBeFinished words files outside name written
+  of_whole written rest (inl done) =
+      inr (inr (record {
+        script = done.script;
+        held = done.holds.held;
+        all = λ within. ends_with status.Done written rest done;
+        short = λ beyond. absurd (both_ways (is_within_limits done.script) beyond done.holds.within);
+      }))
+  of_whole written rest (inr (inl refused)) = inr (inl (ends_with status.Refused written rest refused))
+  of_whole written rest (inr (inr (inl long))) = inl (front_of_nothing written rest long.1)
+  of_whole written rest (inr (inr (inr short))) =
+      inr (inr (record {
+        script = short.script;
+        held = short.holds.held;
+        all = λ within. absurd (both_ways (is_within_limits short.script) short.holds.beyond within);
+        short = λ beyond. ends_with status.FileTooLong written rest (inr short);
+      }))
 
-  -- where its script is within the limits
-  with_done : (written text : List ℕ) → is_within_limits script ≡ true → Out words files outside status.Done text → StandsBy (in_rounds files outside session name) written
-      → EndsWith words files outside status.Done written
-  with_done written text within turn (inl none) = from_nothing (Out words files outside status.Done) written text none turn
-  with_done written text within turn (inr begins) = from begins.whole
-    where
-      from : WholeBy (in_rounds files outside session name) (written ++ begins.rest) → EndsWith words files outside status.Done written
-      from (inl done) = record { rest = begins.rest; whole = at_session (task_of words) files outside session name status.Done (written ++ begins.rest) is done }
-      from (inr (inl refused)) = absurd (accepted (written ++ begins.rest) refused)
-      from (inr (inr (inl long))) = from_nothing (Out words files outside status.Done) written text (front_of_nothing written begins.rest long.1) turn
-      from (inr (inr (inr short))) = absurd (both_limits files name script short.script held short.holds.held within short.holds.beyond)
-
-  -- where it is too long
-  with_too_long : (written text : List ℕ) → is_within_limits script ≡ false → Out words files outside status.FileTooLong text → StandsBy (in_rounds files outside session name) written
-      → EndsWith words files outside status.FileTooLong written
-  with_too_long written text beyond turn (inl none) = from_nothing (Out words files outside status.FileTooLong) written text none turn
-  with_too_long written text beyond turn (inr begins) = from begins.whole
-    where
-      from : WholeBy (in_rounds files outside session name) (written ++ begins.rest) → EndsWith words files outside status.FileTooLong written
-      from (inl done) = absurd (both_limits files name done.script script done.holds.held held done.holds.within beyond)
-      from (inr (inl refused)) = absurd (accepted (written ++ begins.rest) refused)
-      from (inr (inr long)) = record { rest = begins.rest; whole = at_session (task_of words) files outside session name status.FileTooLong (written ++ begins.rest) is long }
+  of_stands : (written : List ℕ) → StandsBy (in_rounds files outside session name) written → (written ≡ []) ⊎ EndsWith words files outside status.Refused written ⊎ CanBeFinished words files outside name written
+  of_stands written (inl none) = inl none
+  of_stands written (inr begins) = of_whole written begins.rest begins.whole
 
 pub sessions_can_be_finished : SessionsCanBeFinished
-sessions_can_be_finished words files outside session name loaded first script ended written is none opens accepted held out =
-    let stand = stands files outside session name ended written (of_session (task_of words) files outside session name ended written is out) in
-    let turn : MayAnswerInTurn words files outside (setting_of session loaded.suffixes) first script = sessions_may_answer_in_turn words files outside session name loaded first script is none opens held in
-    record {
-      all = λ within. with_done words files outside session name script is accepted held written _ within (turn.all within) stand;
-      short = λ beyond. with_too_long words files outside session name script is accepted held written _ beyond (turn.short beyond) stand;
-    }
+sessions_can_be_finished words files outside ended written session name is out =
+    of_stands words files outside session name is written
+    (stands files outside session name ended written (of_session (task_of words) files outside session name ended written is out))

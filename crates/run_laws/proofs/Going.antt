@@ -1,5 +1,5 @@
 -- A session goes on in turn, from whatever stands written.
-use Rattle.std.proofs.Common.{◌≡◌, ◌⊎◌, ℕ, zero, suc, ◌+◌, ◌%◌, ◌≤◌, List, [], ◌∷◌, ◌++◌, length, Bool, true, false, cond, Option, Some, None, Result, Ok, Err, refl, sym, ap, ◌∙◌, inl, inr, subst, arith, append_assoc, append-nil, length-append, All}
+use Rattle.std.proofs.Common.{◌≡◌, ℕ, suc, ◌+◌, ◌%◌, ◌≤◌, List, [], ◌∷◌, ◌++◌, length, Bool, true, false, cond, Option, Some, None, Result, Ok, Err, refl, sym, ap, ◌∙◌, inl, inr, subst, arith, append_assoc, append-nil, length-append, All}
 use Rattle.std.specs.Prelude.{◌==◌, slice_get, Contains, filter_map}
 use Rattle.std.proofs.lemmas.Bool.{cond_both}
 use Rattle.std.proofs.lemmas.List.Elements.{All-nil, All-cons, All-append, filter_map-append}
@@ -16,7 +16,7 @@ use Rattle.line_spec.specs.Line.{Command, blank, sync, request, explain, update,
 use Rattle.session_spec.specs.Answers.{Setting, known_with, said_refused, Applies, IsAnswered, Explains, AnswersBy, RepliesWhy, Replies, Says, LinesSay, RoundsSay, HostRisesBy, Serves}
 use Rattle.session_spec.specs.InTurn.{said_by, left_by, answer_in_turn, why_in_turn, reply_in_turn, state_in_turn, lines_in_turn, rounds_in_turn}
 use Rattle.session_spec.specs.Rounds.{Held, holds_nothing, with_line, asks}
-use Rattle.session_spec.specs.Said.{Answer, is_failed, Said, nothing, accepted, synced, refused, refused_in_batch, bad, stopped, answered, said_line, lines_text, number_by, numbers_by, NeverFallFrom, NeverFall, count_failed, count_stopped}
+use Rattle.session_spec.specs.Said.{Answer, is_failed, Said, nothing, accepted, synced, bad, stopped, answered, said_line, lines_text, number_by, numbers_by, NeverFallFrom, count_failed, count_stopped}
 use Rattle.run_laws.specs.Finished.{GoesOn}
 use Rattle.session_laws.specs.Turns.{LineTold}
 use Rattle.session_laws.proofs.Rises.{RisesWith}

@@ -1,5 +1,5 @@
 -- The worked examples of whole runs are what a command may write.
-use Rattle.std.specs.Prelude.{ℕ, zero, suc, List, [], ◌∷◌, codes, slice_get, Bool, false, true, Some, None, Result, Ok, Err, length, refl, ⊤}
+use Rattle.std.specs.Prelude.{ℕ, zero, suc, List, [], ◌∷◌, codes, slice_get, false, true, None, Result, Ok, Err, length, refl, ⊤}
 use Rattle.std.proofs.Common.{◌≡◌, ◌≤◌, arith, inl, inr, subst, lit≤}
 use Rattle.std.specs.Str.{is_utf8}
 use Rattle.url.proofs.OnLiterals.{url_on_literals}
@@ -31,7 +31,7 @@ use Rattle.session_spec.specs.Examples.{replies, serving, bare, none}
 use Rattle.session_spec.specs.Out.{local, loaded_with}
 use Rattle.session_spec.specs.Rounds.{rounds_of}
 use Rattle.run_laws.specs.Laws.{RunsAreInTurn}
-use Rattle.run_laws.specs.Runs.{rules_and_script, bare_and_script, Runs, ServesBare, setting_where, status_opened, text_opened, status_read, text_read, MatchRuns, RefusedRuns, FollowRuns, UpdatesAreServedInTurn, WorkedRuns}
+use Rattle.run_laws.specs.Runs.{rules_and_script, Runs, ServesBare, setting_where, status_opened, text_opened, status_read, text_read, MatchRuns, RefusedRuns, FollowRuns, UpdatesAreServedInTurn, WorkedRuns}
 use Rattle.run_laws.proofs.Going.{served_in_turn}
 
 -- what is opened to compute these definitions on a literal
@@ -161,13 +161,16 @@ serve_is script written within writes = record {
     opens = record {
       read = record {
         suffixes = refl;
-        extensions = (record {
-          manifest = record { resources = []; access = None };
-          held = record { bytes = codes "{}"; file = record { held = refl; short = lit≤ tt }; read = refl };
-          sets = [];
-          loaded = tt;
-          same = refl;
-        }, tt);
+        extensions = (
+          record {
+            manifest = record { resources = []; access = None };
+            held = record { bytes = codes "{}"; file = record { held = refl; short = lit≤ tt }; read = refl };
+            sets = [];
+            loaded = tt;
+            same = refl;
+          },
+          tt,
+        );
       };
       installed = refl;
     };

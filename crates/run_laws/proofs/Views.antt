@@ -1,6 +1,6 @@
 -- The requests that lines ask about have views.
-use Rattle.std.proofs.Common.{◌≡◌, ℕ, List, [], ◌∷◌, Bool, true, false, Option, Some, None, Result, Ok, Err, All, refl, subst}
-use Rattle.std.specs.Prelude.{codes, IfSome, min, nat_le, bytes_eq, option_and_then}
+use Rattle.std.proofs.Common.{◌≡◌, ℕ, List, Bool, true, false, Option, Some, None, Result, Ok, Err, All, refl, subst}
+use Rattle.std.specs.Prelude.{IfSome, min, nat_le, option_and_then}
 use Rattle.std.proofs.lemmas.Bool.{cond_both}
 use Rattle.std.proofs.lemmas.List.Elements.{All-nil, All-cons}
 use Rattle.serde_json.specs.Data.{Data, null, string, Items, no_items, item, Members}

@@ -1,9 +1,9 @@
 -- What a session wrote, by its status.
-use Rattle.std.proofs.Common.{ℕ, List, ◌++◌, true, false, Option, Some, None, inl, inr}
+use Rattle.std.proofs.Common.{ℕ, List, ◌++◌, Option, Some, None, inl, inr}
 use Rattle.dnr_spec.specs.declared.status.Status.{Status}
 use Rattle.dnr_spec.specs.declared.status.Status.TheVariants as status
 use Rattle.load_spec.specs.Files.{Files}
-use Rattle.session_spec.specs.Out.{Outside, Session, of_rules, of_words, setting_of, IsServed, IsBeginning, in_rounds, EndsBy, EndsFor}
+use Rattle.session_spec.specs.Out.{Outside, Session, setting_of, IsServed, IsBeginning, in_rounds, EndsBy, EndsFor}
 use Rattle.session_spec.specs.Words.{Task, match_files, follow_files, check_file, compile_file, serve_script, make_sample, hide_page, prune_file, task_of}
 use Rattle.run_laws.specs.Wrote.{IsSession, OfRounds, IsHistoryOf, Meanwhile, WroteSo}
 use Rattle.run_laws.specs.Laws.{SessionsAreHistories}

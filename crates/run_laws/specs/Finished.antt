@@ -1,5 +1,5 @@
 -- What stands written at the end of a run, as a beginning of what may be written whole.
-use Rattle.std.specs.Prelude.{◌≡◌, ◌⊎◌, ℕ, List, [], ◌++◌, true, false}
+use Rattle.std.specs.Prelude.{◌≡◌, ◌⊎◌, ℕ, List, [], ◌++◌, true, false, Some}
 use Rattle.dnr_base.specs.Faults.{Count}
 use Rattle.dnr_spec.specs.declared.status.Status.{Status}
 use Rattle.dnr_spec.specs.declared.status.Status.TheVariants.{Done, Refused, FileTooLong}
@@ -28,8 +28,10 @@ StandsWritten words files outside written = (written ≡ []) ⊎ IsBeginning (Is
 abbrev pub EndsWith : List (List ℕ) → Files → Outside → Status → List ℕ → Type 0
 EndsWith words files outside ended written = IsBeginning (Out words files outside ended) written
 
--- It can be continued to what the session writes of this script whole: with Done, or, where the script is too long, with
--- FileTooLong.
-pub record CanBeFinished (words : List (List ℕ)) (files : Files) (outside : Outside) (script written : List ℕ) : Type 0 where
+-- The script of this name is there, and what was written is a beginning of what the session may write of it whole: with Done,
+-- or, where the script is too long, with FileTooLong.
+pub record CanBeFinished (words : List (List ℕ)) (files : Files) (outside : Outside) (name written : List ℕ) : Type 0 where
+  pub script : List ℕ
+  pub held : files name ≡ Some script
   pub all : is_within_limits script ≡ true → EndsWith words files outside Done written
   pub short : is_within_limits script ≡ false → EndsWith words files outside FileTooLong written

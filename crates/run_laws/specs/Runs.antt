@@ -1,13 +1,12 @@
 -- Whole runs, as examples of what a command may write: the rules and the scripts of the worked examples, each with the status
 -- and the bytes of its run.
-use Rattle.std.specs.Prelude.{◌≡◌, ℕ, ◌≤◌, List, [], ◌∷◌, ◌++◌, length, codes, replicate, bytes_eq, Bool, false, true, Option, Some, None, Result, Ok, Err, if◌then◌else◌}
+use Rattle.std.specs.Prelude.{ℕ, List, [], ◌∷◌, ◌++◌, codes, replicate, bytes_eq, Bool, false, Some, None, Result, Ok, Err, if◌then◌else◌}
 use Rattle.dnr_spec.specs.declared.status.Status.{Status}
 use Rattle.dnr_spec.specs.declared.status.Status.TheVariants.{Done, Refused}
-use Rattle.dnr_spec.specs.Lines.{is_within_limits}
 use Rattle.rule_spec.specs.declared.rule_kind.RuleKind.TheVariants.{Static}
 use Rattle.rule_spec.specs.Rule.{Rule}
 use Rattle.rule_spec.specs.State.{State}
-use Rattle.json_spec.specs.RulesFile.{FileRefusal, max_file, rules_of}
+use Rattle.json_spec.specs.RulesFile.{FileRefusal, rules_of}
 use Rattle.load_spec.specs.Files.{Files}
 use Rattle.update_spec.specs.Entries.{RefusedInstall, opening}
 use Rattle.session_spec.specs.Answers.{Setting}
