@@ -7,12 +7,9 @@ SYNC = b'{"cmd":"sync"}'
 QUESTIONS = ("request", "explain")
 UPDATES = ("dynamic", "session", "rulesets", "static", "install", "uninstall", "batch")
 VERDICTS = ("none", "block", "allow", "redirect", "upgrade")
-# White space of JSON.
-SPACES = " \t\r\n"
-# (`json.dumps` makes an encoder for each text whose form is not its own, and `json.loads` looks for white space twice)
+# (`json.dumps` makes an encoder for each text whose form is not its own)
 WITH_LETTERS = json.JSONEncoder(separators=(",", ":"), ensure_ascii=False).encode
 ESCAPED = json.JSONEncoder(separators=(",", ":")).encode
-SCANNED = json.JSONDecoder().scan_once
 
 
 def dumped(value):
@@ -25,12 +22,11 @@ def dumped(value):
 
 def loaded(line):
     """The object that a line of bytes holds. Raises ValueError where it is none, or nothing that `dnr` can be asked."""
-    text = line.decode().strip(SPACES)
     try:
-        value, end = SCANNED(text, 0)
-    except (StopIteration, RecursionError):
-        raise ValueError("no JSON, or too many nestings") from None
-    if end != len(text) or not isinstance(value, dict):
+        value = json.loads(line.decode())
+    except RecursionError:
+        raise ValueError("too many nestings") from None
+    if not isinstance(value, dict):
         raise ValueError("no object")
     return value
 

@@ -65,8 +65,7 @@ class Broker:
             self.change()
             engine = self.engines.engine
         if self.waiting and engine and not engine.asked:
-            self.updated_last = False
-            self.engines.ask(engine, self.next_questions())
+            self.ask_waiting(engine)
         while self.touched:
             self.touched.pop().flush()
         if not self.bell.often and not self.quiet:
@@ -142,8 +141,12 @@ class Broker:
     def next_round(self, engine):
         """Asks an engine whose last answers are there what waits, where no update is due before."""
         if not self.updates and not engine.unwritten:
-            self.updated_last = False
-            self.engines.ask(engine, self.next_questions())
+            self.ask_waiting(engine)
+
+    def ask_waiting(self, engine):
+        """Begins a round of what waits."""
+        self.updated_last = False
+        self.engines.ask(engine, self.next_questions())
 
     def verdict(self, engine, question, text):
         """Hands a line to who asked, where it is the verdict that is to come next, and tells whether it is."""
