@@ -6,6 +6,9 @@ import signal
 import time
 
 READ, WRITE = select.EPOLLIN, select.EPOLLOUT
+# So often it looks for events before it sleeps, some 100 us in all, where another processor may bring them meanwhile: to
+# sleep and be woken takes longer than an engine takes for an answer.
+LOOKS = 100 if len(os.sched_getaffinity(0)) > 1 else 0
 
 
 class Events:
@@ -38,12 +41,20 @@ class Events:
         A call may take away a descriptor of which an event is at hand, or let another have its number. So no call relies
         on an event: each reads and writes without waiting.
         """
-        happened = self.poll.poll()
+        happened = self.look()
         self.now = time.monotonic()
         for descriptor, mask in happened:
             call = self.calls.get(descriptor)
             if call:
                 call(mask)
+
+    def look(self):
+        """The events that are at hand, or else the next ones."""
+        poll = self.poll.poll
+        for _ in range(LOOKS):
+            if happened := poll(0):
+                return happened
+        return poll()
 
     def close(self):
         """Ends the watching."""
