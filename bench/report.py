@@ -192,8 +192,8 @@ def short_table(results, day):
     found = [row_of(it, rows) for it in rows if int(it["rules"]) in wanted]
     of = {it["what"]: it["is"] for it in plot.rows_of(results, day, "machine")}
     told = (
-        f"\nOf commit `{of['commit']}`, on {of['day']}, while {of['load_before']} processes wanted the {of['processors']} processors"
-        " of the machine: instructions are counted, and other work shows in times.\n"
+        f"\nOf commit `{of['commit']}`, on {of['day']}; {of['load_before']} processes wanted the {of['processors']} processors of the"
+        f" machine before it, and {of['load_after']} behind it. Instructions are counted, and other work shows in times.\n"
     )
     # (all but the loading)
     return table([*REQUEST_HEAD[:6], REQUEST_HEAD[7]], [[*row[:6], row[7]] for row in found]) + told
