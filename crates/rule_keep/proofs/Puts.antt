@@ -1,5 +1,5 @@
 -- What a crash leaves while an update is added.
-use Rattle.std.proofs.Common.{◌≡◌, inl, inr, ⊎_elim, ℕ, ◌+◌, ◌<◌, ◌≤◌, true, List, [], ◌∷◌, ◌++◌, map, filter_map, length, Some, None, is_none, Result, Ok, Err, is_err, OnOk, sym, ◌∙◌, ap, arith, refl, subst}
+use Rattle.std.proofs.Common.{◌≡◌, inl, inr, ⊎_elim, ℕ, ◌+◌, ◌<◌, ◌≤◌, true, false, List, [], ◌∷◌, ◌++◌, map, filter_map, length, Some, None, is_none, Result, Ok, Err, is_err, OnOk, sym, ◌∙◌, ap, arith, refl, subst}
 use Rattle.std.proofs.lemmas.Bool.{and_parts, and_from}
 use Rattle.std.proofs.lemmas.List.{map-append}
 use Rattle.std.proofs.lemmas.List.Elements.{filter_map-append}
@@ -95,13 +95,13 @@ module _ (images : List ℕ → Type 0) (keep : Kept) (update : Update) (payload
 
   pub sound_put : AlikeUpdatesAreJudgedAlike → AreDynamic keep.list → is_dynamic update ≡ true → judge_update (state_of keep.name keep.list) update ≡ None
       → Sound keep.name images → (image : List ℕ) → MayAdd images payload image → IsSound keep.name image
-  sound_put law are dynamic accepted sound image may =
+  sound_put law are changes accepted sound image may =
       let was = sound may.old may.was in
       let list_is = kept_is keep.name may.old was.list was.read in
       let alike : AreAlike was.list keep.list = ap (map normal_update) (sym list_is) ∙ (agrees may.old may.was).alike in
       let also = are_dynamic keep.name (payloads may.old) was.list was.read in
       let taken : accepts (state_of keep.name was.list) (normal_update update) ≡ true =
-      ap is_none (law keep.name keep.list was.list update are also dynamic alike ∙ accepted) in
+      ap is_none (law keep.name keep.list was.list update are also changes alike ∙ accepted) in
       sound_after keep.name may.old image payload (normal_update update) was is taken may.is
 
 -- ---- a run
@@ -124,8 +124,8 @@ module _ {D : Type 0} (moment : D → ℕ) (left_since : D → ℕ → List ℕ 
 
   pub stays_sound : AlikeUpdatesAreJudgedAlike → AreDynamic keep.list → is_dynamic update ≡ true → judge_update (state_of keep.name keep.list) update ≡ None
       → Sound keep.name (images old) → Sound keep.name (images new)
-  stays_sound law are dynamic accepted sound image left =
-      sound_put (images old) keep update payload stay is agrees law are dynamic accepted sound image (added_now image left)
+  stays_sound law are changes accepted sound image left =
+      sound_put (images old) keep update payload stay is agrees law are changes accepted sound image (added_now image left)
 
 -- ---- what the program holds
 
