@@ -123,9 +123,9 @@ module _ (name payload : List ℕ) (rose : Type 0) (before now : ℕ) (fault : L
   host_stays not_host = by stop means not_host
     where
       by : (s : Stop) → Means (command_of 1 payload) rose before now s → (s ≡ HostFault → ⊥) → now ≡ before
-      by Refused m no = m.1
-      by HostFault m no = absurd (no refl)
-      by NoMemory m no = m
+      by Refused m other = m.1
+      by HostFault m other = absurd (other refl)
+      by NoMemory m other = m
 
 -- what it is to who opens the file
 

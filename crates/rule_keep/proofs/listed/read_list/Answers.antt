@@ -1,4 +1,4 @@
-use Rattle.std.proofs.Common.{◌≡◌, ℕ, Err, List, sym, ◌∙◌, ap, subst}
+use Rattle.std.proofs.Common.{rules, ◌≡◌, ℕ, Err, List, sym, ◌∙◌, ap, subst}
 use Rattle.ruleset_store.specs.Seen.{update_seen, updates_seen}
 use Rattle.keep_records.specs.Records.{payloads}
 use Rattle.keep_spec.specs.Agrees.{IsFirstRefused}

@@ -85,24 +85,51 @@ returns-clause-sound g c = λ told.
 pub returns-clause-agrees : goal.returns-clause-agrees
 returns-clause-agrees g c = λ told.
     let payload = c.deref-2.result.now in
+    let place = c.self.inside.place + (c.len-2.result + 5) in
     let name_is : c.self.inside.name ≡ c.args.self.now.name = ap (λ (k : Kept). k.name) c.self.view_is in
     let new_is = seen_push c.self.inside.list.items c.push.new.self.items c.in_ok-copy.copy c.args.update.now c.in_ok-push.ensures.items c.in_ok-copy.ensures in
     let list_is = new_is ∙ ap (λ (k : Kept). k.list ++ update_seen c.args.update.now ∷ []) c.self.view_is in
-    let count : c.self.inside.place + 5 + length payload ≡ c.self.inside.place + (length payload + 5) = omega arith in
+    let count : c.self.inside.place + 5 + length payload ≡ place = omega (arith, c.len-2.ensures, c.deref-2.ensures.len) in
     let added = at_ok c.append.result _ (sym c.is_err.ensures.value ∙ c.if-is_err.false) c.append.ensures.added told in
     agrees_after (g.D.Disk.images c.args.disk.now) (g.D.Disk.images c.append.new.disk) c.args.self.now (update_seen c.args.update.now) payload
-    c.alike_updates_are_judged_alike.ensures.stays (ap (update_at c.args.self.now.name) c.deref-2.ensures.value ∙ c.in_ok-payload.ensures.read) (c.requires.agrees told)
-    c.self.inside.name (updates_seen c.push.new.self.items) (c.self.inside.place + (length payload + 5)) name_is list_is
+    c.alike_updates_are_judged_alike.ensures.stays (ap (update_at c.args.self.now.name) c.deref-2.ensures.value ∙ c.in_ok-payload.ensures.read)
+    (c.requires.agrees told) c.self.inside.name (updates_seen c.push.new.self.items) place name_is list_is
     (λ image left. subst (λ (n : ℕ). Adds (g.D.Disk.images c.args.disk.now) n payload image) count (added image left))
 
 pub append-requires-clause-fits : goal.append-requires-clause-fits
-append-requires-clause-fits g c = ?
+append-requires-clause-fits g c =
+    let text = ap length c.in_ok-payload.ensures.text in
+    let some = text_is_some c.args.self.now.name (update_seen c.args.update.now) c.requires.update in
+    omega (arith, c.room_behind.ensures, c.if-room_behind-len.false, c.len.ensures, c.deref-2.ensures.len, ap length c.deref-2.ensures.value, text, some)
 
 pub overflow_add-self-2 : goal.overflow_add-self-2
-overflow_add-self-2 g c = ?
+overflow_add-self-2 g c =
+    let text = ap length c.in_ok-payload.ensures.text in
+    let some = text_is_some c.args.self.now.name (update_seen c.args.update.now) c.requires.update in
+    omega (
+      arith, c.room_behind.ensures, c.if-room_behind-len.false, c.len.ensures, c.len-2.ensures, c.deref-2.ensures.len, ap length c.deref-2.ensures.value, text, some,
+    )
 
 pub returns-then-is_err-clause-full : goal.returns-then-is_err-clause-full
-returns-then-is_err-clause-full g c = ?
+returns-then-is_err-clause-full g c = λ not_memory.
+    let text = ap length c.in_ok-payload.ensures.text in
+    let some = text_is_some c.args.self.now.name (update_seen c.args.update.now) c.requires.update in
+    let place_is : c.self.inside.place ≡ c.args.self.now.place = ap (λ (k : Kept). k.place) c.self.view_is in (
+      (λ is. absurd (cc is)),
+      (λ over.
+      absurd (omega (
+        arith, c.room_behind.ensures, c.if-room_behind-len.false, c.len.ensures, c.deref-2.ensures.len, ap length c.deref-2.ensures.value, text, some, place_is, over,
+      ))),
+    )
 
 pub returns-clause-full : goal.returns-clause-full
-returns-clause-full g c = ?
+returns-clause-full g c = λ not_memory.
+    let text = ap length c.in_ok-payload.ensures.text in
+    let some = text_is_some c.args.self.now.name (update_seen c.args.update.now) c.requires.update in
+    let place_is : c.self.inside.place ≡ c.args.self.now.place = ap (λ (k : Kept). k.place) c.self.view_is in (
+      (λ is. absurd (cc is)),
+      (λ over.
+      absurd (omega (
+        arith, c.room_behind.ensures, c.if-room_behind-len.false, c.len.ensures, c.deref-2.ensures.len, ap length c.deref-2.ensures.value, text, some, place_is, over,
+      ))),
+    )
