@@ -1,5 +1,5 @@
 -- What a crash leaves while an update is added.
-use Rattle.std.proofs.Common.{◌≡◌, inl, inr, ⊎_elim, ℕ, ◌+◌, ◌<◌, ◌≤◌, true, false, List, [], ◌∷◌, ◌++◌, map, filter_map, length, Some, None, is_none, Result, Ok, Err, is_err, OnOk, sym, ◌∙◌, ap, arith, refl, subst}
+use Rattle.std.proofs.Common.{◌≡◌, inl, inr, ⊎_elim, ℕ, ◌<◌, ◌≤◌, true, false, List, [], ◌∷◌, ◌++◌, map, filter_map, length, Some, None, is_none, Result, Ok, Err, is_err, OnOk, sym, ◌∙◌, ap, arith, refl, subst}
 use Rattle.std.proofs.lemmas.Bool.{and_parts, and_from}
 use Rattle.std.proofs.lemmas.List.{map-append}
 use Rattle.std.proofs.lemmas.List.Elements.{filter_map-append}

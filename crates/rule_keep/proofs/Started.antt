@@ -1,5 +1,5 @@
 -- The state in which an extension is installed alone.
-use Rattle.std.proofs.Common.{◌≡◌, ℕ, List, None, Result, Ok, Err, refl, sym, ap, ◌∙◌}
+use Rattle.std.proofs.Common.{◌≡◌, ℕ, List, None, Result, Ok, refl, sym, ap, ◌∙◌}
 use Rattle.rule_spec.specs.State.{State}
 use Rattle.update_spec.specs.Entries.{RefusedInstall, empty, changed_unless, install_one}
 use Rattle.update_spec.specs.Judge.{judge_update}

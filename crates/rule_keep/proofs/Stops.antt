@@ -1,5 +1,5 @@
 -- Why a payload is not taken.
-use Rattle.std.proofs.Common.{◌≡◌, ℕ, Bool, true, false, Option, Some, None, is_none, Result, Ok, Err, IfOk, OnOk, List, refl, sym, ap, subst}
+use Rattle.std.proofs.Common.{◌≡◌, ℕ, false, Option, None, is_none, Result, Ok, Err, IfOk, OnOk, List, refl, sym, ap, subst}
 use Rattle.rule_spec.specs.declared.rule_refusal.RuleRefusal.{RuleRefusal}
 use Rattle.rule_spec.specs.declared.rule_refusal.RuleRefusal.TheVariants as cause
 use Rattle.update_spec.specs.declared.refusal.Refusal.{Refusal}

@@ -1,5 +1,5 @@
-use Rattle.std.proofs.Common.{rules, ◌≡◌, ℕ, Err, List, sym, ◌∙◌, ap, subst}
-use Rattle.ruleset_store.specs.Seen.{update_seen, updates_seen}
+use Rattle.std.proofs.Common.{rules, ℕ, Err, sym, ◌∙◌, ap, subst}
+use Rattle.ruleset_store.specs.Seen.{updates_seen}
 use Rattle.keep_records.specs.Records.{payloads}
 use Rattle.keep_spec.specs.Agrees.{IsFirstRefused}
 use Rattle.rule_keep.specs.declared.refusals.OpenRefusal.TheVariants.{BadRecord}

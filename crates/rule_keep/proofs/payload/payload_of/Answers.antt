@@ -1,10 +1,9 @@
-use Rattle.std.proofs.Common.{◌≡◌, List, ℕ, map, Some, All, IsUtf8, sym, ◌∙◌, ap, subst}
+use Rattle.std.proofs.Common.{List, All, IsUtf8, ◌∙◌, ap, subst}
 use Rattle.rule_spec.specs.Rule.{Rule}
 use Rattle.rule_spec.specs.IsRule.{IsRule}
-use Rattle.serde_json.specs.View.{view}
 use Rattle.serde_json.specs.Written.{has_float, compact_text}
 use Rattle.keep_spec.specs.Kept.{update_at}
-use Rattle.keep_spec.specs.Written.{update_written, payload_text}
+use Rattle.keep_spec.specs.Written.{update_written}
 use Rattle.rule_keep.proofs.Texts.{update_plain}
 use Rattle.rule_keep.proofs.payload.payload_of.Goals as goal
 

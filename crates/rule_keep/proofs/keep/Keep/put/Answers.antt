@@ -1,5 +1,4 @@
-use Rattle.std.proofs.Common.{◌≡◌, ℕ, ◌+◌, List, [], ◌∷◌, ◌++◌, length, sym, ◌∙◌, ap, subst, arith}
-use Rattle.update_spec.specs.Update.{Update}
+use Rattle.std.proofs.Common.{◌≡◌, ℕ, ◌+◌, [], ◌∷◌, ◌++◌, length, sym, ◌∙◌, ap, subst, arith}
 use Rattle.update_spec.specs.Entries.{one, after}
 use Rattle.ruleset_store.specs.Seen.{update_seen, updates_seen}
 use Rattle.keep_spec.specs.Kept.{Kept, update_at, state_of}
@@ -107,7 +106,15 @@ overflow_add-self-2 g c =
     let text = ap length c.in_ok-payload.ensures.text in
     let some = text_is_some c.args.self.now.name (update_seen c.args.update.now) c.requires.update in
     omega (
-      arith, c.room_behind.ensures, c.if-room_behind-len.false, c.len.ensures, c.len-2.ensures, c.deref-2.ensures.len, ap length c.deref-2.ensures.value, text, some,
+      arith,
+      c.room_behind.ensures,
+      c.if-room_behind-len.false,
+      c.len.ensures,
+      c.len-2.ensures,
+      c.deref-2.ensures.len,
+      ap length c.deref-2.ensures.value,
+      text,
+      some,
     )
 
 pub returns-then-is_err-clause-full : goal.returns-then-is_err-clause-full
@@ -117,9 +124,18 @@ returns-then-is_err-clause-full g c = λ not_memory.
     let place_is : c.self.inside.place ≡ c.args.self.now.place = ap (λ (k : Kept). k.place) c.self.view_is in (
       (λ is. absurd (cc is)),
       (λ over.
-      absurd (omega (
-        arith, c.room_behind.ensures, c.if-room_behind-len.false, c.len.ensures, c.deref-2.ensures.len, ap length c.deref-2.ensures.value, text, some, place_is, over,
-      ))),
+          absurd (omega (
+            arith,
+            c.room_behind.ensures,
+            c.if-room_behind-len.false,
+            c.len.ensures,
+            c.deref-2.ensures.len,
+            ap length c.deref-2.ensures.value,
+            text,
+            some,
+            place_is,
+            over,
+          ))),
     )
 
 pub returns-clause-full : goal.returns-clause-full
@@ -129,7 +145,16 @@ returns-clause-full g c = λ not_memory.
     let place_is : c.self.inside.place ≡ c.args.self.now.place = ap (λ (k : Kept). k.place) c.self.view_is in (
       (λ is. absurd (cc is)),
       (λ over.
-      absurd (omega (
-        arith, c.room_behind.ensures, c.if-room_behind-len.false, c.len.ensures, c.deref-2.ensures.len, ap length c.deref-2.ensures.value, text, some, place_is, over,
-      ))),
+          absurd (omega (
+            arith,
+            c.room_behind.ensures,
+            c.if-room_behind-len.false,
+            c.len.ensures,
+            c.deref-2.ensures.len,
+            ap length c.deref-2.ensures.value,
+            text,
+            some,
+            place_is,
+            over,
+          ))),
     )
