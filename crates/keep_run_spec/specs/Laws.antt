@@ -1,0 +1,31 @@
+-- Laws of rules that are kept in a file.
+use Rattle.std.specs.Prelude.{◌≡◌, ◌⊎◌, ℕ, List, ◌++◌, true, Some}
+use Rattle.dnr_base.specs.Faults.{Count}
+use Rattle.dnr_spec.specs.declared.status.Status.{Status}
+use Rattle.dnr_spec.specs.declared.status.Status.TheVariants as status
+use Rattle.dnr_spec.specs.Lines.{is_within_limits}
+use Rattle.load_spec.specs.Files.{Files}
+use Rattle.keep_spec.specs.Kept.{Kept}
+use Rattle.keep_spec.specs.Agrees.{Sound}
+use Rattle.keep_run_spec.specs.Words.{Keeping}
+use Rattle.keep_run_spec.specs.Answers.{Answered}
+use Rattle.keep_run_spec.specs.Ends.{Around, HasRisen, Images, EndsKeeping}
+
+-- what first lines say is a beginning of what they say with others behind them
+abbrev pub AnswersGoOn : Type 0
+AnswersGoOn =
+    (host : Count) (first : Kept) (lines later : List (List ℕ)) (last : Kept) (text : List ℕ) → Answered host first lines last text
+    → (rest : List ℕ) × (end : Kept) × Answered host first (lines ++ later) end (text ++ rest)
+
+-- something failed on the way
+abbrev pub SomethingFailed : Around → Type 0
+SomethingFailed around = HasRisen around.shelf ⊎ HasRisen around.sink ⊎ HasRisen around.host ⊎ HasRisen around.disk
+
+-- Where the file is sound and the script is there and within the limits, all of it is answered, unless something fails or
+-- memory runs out.
+abbrev pub KeepingsComplete : Type 1
+KeepingsComplete =
+    (files : Files) (keeping : Keeping) (around : Around) (images : Images) (ended : Status) (written script : List ℕ)
+    → images.before images.seen → Sound keeping.extension images.before → files keeping.script ≡ Some script → is_within_limits script ≡ true
+    → EndsKeeping (Some files) keeping around images ended written
+    → (ended ≡ status.Done) ⊎ (ended ≡ status.NoMemory) ⊎ SomethingFailed around
