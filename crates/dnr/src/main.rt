@@ -6,6 +6,8 @@ ghost use Rattle.std.specs.Prelude.{◌≡◌, length, IfOk};
 use dnr_base::NoMemory;
 use dnr_io::{DirShelf, Output, Status};
 use dnr_top::run;
+use keep_file::FileDisk;
+use keep_run::run_keep;
 use lookup_pool::NoGate;
 use regex_host::PackHost;
 use session_laws::nine_hosts_are_enough;
@@ -21,25 +23,54 @@ const WORKERS: usize = 8;
 const ROOM: usize = 1_024;
 
 fn main(rt: HostRuntime) -> ExitCode {
-    let status = match (words_of(&rt), hosts_of(rt.alloc())) {
-        (Ok(words), Ok(mut hosts)) => {
-            let mut shelf = DirShelf::new(&rt);
-            let mut out = Output::new(rt.stdout());
-            nine_hosts_are_enough();
-            run(
-                &rt,
-                rt.alloc(),
-                &words,
-                &mut shelf,
-                &mut out,
-                &mut hosts,
-                &NoGate,
-            )
-        }
-        (Err(status), _) => status,
-        (_, Err(NoMemory)) => Status::NoMemory,
+    let status = match words_of(&rt) {
+        Ok(words) if asks_to_keep(&words) => keep(&rt, &words),
+        Ok(words) => answer(&rt, &words),
+        Err(status) => status,
     };
     ExitCode::from(status.value())
+}
+
+// Whether there are four words, and the first is `keep`.
+fn asks_to_keep(words: &[String]) -> bool {
+    words.len() == 4 && words[0].as_str() == "keep"
+}
+
+// Keeps dynamic rules in a file.
+fn keep(rt: &HostRuntime, words: &[String]) -> Status {
+    let Ok(mut host) = PackHost::new(rt.alloc()) else {
+        return Status::NoMemory;
+    };
+    let mut shelf = DirShelf::new(rt);
+    let mut out = Output::new(rt.stdout());
+    let mut disk = FileDisk::new(rt, words[1].as_str());
+    run_keep(
+        rt.alloc(),
+        words,
+        &mut shelf,
+        &mut out,
+        &mut host,
+        &mut disk,
+    )
+}
+
+// Runs any other command.
+fn answer(rt: &HostRuntime, words: &[String]) -> Status {
+    let Ok(mut hosts) = hosts_of(rt.alloc()) else {
+        return Status::NoMemory;
+    };
+    let mut shelf = DirShelf::new(rt);
+    let mut out = Output::new(rt.stdout());
+    nine_hosts_are_enough();
+    run(
+        rt,
+        rt.alloc(),
+        words,
+        &mut shelf,
+        &mut out,
+        &mut hosts,
+        &NoGate,
+    )
 }
 
 // The words after the program's name. A word that is no text makes a command that no words say.

@@ -46,6 +46,7 @@ impl<'a, R: Files> FileDisk<'a, R> {
 
 impl<'a, R: Files> Disk for FileDisk<'a, R> {
     ghost use Rattle.std.specs.Prelude.{false, []};
+    ghost use Rattle.keep_file.specs.Laws.{tells_nothing};
 
     ghost tells = { λ _. false };
 
@@ -88,7 +89,7 @@ impl<'a, R: Files> Disk for FileDisk<'a, R> {
         counted(&mut self.faults, result)
     }
 
-    ghost seen_is_image = { λ disk tells. absurd tells };
+    ghost seen_is_image = { λ disk told. tells_nothing told };
 
     ghost counts_now = { λ disk t image le now. now };
 
@@ -136,12 +137,7 @@ fn write_to<R: Files>(
     file.write_all(bytes)
 }
 
-fn cut_to<R: Files>(
-    rt: &R,
-    path: &str,
-    file: &mut Option<R::File>,
-    length: u64,
-) -> io::Result<()> {
+fn cut_to<R: Files>(rt: &R, path: &str, file: &mut Option<R::File>, length: u64) -> io::Result<()> {
     let file = opened(rt, path, file)?;
     if file.metadata()?.len() > length {
         file.set_len(length)?;

@@ -1,10 +1,9 @@
 // How a file is opened or made.
-use std::fs;
 use std::fs::{OpenFile, OpenOptions};
-use std::io;
 use std::io::ErrorKind;
 use std::path::Path;
 use std::rt::Files;
+use std::{fs, io};
 
 // The file of this path, which is opened where it was not yet.
 pub(crate) fn opened<'f, R: Files>(
@@ -15,8 +14,7 @@ pub(crate) fn opened<'f, R: Files>(
     if file.is_none() {
         *file = Some(open_or_make(rt, path)?);
     }
-    file.as_mut()
-        .ok_or(io::Error::from(ErrorKind::NotFound))
+    file.as_mut().ok_or(io::Error::from(ErrorKind::NotFound))
 }
 
 // Opens the file to read and to write it, and makes it where there is none. A file that is made stands in its folder

@@ -97,12 +97,15 @@ answers_go_on host first lines later last text answered =
     let more = said_calmly last (1 + length lines) later in
     let told = answered.told ++ more.told in
     let many : length answered.told ≡ length lines = as_many first last 1 lines answered.told answered.says in
-    let times : count_host_faults told ≡ count_host_faults answered.told = omega (arith, faults_after answered.told more.told, more.calm) in
-    (told_text (1 + length answered.told) more.told, more.last, record {
-      told = told;
-      says = said_after first last more.last 1 lines later answered.told more.told answered.says more.says;
-      text_is = ap (λ t. t ++ told_text (1 + length answered.told) more.told) answered.text_is
-          ∙ append_assoc (kept_line (length first.list)) (told_text 1 answered.told) (told_text (1 + length answered.told) more.told)
-          ∙ ap (λ t. kept_line (length first.list) ++ t) (sym (text_after 1 answered.told more.told));
-      rises = subst (λ (n : ℕ). RisesBy n host) (sym times) answered.rises;
-    })
+    let times : count_host_faults told ≡ count_host_faults answered.told = omega (arith, faults_after answered.told more.told, more.calm) in (
+      told_text (1 + length answered.told) more.told,
+      more.last,
+      record {
+        told = told;
+        says = said_after first last more.last 1 lines later answered.told more.told answered.says more.says;
+        text_is = ap (λ t. t ++ told_text (1 + length answered.told) more.told) answered.text_is
+            ∙ append_assoc (kept_line (length first.list)) (told_text 1 answered.told) (told_text (1 + length answered.told) more.told)
+            ∙ ap (λ t. kept_line (length first.list) ++ t) (sym (text_after 1 answered.told more.told));
+        rises = subst (λ (n : ℕ). RisesBy n host) (sym times) answered.rises;
+      },
+    )

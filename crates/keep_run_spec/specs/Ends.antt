@@ -23,6 +23,9 @@ pub record Around : Type 0 where
   pub host : Count
   pub disk : Count
 
+abbrev pub between : ℕ → ℕ → Count
+between before now = record { before = before; now = now }
+
 abbrev pub HasRisen : Count → Type 0
 HasRisen count = Rose count.before count.now
 

@@ -1,5 +1,5 @@
 -- Laws of rules that are kept in a file.
-use Rattle.std.specs.Prelude.{◌≡◌, ◌⊎◌, ℕ, List, ◌++◌, true, Some}
+use Rattle.std.specs.Prelude.{◌≡◌, ◌⊎◌, ℕ, List, ◌++◌, true, Some, IfSome}
 use Rattle.dnr_base.specs.Faults.{Count}
 use Rattle.dnr_spec.specs.declared.status.Status.{Status}
 use Rattle.dnr_spec.specs.declared.status.Status.TheVariants as status
@@ -21,11 +21,15 @@ AnswersGoOn =
 abbrev pub SomethingFailed : Around → Type 0
 SomethingFailed around = HasRisen around.shelf ⊎ HasRisen around.sink ⊎ HasRisen around.host ⊎ HasRisen around.disk
 
--- Where the file is sound and the script is there and within the limits, all of it is answered, unless something fails or
--- memory runs out.
+-- the script, where it is there, is within the limits
+abbrev pub HasShortScript : Files → List ℕ → Type 0
+HasShortScript files name = IfSome (files name) (λ script. is_within_limits script ≡ true)
+
+-- Where the file is sound and the script within the limits, all of it is answered, unless something fails or memory runs
+-- out.
 abbrev pub KeepingsComplete : Type 1
 KeepingsComplete =
-    (files : Files) (keeping : Keeping) (around : Around) (images : Images) (ended : Status) (written script : List ℕ)
-    → images.before images.seen → Sound keeping.extension images.before → files keeping.script ≡ Some script → is_within_limits script ≡ true
+    (files : Files) (keeping : Keeping) (around : Around) (images : Images) (ended : Status) (written : List ℕ)
+    → images.before images.seen → Sound keeping.extension images.before → HasShortScript files keeping.script
     → EndsKeeping (Some files) keeping around images ended written
     → (ended ≡ status.Done) ⊎ (ended ≡ status.NoMemory) ⊎ SomethingFailed around

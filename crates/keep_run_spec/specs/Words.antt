@@ -9,10 +9,14 @@ pub record Keeping : Type 0 where
   pub extension : List ℕ
   pub script : List ℕ
 
+abbrev pub keeping_by : List ℕ → List ℕ → List ℕ → Option Keeping
+keeping_by file extension script =
+    if is_file_name file && is_extension_name extension && is_file_name script then
+    Some (record { file = file; extension = extension; script = script })
+    else None
+
 -- `keep FILE NAME SCRIPT`
 abbrev pub keeping_of : List (List ℕ) → Option Keeping
 keeping_of (command ∷ file ∷ extension ∷ script ∷ []) =
-    if bytes_eq command (codes "keep") && is_file_name file && is_extension_name extension && is_file_name script then
-      Some (record { file = file; extension = extension; script = script })
-    else None
+    if bytes_eq command (codes "keep") then keeping_by file extension script else None
 keeping_of _ = None
