@@ -1,0 +1,5 @@
+mod Faults
+mod Told
+mod Kept
+mod Answered
+mod Ended

@@ -1,14 +1,12 @@
 -- One line of a script, and all that are read.
-use Rattle.std.specs.Prelude.{◌≡◌, ℕ, List, ◌∷◌, [], ◌++◌, Bool, true, false, Option, Result, Ok, Err, IfSome}
+use Rattle.std.specs.Prelude.{◌≡◌, ℕ, List, ◌∷◌, [], Option, Result, Ok, Err, IfSome}
 use Rattle.std.specs.Io.KnownBytes.{Appends}
 use Rattle.dnr_base.specs.Faults.{Count}
 use Rattle.dnr_io.specs.Sink.{AppendsPart}
-use Rattle.dnr_spec.specs.Lines.{lines_of, is_within_limits}
 use Rattle.session_spec.specs.Answers.{RisesBy}
-use Rattle.session_spec.specs.Rounds.{short_lines}
 use Rattle.keep_spec.specs.Kept.{Kept}
 use Rattle.keep_run_spec.specs.Answers.{Asked, told_to, kept_after, Told, LineSays, LinesSay, told_line, told_text, count_host_faults}
-use Rattle.keep_run_spec.specs.Ends.{LosesNothing}
+use Rattle.keep_run_spec.specs.Ends.{Begins, BeginsShort, IsWhole, LosesNothing}
 use Rattle.keep_run.specs.declared.stop.KeepStop.{KeepStop}
 use Rattle.keep_run.specs.declared.stop.KeepStop.TheVariants as stop
 
@@ -42,15 +40,9 @@ StopsAtLine host keep number line images before now stop.NoMemory = (now ≡ bef
 
 -- ---- lines
 
--- the lines of a script that may be told: some first ones, all, or those before what is too long
-abbrev pub AreFirstOf : Option (List ℕ) → List (List ℕ) → Type 0
-AreFirstOf known lines = IfSome known (λ script. (later : List (List ℕ)) × (short_lines script ≡ lines ++ later))
-
-abbrev pub AreAllOf : Option (List ℕ) → List (List ℕ) → Type 0
-AreAllOf known lines = IfSome known (λ script. (is_within_limits script ≡ true) × (lines ≡ lines_of script))
-
-abbrev pub AreShortOf : Option (List ℕ) → List (List ℕ) → Type 0
-AreShortOf known lines = IfSome known (λ script. (is_within_limits script ≡ false) × (lines ≡ short_lines script))
+-- such lines of the script, where it is told
+abbrev pub AreLines : (List ℕ → List (List ℕ) → Type 0) → Option (List ℕ) → List (List ℕ) → Type 0
+AreLines Such known lines = IfSome known (λ script. Such script lines)
 
 -- such lines were answered from what was kept at first on, and of the answers this was taken
 pub record Wrote (Lines : List (List ℕ) → Type 0) (Taken : List ℕ → Type 0) (host : Count) (first last : Kept) : Type 0 where
@@ -67,9 +59,9 @@ WroteSafely Lines Taken host first images = (last : Kept) × Wrote Lines Taken h
 
 -- how the answering of a script ends
 abbrev pub EndsLines : Option (List ℕ) → Option (List ℕ) → Option (List ℕ) → Count → Kept → (List ℕ → Type 0) → Result (Unit {0}) KeepStop → Type 0
-EndsLines known before now host first images (Ok done) = WroteSafely (AreAllOf known) (Appends before now) host first images
-EndsLines known before now host first images (Err stop.ReadFault) = WroteSafely (AreFirstOf known) (Appends before now) host first images
-EndsLines known before now host first images (Err stop.WriteFault) = WroteSafely (AreFirstOf known) (AppendsPart before now) host first images
-EndsLines known before now host first images (Err stop.DiskFault) = WroteSafely (AreFirstOf known) (Appends before now) host first images
-EndsLines known before now host first images (Err stop.TooLong) = WroteSafely (AreShortOf known) (Appends before now) host first images
-EndsLines known before now host first images (Err stop.NoMemory) = WroteSafely (AreFirstOf known) (Appends before now) host first images
+EndsLines known before now host first images (Ok done) = WroteSafely (AreLines IsWhole known) (Appends before now) host first images
+EndsLines known before now host first images (Err stop.ReadFault) = WroteSafely (AreLines Begins known) (Appends before now) host first images
+EndsLines known before now host first images (Err stop.WriteFault) = WroteSafely (AreLines Begins known) (AppendsPart before now) host first images
+EndsLines known before now host first images (Err stop.DiskFault) = WroteSafely (AreLines Begins known) (Appends before now) host first images
+EndsLines known before now host first images (Err stop.TooLong) = WroteSafely (AreLines BeginsShort known) (Appends before now) host first images
+EndsLines known before now host first images (Err stop.NoMemory) = WroteSafely (AreLines Begins known) (Appends before now) host first images

@@ -5,6 +5,7 @@ ghost use Rattle.keep_spec.specs.Agrees.{Agrees, Sound};
 ghost use Rattle.keep_spec.specs.Kept.{dynamic_of, state_of};
 ghost use Rattle.line_spec.specs.Line as spec;
 ghost use Rattle.ruleset_store.specs.Seen.{update_seen};
+ghost use Rattle.script_read.specs.Seen.{command_seen};
 ghost use Rattle.update_spec.specs.Judge.{judge_update};
 ghost use Rattle.keep_run_spec.specs.Answers.{asked_of, keep_this};
 ghost use Rattle.keep_run_spec.specs.Output as output;
@@ -56,11 +57,43 @@ pub(crate) fn answer<H: RegexHost, D: Disk>(
     ensures cause { HasCauseOf LineStop.DiskFault (D.faults disk.old) (D.faults disk.new) result }
 {
     match read_line_with(alloc, number, line, memo, host) {
-        Ok(Command::Blank) => Ok(String::new(alloc)),
-        Ok(Command::Update(update)) => keep_update(alloc, keep, name, number, line, &update, disk),
-        Ok(_) => refuse_command(alloc, number),
+        Ok(command) => serve(alloc, keep, name, number, line, &command, disk),
         Err(LineFault::NoMemory) => Err(LineStop::NoMemory),
         Err(fault) => say(alloc, number, Reply::Bad(fault)),
+    }
+}
+
+// Serves the command that a line reads as.
+fn serve<D: Disk>(
+    alloc: Global,
+    keep: &mut Keep,
+    name: &str,
+    number: u32,
+    line: &[u8],
+    command: &Command,
+    disk: &mut D,
+) -> Result<String, LineStop>
+    requires live { IsTrue keep.old.live }
+    requires name { keep.old.name ≡ name.now }
+    requires agrees { IsTrue (D.tells disk.old) → Agrees (D.images disk.old) keep.old }
+    requires read { spec.command_of number line.now ≡ Ok (command_seen command.now) }
+    ensures told { IfOk result (λ text.
+        AskedTold keep.old number (asked_of keep.old number line.now) (string_bytes text) keep.new) }
+    ensures agrees { OnOk result (IsTrue (D.tells disk.old) → Agrees (D.images disk.new) keep.new) }
+    ensures safe { OnErr result (IsTrue (D.tells disk.old) → LosesNothing (D.images disk.new) keep.old) }
+    ensures live { OnOk result (IsTrue keep.new.live) }
+    ensures name { keep.new.name ≡ keep.old.name }
+    ensures sound { IsTrue (D.tells disk.old) → Sound keep.old.name (D.images disk.old) →
+        Sound keep.old.name (D.images disk.new) }
+    ensures tells { D.tells disk.new ≡ D.tells disk.old }
+    ensures cause { HasCauseOf LineStop.DiskFault (D.faults disk.old) (D.faults disk.new) result }
+{
+    match command {
+        Command::Blank => Ok(String::new(alloc)),
+        Command::Update(update) => keep_update(alloc, keep, name, number, line, update, disk),
+        Command::Sync | Command::Request(_) | Command::Explain(_) | Command::Batch(_) => {
+            refuse_command(alloc, number)
+        }
     }
 }
 

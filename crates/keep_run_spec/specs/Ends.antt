@@ -1,12 +1,12 @@
 -- What may be written where dynamic rules are kept in a file, by the status that the command ends with, and what a crash
 -- may leave of the file then.
-use Rattle.std.specs.Prelude.{◌≡◌, ◌⊎◌, ℕ, ◌<◌, List, [], ◌++◌, length, true, false, Option, Some, IfSome}
+use Rattle.std.specs.Prelude.{◌≡◌, ◌⊎◌, ℕ, ◌<◌, List, [], ◌++◌, length, map, true, false, Option, Some, IfSome}
+use Rattle.std.specs.List.{list_all}
 use Rattle.dnr_base.specs.Faults.{Count, Rose}
 use Rattle.dnr_spec.specs.declared.status.Status.{Status}
 use Rattle.dnr_spec.specs.declared.status.Status.TheVariants as status
-use Rattle.dnr_spec.specs.Lines.{lines_of, is_within_limits}
+use Rattle.dnr_spec.specs.Lines.{RawLine, raw_lines_of, line_of, lines_of, is_short, is_within_limits}
 use Rattle.load_spec.specs.Files.{Files}
-use Rattle.session_spec.specs.Rounds.{short_lines}
 use Rattle.update_spec.specs.Update.{Update}
 use Rattle.keep_records.specs.Records.{payloads}
 use Rattle.keep_records.specs.Ends.{max_file}
@@ -53,21 +53,38 @@ LeavesAsBefore name images = (image : List ℕ) → images.now image → HadList
 
 -- ---- the lines of the script that are answered, where it is known what files hold
 
--- some first lines of a script that is there, or none
-abbrev pub AreFirst : Option Files → List ℕ → List (List ℕ) → Type 0
-AreFirst known name lines =
-    IfSome known (λ files.
-    (lines ≡ []) ⊎ ((script : List ℕ) × (files name ≡ Some script) × (later : List (List ℕ)) × (short_lines script ≡ lines ++ later)))
+-- these are the first lines of the script, none of them too long, and behind them stands this
+pub record AreAhead (script : List ℕ) (lines : List (List ℕ)) (later : List RawLine) : Type 0 where
+  pub raws : List RawLine
+  pub split : raw_lines_of script ≡ raws ++ later
+  pub short : list_all is_short raws ≡ true
+  pub texts : lines ≡ map line_of raws
 
--- all lines of a script within the limits
-abbrev pub AreAll : Option Files → List ℕ → List (List ℕ) → Type 0
-AreAll known name lines =
-    IfSome known (λ files. (script : List ℕ) × (files name ≡ Some script) × (is_within_limits script ≡ true) × (lines ≡ lines_of script))
+-- some first lines
+abbrev pub Begins : List ℕ → List (List ℕ) → Type 0
+Begins script lines = (later : List RawLine) × AreAhead script lines later
 
 -- those before what is too long
+abbrev pub BeginsShort : List ℕ → List (List ℕ) → Type 0
+BeginsShort script lines = (is_within_limits script ≡ false) × Begins script lines
+
+-- all lines, which are within the limits
+abbrev pub IsWhole : List ℕ → List (List ℕ) → Type 0
+IsWhole script lines = (is_within_limits script ≡ true) × (lines ≡ lines_of script)
+
+-- the file is there, and these are such lines of it
+abbrev pub AreOf : (List ℕ → List (List ℕ) → Type 0) → Files → List ℕ → List (List ℕ) → Type 0
+AreOf Such files name lines = (script : List ℕ) × (files name ≡ Some script) × Such script lines
+
+abbrev pub AreAll : Option Files → List ℕ → List (List ℕ) → Type 0
+AreAll known name lines = IfSome known (λ files. AreOf IsWhole files name lines)
+
 abbrev pub AreShort : Option Files → List ℕ → List (List ℕ) → Type 0
-AreShort known name lines =
-    IfSome known (λ files. (script : List ℕ) × (files name ≡ Some script) × (is_within_limits script ≡ false) × (lines ≡ short_lines script))
+AreShort known name lines = IfSome known (λ files. AreOf BeginsShort files name lines)
+
+-- some first lines, or none of a file that may not be there
+abbrev pub AreFirst : Option Files → List ℕ → List (List ℕ) → Type 0
+AreFirst known name lines = IfSome known (λ files. (lines ≡ []) ⊎ AreOf Begins files name lines)
 
 -- Such lines were answered from what the file kept on, and a crash now leaves all that is kept after them.
 pub record Answers (Lines : List (List ℕ) → Type 0) (keeping : Keeping) (host : Count) (images : Images) (text : List ℕ) : Type 0 where
