@@ -88,7 +88,6 @@ state_normal name list are = replay_normal list (start name) are
 pub alike_states : (name : List ℕ) (list other : List Update) → AreDynamic list → AreDynamic other → AreAlike other list → normal_state (state_of name other) ≡ normal_state (state_of name list)
 alike_states name list other are also alike = sym (state_normal name other also) ∙ ap (state_of name) alike ∙ state_normal name list are
 
-
 again : NormalRulesStay → (rules : List Rule) → map normal (map normal rules) ≡ map normal rules
 again stay [] = refl
 again stay (rule ∷ rules) = λ i. stay rule i ∷ again stay rules i

@@ -3,7 +3,7 @@
 #![tactic(auto)]
 
 ghost use Rattle.keep_laws.specs.Laws.{WrittenUpdatesAreRead, AlikeUpdatesAreJudgedAlike};
-ghost use Rattle.keep_laws.specs.Laws.{NormalUpdatesStay, EmptyDisksAreSound};
+ghost use Rattle.keep_laws.specs.Laws.{NormalUpdatesStay, ReadUpdatesMayBeKept, EmptyDisksAreSound};
 
 use written_laws::{normal_rules_are_the_same, written_rules_are_read};
 
@@ -22,6 +22,12 @@ pub fn alike_updates_are_judged_alike()
 {
     normal_rules_are_the_same();
 }
+
+/// A dynamic update that a line reads as may be kept.
+#[tactic(auto, using(crate::proofs::Reads::read_updates_may_be_kept))]
+pub fn read_updates_may_be_kept()
+    ensures { ReadUpdatesMayBeKept }
+{}
 
 /// A disk that a crash now can only leave empty is sound for every extension.
 #[tactic(auto, using(crate::proofs::Accepted::empty_disks_are_sound))]

@@ -7,7 +7,7 @@ ghost use Rattle.keep_disk.specs.Moments.{LeavesOnly};
 ghost use Rattle.update_spec.specs.Entries as entries;
 ghost use Rattle.update_spec.specs.Judge.{judge_update};
 ghost use Rattle.ruleset_store.specs.Seen.{update_seen, updates_seen};
-ghost use Rattle.keep_records.specs.Records.{payloads};
+ghost use Rattle.keep_records.specs.Records.{payloads, end_of};
 ghost use Rattle.keep_records.specs.Ends.{max_file, AllHave, HadPayloads};
 ghost use Rattle.keep_spec.specs.Kept as spec;
 ghost use Rattle.keep_spec.specs.Agrees.{Agrees, AreRead, HadList, HasBeforeOrAfter};
@@ -99,6 +99,10 @@ impl Keep {
         ensures name { IfOk result (λ opened. opened.0.name ≡ name.now) }
         ensures list { IfOk result (λ opened. IsTrue (D.tells disk.old) →
             opened.0.list ≡ spec.kept name.now (D.seen disk.old)) }
+        ensures read { IfOk result (λ opened. IsTrue (D.tells disk.old) →
+            AreRead name.now (payloads (D.seen disk.old)) opened.0.list) }
+        ensures place { IfOk result (λ opened. IsTrue (D.tells disk.old) →
+            opened.0.place ≡ end_of (D.seen disk.old)) }
         ensures updates { IfOk result (λ opened. updates_seen opened.1.items ≡ opened.0.list) }
         ensures agrees { IfOk result (λ opened. IsTrue (D.tells disk.old) →
             Agrees (D.images disk.new) opened.0) }
@@ -154,6 +158,8 @@ impl Keep {
         ensures name { IfOk result (λ opened. opened.0.name ≡ name.now) }
         ensures read { IfOk result (λ opened. IsTrue (D.tells disk.old) →
             AreRead name.now (payloads (D.seen disk.old)) opened.0.list) }
+        ensures place { IfOk result (λ opened. IsTrue (D.tells disk.old) →
+            opened.0.place ≡ end_of (D.seen disk.old)) }
         ensures updates { IfOk result (λ opened. updates_seen opened.1.items ≡ opened.0.list) }
         ensures has { IfOk result (λ opened. IsTrue (D.tells disk.old) →
             AllHave (D.images disk.new) (payloads (D.seen disk.old)) opened.0.place) }
@@ -217,6 +223,8 @@ impl Keep {
         ensures name { self.new.name ≡ self.old.name }
         ensures added { OnOk result
             (self.new.list ≡ self.old.list ++ update_seen update.now ∷ []) }
+        ensures place { OnOk result (self.new.place
+            ≡ self.old.place + 5 + length (text_of (update_seen update.now))) }
         ensures agrees { OnOk result (IsTrue (D.tells disk.old) →
             Agrees (D.images disk.new) self.new) }
 
