@@ -136,18 +136,31 @@ module _ (known : Option Files) (keeping : Keeping) (a b : Around) (images : Ima
   ends_opened (Ok done) shelf sink disk ends = (ends.text, (ends.taken, so (AreAll known keeping.script) (Appends before now) ends))
   ends_opened (Err stop.ReadFault) shelf sink disk ends = (ends.text, (ends.taken, (shelf refl, so (AreFirst known keeping.script) (Appends before now) ends)))
   ends_opened (Err stop.WriteFault) shelf sink disk ends =
-      let answers = so (AreFirst known keeping.script) (AppendsPart before now) ends in
-      (ends.taken.sent, (ends.taken.taken, (sink refl, inl (record {
-        rest = ends.taken.rest;
-        whole = subst (λ (text : List ℕ). Answers (AreFirst known keeping.script) keeping a.host images text) ends.taken.split answers;
-      }))))
+      let answers = so (AreFirst known keeping.script) (AppendsPart before now) ends in (
+        ends.taken.sent,
+        (
+          ends.taken.taken,
+          (
+            sink refl,
+            inl (record {
+              rest = ends.taken.rest;
+              whole = subst (λ (text : List ℕ). Answers (AreFirst known keeping.script) keeping a.host images text) ends.taken.split answers;
+            }),
+          ),
+        ),
+      )
   ends_opened (Err stop.DiskFault) shelf sink disk ends = (ends.text, (ends.taken, (disk refl, inr (so (AreFirst known keeping.script) (Appends before now) ends))))
   ends_opened (Err stop.TooLong) shelf sink disk ends = (ends.text, (ends.taken, so (AreShort known keeping.script) (Appends before now) ends))
-  ends_opened (Err stop.NoMemory) shelf sink disk (inl none) =
-      ([], (subst (λ (t : Option (List ℕ)). Appends before t []) (sym none.0) (appends_nothing before), inl (record {
+  ends_opened (Err stop.NoMemory) shelf sink disk (inl none) = (
+    [],
+    (
+      subst (λ (t : Option (List ℕ)). Appends before t []) (sym none.0) (appends_nothing before),
+      inl (record {
         silent = refl;
         same = λ image left. had image (none.1 image left);
-      })))
+      }),
+    ),
+  )
   ends_opened (Err stop.NoMemory) shelf sink disk (inr ends) = (ends.text, (ends.taken, inr (so (AreFirst known keeping.script) (Appends before now) ends)))
 
 -- ---- where it is refused
@@ -169,10 +182,18 @@ pub ends_refused : (known : Option Files) (keeping : Keeping) (a : Around) (imag
 ends_refused known keeping a images before now (Ok line) ended left refuses (inl whole) =
     subst (λ (s : Status). EndsSo known keeping a images before now s) (sym whole.0) (string_bytes line, (whole.1, record { refuses = refuses line refl; same = left }))
 ends_refused known keeping a images before now (Ok line) ended left refuses (inr cut) =
-    subst (λ (s : Status). EndsSo known keeping a images before now s) (sym cut.0)
-    (cut.1.1.sent, (cut.1.1.taken, (cut.1.0, inr (record {
-      rest = cut.1.1.rest;
-      whole = subst (λ (text : List ℕ). IsRefused keeping a.host images text) cut.1.1.split (record { refuses = refuses line refl; same = left });
-    }))))
+    subst (λ (s : Status). EndsSo known keeping a images before now s) (sym cut.0) (
+      cut.1.1.sent,
+      (
+        cut.1.1.taken,
+        (
+          cut.1.0,
+          inr (record {
+            rest = cut.1.1.rest;
+            whole = subst (λ (text : List ℕ). IsRefused keeping a.host images text) cut.1.1.split (record { refuses = refuses line refl; same = left });
+          }),
+        ),
+      ),
+    )
 ends_refused known keeping a images before now (Err e) ended left refuses none =
     subst (λ (s : Status). EndsSo known keeping a images before now s) (sym none.0) (ends_silently known keeping a images before now none.1 left)

@@ -63,4 +63,3 @@ cause_named judged (update.RegexLimit x) named why = why
 cause_named judged (update.DisabledLimit x) named why = why
 cause_named judged (update.TooManyUpdates x) named why = why
 cause_named judged update.NoMemory named why = absurd (named refl)
-

@@ -57,9 +57,9 @@ pub(crate) fn answer<H: RegexHost, D: Disk>(
     ensures cause { HasCauseOf LineStop.DiskFault (D.faults disk.old) (D.faults disk.new) result }
 {
     match read_line_with(alloc, number, line, memo, host) {
-        Ok(command) => serve(alloc, keep, name, number, line, &command, disk),
+        Ok(command) => Ok(serve(alloc, keep, name, number, line, &command, disk)?),
         Err(LineFault::NoMemory) => Err(LineStop::NoMemory),
-        Err(fault) => say(alloc, number, Reply::Bad(fault)),
+        Err(fault) => Ok(say(alloc, number, Reply::Bad(fault))?),
     }
 }
 
@@ -90,9 +90,9 @@ fn serve<D: Disk>(
 {
     match command {
         Command::Blank => Ok(String::new(alloc)),
-        Command::Update(update) => keep_update(alloc, keep, name, number, line, update, disk),
+        Command::Update(update) => Ok(keep_update(alloc, keep, name, number, line, update, disk)?),
         Command::Sync | Command::Request(_) | Command::Explain(_) | Command::Batch(_) => {
-            refuse_command(alloc, number)
+            Ok(refuse_command(alloc, number)?)
         }
     }
 }
@@ -124,12 +124,12 @@ fn keep_update<D: Disk>(
 {
     read_updates_may_be_kept();
     if !is_dynamic_of(update, name) {
-        return refuse_command(alloc, number);
+        return Ok(refuse_command(alloc, number)?);
     }
     match keep.store().judge(alloc, update) {
-        Ok(()) => put(alloc, keep, number, update, disk),
+        Ok(()) => Ok(put(alloc, keep, number, update, disk)?),
         Err(Refusal::NoMemory) => Err(LineStop::NoMemory),
-        Err(refusal) => say(alloc, number, Reply::Refused(refusal)),
+        Err(refusal) => Ok(say(alloc, number, Reply::Refused(refusal))?),
     }
 }
 
@@ -157,8 +157,8 @@ fn put<D: Disk>(
     ensures cause { HasCauseOf LineStop.DiskFault (D.faults disk.old) (D.faults disk.new) result }
 {
     match keep.put(disk, update) {
-        Ok(()) => say(alloc, number, Reply::Accepted(keep.store().count())),
-        Err(PutRefusal::KeepFull) => say_full(alloc, number),
+        Ok(()) => Ok(say(alloc, number, Reply::Accepted(keep.store().count()))?),
+        Err(PutRefusal::KeepFull) => Ok(say_full(alloc, number)?),
         Err(PutRefusal::DiskFault) => Err(LineStop::DiskFault),
         Err(PutRefusal::NoMemory) => Err(LineStop::NoMemory),
     }
