@@ -23,7 +23,7 @@ unfolding url_on_literals serde_json_on_literals is_utf8 field_in absent_in old_
 records_keep_updates = (refl, refl, refl)
 
 pub other_payloads_are_none : OtherPayloadsAreNone
-unfolding serde_json_on_literals is_utf8 address_in request_in command_in command_of number_of payloads update_at
+unfolding url_on_literals serde_json_on_literals is_utf8 address_in request_in command_in command_of number_of payloads update_at
 other_payloads_are_none = (refl, refl)
 
 pub updates_are_accepted_once : UpdatesAreAcceptedOnce

@@ -13,7 +13,8 @@ use Rattle.keep_spec.specs.Kept.{dynamic_in, update_at}
 use Rattle.ruleset_store.specs.Seen.{IsRefusalOf}
 use Rattle.rule_keep.specs.declared.refusals.Stop.{Stop}
 use Rattle.rule_keep.specs.declared.refusals.Stop.TheVariants.{Refused, HostFault, NoMemory}
-use Rattle.rule_keep.specs.Refusals.{stop_by_cause, stop_by_fault, stop_by_refusal}
+use Rattle.rule_keep.specs.declared.refusals.OpenRefusal.TheVariants as opening
+use Rattle.rule_keep.specs.Refusals.{refusal_by, stop_by_cause, stop_by_fault, stop_by_refusal}
 
 module _ (expected : Result Command LineFault) (rose : Type 0) (before now : ℕ) where
   -- the reading is at fault, or the count of the host rose, or there is no memory
@@ -122,6 +123,28 @@ module _ (name payload : List ℕ) (rose : Type 0) (before now : ℕ) (fault : L
       by Refused m no = m.1
       by HostFault m no = absurd (no refl)
       by NoMemory m no = m
+
+-- what it is to who opens the file
+
+pub bad_at : (stop : Stop) (place offset : ℕ) → refusal_by stop place ≡ opening.BadRecord offset → (stop ≡ Refused) × (place ≡ offset)
+bad_at Refused place offset is = (refl, cc is)
+bad_at HostFault place offset is = absurd (cc is)
+bad_at NoMemory place offset is = absurd (cc is)
+
+pub host_at : (stop : Stop) (place : ℕ) → refusal_by stop place ≡ opening.HostFault → stop ≡ HostFault
+host_at Refused place is = absurd (cc is)
+host_at HostFault place is = refl
+host_at NoMemory place is = absurd (cc is)
+
+pub never_disk : (stop : Stop) (place : ℕ) → refusal_by stop place ≡ opening.DiskFault → ⊥
+never_disk Refused place is = cc is
+never_disk HostFault place is = cc is
+never_disk NoMemory place is = cc is
+
+pub never_long : (stop : Stop) (place : ℕ) → refusal_by stop place ≡ opening.KeepTooLong → ⊥
+never_long Refused place is = cc is
+never_long HostFault place is = cc is
+never_long NoMemory place is = cc is
 
 pub read_command : (name payload : List ℕ) (command : Command) → command_of 1 payload ≡ Ok command → update_at name payload ≡ dynamic_in name (Ok command)
 unfolding update_at
