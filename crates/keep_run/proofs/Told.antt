@@ -15,6 +15,7 @@ use Rattle.line_spec.specs.declared.line_fault.LineFault.TheVariants.{BadCommand
 use Rattle.line_spec.specs.IsFault.{IsFaultOfLine}
 use Rattle.line_spec.specs.Line.{Command, blank, update, command_of}
 use Rattle.line_spec.specs.Stops.{StopsInLine}
+use Rattle.session_spec.specs.Answers.{RisesBy}
 use Rattle.session_spec.specs.Output.{accepted_line, refused_line, bad_line}
 use Rattle.session_spec.specs.Said.{bad, stopped}
 use Rattle.keep_records.specs.Ends.{max_file}
@@ -25,7 +26,7 @@ use Rattle.keep_spec.specs.Written.{MayBeKept, text_of}
 use Rattle.keep_run_spec.specs.Answers.{Asked, keep_this, at_fault, unless_other, asked_by, says, told_by, told_by_room, told_to, kept_after, left_by, left_by_room, has_room, with_update, asked_of, told_line}
 use Rattle.keep_run_spec.specs.Ends.{between}
 use Rattle.keep_run_spec.specs.Output.{full_line}
-use Rattle.keep_run_spec.proofs.GoesOn.{calm_told}
+use Rattle.keep_run_spec.proofs.GoesOn.{calm_count}
 use Rattle.keep_run.specs.Lines.{AskedTold, LineTold}
 use Rattle.keep_run.proofs.Faults.{line_faulty}
 
@@ -64,7 +65,7 @@ module _ (keep : Kept) (number : ℕ) (line text : List ℕ) where
     told = told_to keep (asked_of keep number line);
     says = inl (record { same = refl; left = told.left });
     text_is = told.text_is;
-    rises = rw (calm_told keep (asked_of keep number line)) (omega (arith, later));
+    rises = subst (λ (n : ℕ). RisesBy n (between was is)) (sym (calm_count keep (asked_of keep number line))) (omega (arith, later));
   }
 
   by_fault : (fault : LineFault) (was is : ℕ) → was ≤ is → (Rose was is × StopsInLine line fault) ⊎ (command_of number line ≡ Err fault) → text ≡ bad_line number fault

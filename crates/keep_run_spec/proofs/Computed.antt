@@ -12,7 +12,7 @@ pub keep_takes_three_words : KeepTakesThreeWords
 keep_takes_three_words = (refl, refl, refl, refl, refl, refl)
 
 pub kept_files_are_told : KeptFilesAreTold
-unfolding serde_json_on_literals
+unfolding url_on_literals serde_json_on_literals
 kept_files_are_told = (refl, refl, refl, refl, refl)
 
 pub others_are_bad_lines : OthersAreBadLines

@@ -33,12 +33,12 @@ said_after keep middle last number (line ∷ lines) later told more first rest =
     }
 
 pub one_said : (keep next : Kept) (number : ℕ) (line : List ℕ) (told : Told) → LineSays keep number line told next → LinesSay keep number (line ∷ []) (told ∷ []) next
-one_said keep next number line told says = record { head = told; next = next; others = []; all = refl; first = says; rest = (refl, refl) }
+one_said keep next number line told is = record { head = told; next = next; others = []; all = refl; first = is; rest = (refl, refl) }
 
 pub as_many : (keep last : Kept) (number : ℕ) (lines : List (List ℕ)) (told : List Told) → LinesSay keep number lines told last → length told ≡ length lines
-as_many keep last number [] told says = ap length says.0
-as_many keep last number (line ∷ lines) told says =
-    ap length says.all ∙ ap suc (as_many says.next last (number + 1) lines says.others says.rest)
+as_many keep last number [] told are = ap length are.0
+as_many keep last number (line ∷ lines) told are =
+    ap length are.all ∙ ap suc (as_many are.next last (number + 1) lines are.others are.rest)
 
 pub text_after : (number : ℕ) (told more : List Told) → told_text number (told ++ more) ≡ told_text number told ++ told_text (number + length told) more
 text_after number [] more = let place : number ≡ number + 0 = omega arith in ap (λ n. told_text n more) place
@@ -73,6 +73,9 @@ pub record Said (keep : Kept) (number : ℕ) (lines : List (List ℕ)) : Type 0 
   pub says : LinesSay keep number lines told last
   pub calm : count_host_faults told ≡ 0
 
+pub calm_count : (keep : Kept) (asked : Asked) → count_host_faults (told_to keep asked ∷ []) ≡ 0
+calm_count keep asked = ap (λ b. 0 + cond b 1 0) (calm_told keep asked)
+
 said_calmly : (keep : Kept) (number : ℕ) (lines : List (List ℕ)) → Said keep number lines
 said_calmly keep number [] = record { told = []; last = keep; says = (refl, refl); calm = refl }
 said_calmly keep number (line ∷ lines) =
@@ -89,7 +92,7 @@ said_calmly keep number (line ∷ lines) =
         first = inl (record { same = refl; left = refl });
         rest = rest.says;
       };
-      calm = ap (λ b. cond b 1 0 + count_host_faults rest.told) (calm_told keep asked) ∙ rest.calm;
+      calm = omega (arith, faults_after (told_to keep asked ∷ []) rest.told, calm_count keep asked, rest.calm);
     }
 
 pub answers_go_on : AnswersGoOn

@@ -3,13 +3,11 @@
 ghost use Rattle.keep_run_spec.specs.Laws.{AnswersGoOn, KeepingsComplete};
 
 /// What first lines say is a beginning of what they say with others behind them.
-#[tactic(auto, using(crate::proofs::GoesOn::answers_go_on))]
 pub fn answers_go_on()
     ensures { AnswersGoOn }
 {}
 
 /// A sound file and a script within the limits are answered to the end, unless something fails or memory runs out.
-#[tactic(auto, using(crate::proofs::Completes::keepings_complete))]
 pub fn keepings_complete()
     ensures { KeepingsComplete }
 {}
