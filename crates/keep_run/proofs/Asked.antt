@@ -2,6 +2,6 @@
 use Rattle.std.specs.Prelude.{Option, Some, None, IfSome}
 use Rattle.keep_run_spec.specs.Words.{Keeping}
 
-pub any_may_be_asked : {P : Keeping → Type 0} (words : Option Keeping) → ((keeping : Keeping) → P keeping) → IfSome words P
-any_may_be_asked None all = tt
-any_may_be_asked (Some keeping) all = all keeping
+pub any_may_be_asked : (P : Keeping → Type 0) (words : Option Keeping) → ((keeping : Keeping) → P keeping) → IfSome words P
+any_may_be_asked P None all = tt
+any_may_be_asked P (Some keeping) all = all keeping

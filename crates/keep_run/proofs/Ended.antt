@@ -30,7 +30,7 @@ use Rattle.keep_run.proofs.Answered.{appends_more, appends_nothing, part_behind}
 -- the lines are of the file that was started
 lines_of_file : (Such : List ℕ → List (List ℕ) → Type 0) (files : Files) (name : List ℕ) (left : Option (List ℕ)) (lines : List (List ℕ)) → IsSome left → left ≡ files name
     → AreLines Such left lines → AreOf Such files name lines
-lines_of_file Such files name None lines some is are = absurd some
+lines_of_file Such files name None lines some is are = absurd (cc some)
 lines_of_file Such files name (Some script) lines some is are = (script, sym is, are)
 
 all_of : (known : Option Files) (name : List ℕ) (left : Option (List ℕ)) (lines : List (List ℕ)) → IsStarted known name left → AreLines IsWhole left lines → AreAll known name lines
@@ -55,7 +55,7 @@ script_written : (Lines Of : List (List ℕ) → Type 0) (Taken All : List ℕ �
     → ((lines : List (List ℕ)) → Lines lines → Of lines) → ((text : List ℕ) → Taken text → All (kept_line (length first.list) ++ text))
     → WroteSafely Lines Taken host first images → ScriptWritten Of All host first images
 script_written Lines Of Taken All host first images are joins wrote =
-    let one = wrote.1.0 in
+    let one = wrote.1 in
     record {
       lines = one.lines;
       are = are one.lines one.are;
@@ -63,7 +63,7 @@ script_written Lines Of Taken All host first images are joins wrote =
       text = kept_line (length first.list) ++ told_text 1 one.told;
       answered = record { told = one.told; says = one.says; text_is = refl; rises = one.rises };
       taken = joins (told_text 1 one.told) one.taken;
-      safe = wrote.1.1;
+      safe = wrote.2;
     }
 
 module _ (known : Option Files) (name : List ℕ) (left : Option (List ℕ)) (before middle now : Option (List ℕ)) (host : Count) (first : Kept) (opened images : List ℕ → Type 0)
@@ -104,6 +104,9 @@ none_answered known name Taken was is first images later taken safe = record {
 
 -- ---- the command
 
+unwritten : (before now : Option (List ℕ)) → now ≡ before → Appends before now []
+unwritten before now same = subst (λ (t : Option (List ℕ)). Appends before t []) (sym same) (appends_nothing before)
+
 -- what the file kept is what was opened
 pub opened_is : (keep : Kept) (name seen : List ℕ) → keep.name ≡ name → keep.list ≡ kept name seen → keep.place ≡ end_of seen → keep.live ≡ true → keep ≡ kept_in name seen
 opened_is keep name seen named list place live = λ i. record { name = named i; list = list i; place = place i; live = live i }
@@ -124,76 +127,57 @@ answers_so Lines Taken keeping was at is keep images later same written = record
   safe = written.safe;
 }
 
-module _ (known : Option Files) (keeping : Keeping) (a b : Around) (images : Images) (before now : Option (List ℕ)) (was at is : ℕ) (keep : Kept) (opened : List ℕ → Type 0)
+module _ (known : Option Files) (keeping : Keeping) (a : Around) (images : Images) (before now : Option (List ℕ)) (was at is : ℕ) (keep : Kept) (opened : List ℕ → Type 0)
     (later : was ≤ at) (same : keep ≡ kept_in keeping.extension images.seen) (had : (image : List ℕ) → opened image → HadList keeping.extension images.before image)
     (host : a.host ≡ between was is) where
   so : (Lines : List (List ℕ) → Type 0) (Taken : List ℕ → Type 0) (written : ScriptWritten Lines Taken (between at is) keep images.now) → Answers Lines keeping a.host images written.text
   so Lines Taken written = subst (λ (h : Count). Answers Lines keeping h images written.text) (sym host) (answers_so Lines Taken keeping was at is keep images later same written)
 
+  -- some first bytes of what may be written
+  begins : (Lines : List (List ℕ) → Type 0) (written : ScriptWritten Lines (AppendsPart before now) (between at is) keep images.now)
+      → IsBeginning (Answers Lines keeping a.host images) written.taken.sent
+  begins Lines written = record {
+    rest = written.taken.rest;
+    whole = subst (λ (text : List ℕ). Answers Lines keeping a.host images text) written.taken.split (so Lines (AppendsPart before now) written);
+  }
+
   pub ends_opened : (result : Result (Unit {0}) KeepStop) → (result ≡ Err stop.ReadFault → HasRisen a.shelf) → (result ≡ Err stop.WriteFault → HasRisen a.sink)
       → (result ≡ Err stop.DiskFault → HasRisen a.disk) → EndsOpened known keeping.script before now (between at is) keep opened images.now result
       → EndsSo known keeping a images before now (status_of result)
-  ends_opened (Ok done) shelf sink disk ends = (ends.text, (ends.taken, so (AreAll known keeping.script) (Appends before now) ends))
-  ends_opened (Err stop.ReadFault) shelf sink disk ends = (ends.text, (ends.taken, (shelf refl, so (AreFirst known keeping.script) (Appends before now) ends)))
-  ends_opened (Err stop.WriteFault) shelf sink disk ends =
-      let answers = so (AreFirst known keeping.script) (AppendsPart before now) ends in (
-        ends.taken.sent,
-        (
-          ends.taken.taken,
-          (
-            sink refl,
-            inl (record {
-              rest = ends.taken.rest;
-              whole = subst (λ (text : List ℕ). Answers (AreFirst known keeping.script) keeping a.host images text) ends.taken.split answers;
-            }),
-          ),
-        ),
-      )
-  ends_opened (Err stop.DiskFault) shelf sink disk ends = (ends.text, (ends.taken, (disk refl, inr (so (AreFirst known keeping.script) (Appends before now) ends))))
-  ends_opened (Err stop.TooLong) shelf sink disk ends = (ends.text, (ends.taken, so (AreShort known keeping.script) (Appends before now) ends))
-  ends_opened (Err stop.NoMemory) shelf sink disk (inl none) = (
-    [],
-    (
-      subst (λ (t : Option (List ℕ)). Appends before t []) (sym none.0) (appends_nothing before),
-      inl (record {
-        silent = refl;
-        same = λ image left. had image (none.1 image left);
-      }),
-    ),
-  )
-  ends_opened (Err stop.NoMemory) shelf sink disk (inr ends) = (ends.text, (ends.taken, inr (so (AreFirst known keeping.script) (Appends before now) ends)))
+  ends_opened (Ok done) shelf sink disk ends = (ends.text, ends.taken, so (AreAll known keeping.script) (Appends before now) ends)
+  ends_opened (Err stop.ReadFault) shelf sink disk ends = (ends.text, ends.taken, (shelf refl, so (AreFirst known keeping.script) (Appends before now) ends))
+  ends_opened (Err stop.WriteFault) shelf sink disk ends = (ends.taken.sent, ends.taken.taken, (sink refl, inl (begins (AreFirst known keeping.script) ends)))
+  ends_opened (Err stop.DiskFault) shelf sink disk ends = (ends.text, ends.taken, (disk refl, inr (so (AreFirst known keeping.script) (Appends before now) ends)))
+  ends_opened (Err stop.TooLong) shelf sink disk ends = (ends.text, ends.taken, so (AreShort known keeping.script) (Appends before now) ends)
+  ends_opened (Err stop.NoMemory) shelf sink disk (inl none) =
+      ([], unwritten before now none.0, inl (record { silent = refl; same = λ image left. had image (none.1 image left) }))
+  ends_opened (Err stop.NoMemory) shelf sink disk (inr ends) = (ends.text, ends.taken, inr (so (AreFirst known keeping.script) (Appends before now) ends))
 
 -- ---- where it is refused
 
 -- nothing was written
 pub ends_silently : (known : Option Files) (keeping : Keeping) (a : Around) (images : Images) (before now : Option (List ℕ)) → now ≡ before → LeavesAsBefore keeping.extension images
     → EndsSo known keeping a images before now status.NoMemory
-ends_silently known keeping a images before now same left =
-    ([], (subst (λ (t : Option (List ℕ)). Appends before t []) (sym same) (appends_nothing before), inl (record { silent = refl; same = left })))
+ends_silently known keeping a images before now same left = ([], unwritten before now same, inl (record { silent = refl; same = left }))
 
 pub ends_by_disk : (known : Option Files) (keeping : Keeping) (a : Around) (images : Images) (before now : Option (List ℕ)) → now ≡ before → LeavesAsBefore keeping.extension images
     → HasRisen a.disk → EndsSo known keeping a images before now status.DiskFault
-ends_by_disk known keeping a images before now same left rose =
-    ([], (subst (λ (t : Option (List ℕ)). Appends before t []) (sym same) (appends_nothing before), (rose, inl (record { silent = refl; same = left }))))
+ends_by_disk known keeping a images before now same left rose = ([], unwritten before now same, (rose, inl (record { silent = refl; same = left })))
 
-pub ends_refused : (known : Option Files) (keeping : Keeping) (a : Around) (images : Images) (before now : Option (List ℕ)) (line : Result (String Global) NoMemory) (ended : Status)
-    → LeavesAsBefore keeping.extension images → ((text : String Global) → line ≡ Ok text → Refuses keeping a.host images.seen (string_bytes text))
-    → EndsRefused before now a.sink line ended → EndsSo known keeping a images before now ended
-ends_refused known keeping a images before now (Ok line) ended left refuses (inl whole) =
-    subst (λ (s : Status). EndsSo known keeping a images before now s) (sym whole.0) (string_bytes line, (whole.1, record { refuses = refuses line refl; same = left }))
-ends_refused known keeping a images before now (Ok line) ended left refuses (inr cut) =
-    subst (λ (s : Status). EndsSo known keeping a images before now s) (sym cut.0) (
-      cut.1.1.sent,
-      (
-        cut.1.1.taken,
-        (
-          cut.1.0,
-          inr (record {
-            rest = cut.1.1.rest;
-            whole = subst (λ (text : List ℕ). IsRefused keeping a.host images text) cut.1.1.split (record { refuses = refuses line refl; same = left });
-          }),
-        ),
-      ),
-    )
-ends_refused known keeping a images before now (Err e) ended left refuses none =
-    subst (λ (s : Status). EndsSo known keeping a images before now s) (sym none.0) (ends_silently known keeping a images before now none.1 left)
+module _ (known : Option Files) (keeping : Keeping) (a : Around) (images : Images) (before now : Option (List ℕ)) (left : LeavesAsBefore keeping.extension images) where
+  refused_cut : (line : String Global) → Refuses keeping a.host images.seen (string_bytes line) → (part : AppendsPart before now (string_bytes line))
+      → IsBeginning (IsRefused keeping a.host images) part.sent
+  refused_cut line refuses part = record {
+    rest = part.rest;
+    whole = subst (λ (text : List ℕ). IsRefused keeping a.host images text) part.split (record { refuses = refuses; same = left });
+  }
+
+  pub ends_refused : (line : Result (String Global) NoMemory) (ended : Status) → ((text : String Global) → line ≡ Ok text → Refuses keeping a.host images.seen (string_bytes text))
+      → EndsRefused before now a.sink line ended → EndsSo known keeping a images before now ended
+  ends_refused (Ok line) ended refuses (inl whole) =
+      subst (λ (s : Status). EndsSo known keeping a images before now s) (sym whole.0) (string_bytes line, whole.1, record { refuses = refuses line refl; same = left })
+  ends_refused (Ok line) ended refuses (inr cut) =
+      subst (λ (s : Status). EndsSo known keeping a images before now s) (sym cut.0)
+      (cut.2.sent, cut.2.taken, (cut.1, inr (refused_cut line (refuses line refl) cut.2)))
+  ends_refused (Err e) ended refuses none =
+      subst (λ (s : Status). EndsSo known keeping a images before now s) (sym none.0) (ends_silently known keeping a images before now none.1 left)

@@ -18,16 +18,16 @@ module _ (first : Kept) (before now : Option (List ℕ)) (was is : ℕ) (known r
     (so_far : SoFar first before now was is known rest count keep) (safe : LosesNothing images keep) where
   -- no line is read any more
   pub ends_reading : (why : LineRefusal) → (why ≡ refusal.LineTooLong → IfSome rest (IsBeyond count)) → EndsLines known before now (between was is) first images (Err (stop_of_reading why))
-  ends_reading refusal.ReadFault beyond = (keep, (wrote_first first before now was is known rest count keep so_far, safe))
-  ends_reading refusal.LineTooLong beyond = (keep, (wrote_short first before now was is known rest count keep so_far (beyond refl), safe))
-  ends_reading refusal.NoMemory beyond = (keep, (wrote_first first before now was is known rest count keep so_far, safe))
+  ends_reading refusal.ReadFault beyond = (keep, wrote_first first before now was is known rest count keep so_far, safe)
+  ends_reading refusal.LineTooLong beyond = (keep, wrote_short first before now was is known rest count keep so_far (beyond refl), safe)
+  ends_reading refusal.NoMemory beyond = (keep, wrote_first first before now was is known rest count keep so_far, safe)
 
   -- no memory is left before the first line
   pub ends_early : EndsLines known before now (between was is) first images (Err stop.NoMemory)
-  ends_early = (keep, (wrote_first first before now was is known rest count keep so_far, safe))
+  ends_early = (keep, wrote_first first before now was is known rest count keep so_far, safe)
 
   pub ends_whole : count ≤ max_lines → IsAtEnd rest → EndsLines known before now (between was is) first images (Ok tt)
-  ends_whole few end = (keep, (wrote_all first before now was is known rest count keep so_far few end, safe))
+  ends_whole few end = (keep, wrote_all first before now was is known rest count keep so_far few end, safe)
 
 module _ (first : Kept) (before middle now : Option (List ℕ)) (was at is : ℕ) (known rest left : Option (List ℕ)) (count number : ℕ) (keep : Kept) (line : List ℕ) (images : List ℕ → Type 0)
     (place : number ≡ count + 1) (later : at ≤ is) (so_far : SoFar first before middle was at known rest count keep) (gives : GivesLine rest left line) where
@@ -39,7 +39,7 @@ module _ (first : Kept) (before middle now : Option (List ℕ)) (was at is : ℕ
   -- a line is not answered and written whole
   pub ends_at_line : (why : KeepStop) → StopsAtLine (between at is) keep number line images middle now why → EndsLines known before now (between was is) first images (Err why)
   ends_at_line stop.ReadFault stops = absurd stops
-  ends_at_line stop.WriteFault stops = (stops.0, (wrote_part first before middle now was at is known rest left count number keep stops.0 line place so_far gives stops.1.0, stops.1.1))
-  ends_at_line stop.DiskFault stops = (keep, (so_far_first stops.0, stops.1))
+  ends_at_line stop.WriteFault stops = (stops.0, wrote_part first before middle now was at is known rest left count number keep stops.0 line place so_far gives stops.1, stops.2)
+  ends_at_line stop.DiskFault stops = (keep, so_far_first stops.0, stops.1)
   ends_at_line stop.TooLong stops = absurd stops
-  ends_at_line stop.NoMemory stops = (keep, (so_far_first stops.0, stops.1))
+  ends_at_line stop.NoMemory stops = (keep, so_far_first stops.0, stops.1)

@@ -11,11 +11,11 @@ use Rattle.keep_run_spec.specs.Laws.{SomethingFailed, HasShortScript, KeepingsCo
 use Rattle.keep_run.specs.Ends.{EndsSo}
 
 -- what holds of the words that were read
-pub of_words : {P : Keeping → Type 0} (words : Option Keeping) (keeping : Keeping) → Some keeping ≡ words → P keeping → IfSome words P
-of_words {P} words keeping is holds = subst (λ (o : Option Keeping). IfSome o P) is holds
+pub of_words : (P : Keeping → Type 0) (words : Option Keeping) (keeping : Keeping) → Some keeping ≡ words → P keeping → IfSome words P
+of_words P words keeping is holds = subst (λ (o : Option Keeping). IfSome o P) is holds
 
-pub by_words : {P : Keeping → Type 0} (words : Option Keeping) (keeping : Keeping) → Some keeping ≡ words → IfSome words P → P keeping
-by_words {P} words keeping is holds = subst (λ (o : Option Keeping). IfSome o P) (sym is) holds
+pub by_words : (P : Keeping → Type 0) (words : Option Keeping) (keeping : Keeping) → Some keeping ≡ words → IfSome words P → P keeping
+by_words P words keeping is holds = subst (λ (o : Option Keeping). IfSome o P) (sym is) holds
 
 abbrev Completes : Option Files → Keeping → Around → Images → Status → Type 0
 Completes known keeping around images ended =
@@ -26,4 +26,4 @@ pub completes : KeepingsComplete → (known : Option Files) (keeping : Keeping) 
     → images.before images.seen → EndsSo known keeping around images before now ended → Completes known keeping around images ended
 completes law None keeping around images before now ended is ends = tt
 completes law (Some files) keeping around images before now ended is ends =
-    λ sound short. law files keeping around images ended ends.0 is sound short ends.1.1
+    λ sound short. law files keeping around images ended ends.0 is sound short ends.2

@@ -1,8 +1,8 @@
 // The lines that are written where rules are kept, beside those that answer any script. Each is a text of its own.
-ghost use Rattle.std.specs.Prelude.{◌≡◌, ◌++◌, codes, IfOk, OnOk, string_bytes};
-ghost use Rattle.json.specs.Print.{quoted};
+ghost use Rattle.std.specs.Prelude.{◌≡◌, IfOk, string_bytes};
 ghost use Rattle.keep_run_spec.specs.Output as spec;
 ghost use Rattle.session_spec.specs.Output.{reply_line};
+ghost use Rattle.session_spec.specs.Refusals.{file_line};
 
 use dnr_base::NoMemory;
 use explain_report::{Reply, quoted_text, write_reply};
@@ -42,37 +42,35 @@ pub(crate) fn full_line(alloc: Global, number: u32) -> Result<String, NoMemory>
 pub(crate) fn too_long_line(alloc: Global, file: &str) -> Result<String, NoMemory>
     ensures { IfOk result (λ text. string_bytes text ≡ spec.too_long_line file.now) }
 {
-    let mut text = start_of(alloc, file)?;
-    text.push_str("\"keep-too-long\"}\n")?;
-    Ok(text)
+    refused_line(alloc, file, "\"keep-too-long\"")
 }
 
 // What is printed of a file whose record at this place is not one that it may hold.
 pub(crate) fn bad_record_line(alloc: Global, file: &str, place: u64) -> Result<String, NoMemory>
     ensures { IfOk result (λ text. string_bytes text ≡ spec.bad_record_line file.now place) }
 {
-    let mut text = start_of(alloc, file)?;
-    write!(&mut text, "\"bad-record\",\"offset\":{place}}}\n")?;
-    Ok(text)
+    let mut fields = String::new(alloc);
+    write!(&mut fields, "\"bad-record\",\"offset\":{place}")?;
+    refused_line(alloc, file, fields.as_str())
 }
 
 // What is printed of a file at whose records the pattern host failed.
 pub(crate) fn host_line(alloc: Global, file: &str) -> Result<String, NoMemory>
     ensures { IfOk result (λ text. string_bytes text ≡ spec.host_line file.now) }
 {
-    let mut text = start_of(alloc, file)?;
-    text.push_str("\"pattern-host\"}\n")?;
-    Ok(text)
+    refused_line(alloc, file, "\"pattern-host\"")
 }
 
-// How the line of a refused file begins.
-fn start_of(alloc: Global, file: &str) -> Result<String, NoMemory>
-    ensures { IfOk result (λ text. string_bytes text ≡ codes "{\"file\":" ++ (quoted file.now ++ codes ",\"refused\":")) }
+// The line of a file that is refused, with these fields.
+fn refused_line(alloc: Global, file: &str, fields: &str) -> Result<String, NoMemory>
+    ensures { IfOk result (λ text. string_bytes text ≡ file_line file.now fields.now) }
 {
     let mut text = String::new(alloc);
     let name = quoted_text(alloc, file)?;
     text.push_str("{\"file\":")?;
     text.push_str(name.as_str())?;
     text.push_str(",\"refused\":")?;
+    text.push_str(fields)?;
+    text.push_str("}\n")?;
     Ok(text)
 }

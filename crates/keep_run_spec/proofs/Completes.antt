@@ -7,7 +7,8 @@ use Rattle.load_spec.specs.Files.{Files}
 use Rattle.keep_laws.proofs.Accepted.{none_refused}
 use Rattle.keep_records.specs.Records.{payloads}
 use Rattle.keep_records.specs.Ends.{max_file}
-use Rattle.keep_spec.specs.Agrees.{IsSound}
+use Rattle.keep_spec.specs.Agrees.{IsSound, IsFirstRefused}
+use Rattle.keep_run_spec.specs.Output.{too_long_line, bad_record_line, host_line}
 use Rattle.keep_run_spec.specs.Words.{Keeping}
 use Rattle.keep_run_spec.specs.Ends.{Around, HasRisen, Images, AreShort, Answers, IsRefused, EndsKeeping}
 use Rattle.keep_run_spec.specs.Laws.{SomethingFailed, HasShortScript, KeepingsComplete}
@@ -19,15 +20,16 @@ Ends ended around = (ended ≡ status.Done) ⊎ (ended ≡ status.NoMemory) ⊎ 
 refused_soundly : (keeping : Keeping) (around : Around) (images : Images) (written : List ℕ) → IsSound keeping.extension images.seen
     → IsRefused keeping around.host images written → HasRisen around.host
 refused_soundly keeping around images written sound refused =
-    ⊎_elim (λ (long : (max_file < length images.seen) × _). absurd (omega (arith, long.0, sound.short)))
-    (⊎_elim (λ bad. absurd (none_refused keeping.extension (payloads images.seen) bad.0 sound.list sound.read sound.accepted bad.1.0))
-    (λ (failed : HasRisen around.host × _). failed.0)) refused.refuses
+    ⊎_elim (λ (long : (max_file < length images.seen) × (written ≡ too_long_line keeping.file)). absurd (omega (arith, long.0, sound.short)))
+    (⊎_elim (λ (bad : (place : ℕ) × IsFirstRefused keeping.extension (payloads images.seen) place × (written ≡ bad_record_line keeping.file place)).
+    absurd (none_refused keeping.extension (payloads images.seen) bad.0 sound.list sound.read sound.accepted bad.1))
+    (λ (failed : HasRisen around.host × (written ≡ host_line keeping.file)). failed.0)) refused.refuses
 
 not_short : (files : Files) (keeping : Keeping) (around : Around) (images : Images) (written : List ℕ) → HasShortScript files keeping.script
     → Answers (AreShort (Some files) keeping.script) keeping around.host images written → ⊥
 not_short files keeping around images written short answers =
-    let within : is_within_limits answers.are.0 ≡ true = subst (λ (held : Option (List ℕ)). IfSome held (λ script. is_within_limits script ≡ true)) answers.are.1.0 short in
-    absurd (cc (answers.are.1.1.0, within))
+    let within : is_within_limits answers.are.0 ≡ true = subst (λ (held : Option (List ℕ)). IfSome held (λ script. is_within_limits script ≡ true)) answers.are.1 short in
+    absurd (cc (answers.are.2.0, within))
 
 pub keepings_complete : KeepingsComplete
 keepings_complete files keeping around images status.Done written now sound short ends = inl refl
