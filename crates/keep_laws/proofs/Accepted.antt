@@ -1,5 +1,5 @@
 -- Lists of payloads that are read and accepted, and one payload more.
-use Rattle.std.proofs.Common.{◌≡◌, ◌⊎◌, ⊎_elim, ℕ, List, [], ◌∷◌, ◌++◌, map, filter_map, Bool, true, false, cond, Option, Some, None, Result, Ok, Err, bytes_eq, refl, sym, ap, ◌∙◌, length, arith}
+use Rattle.std.proofs.Common.{◌≡◌, ⊎_elim, ℕ, List, [], ◌∷◌, ◌++◌, map, filter_map, Bool, true, false, cond, Option, Some, None, Result, Ok, Err, bytes_eq, refl, sym, ap, ◌∙◌, length, arith}
 use Rattle.std.specs.List.{list_all, cons_option}
 use Rattle.std.proofs.lemmas.Bool.{and_parts, and_from}
 use Rattle.std.proofs.lemmas.List.{map-append}
@@ -12,7 +12,7 @@ use Rattle.keep_records.specs.Records.{payloads}
 use Rattle.keep_records.specs.Ends.{IsBeforeOrAfter}
 use Rattle.keep_spec.specs.Kept.{dynamic_of, dynamic_in, update_at, kept, start, state_of, accepts, all_accepted, takes_read, takes}
 use Rattle.keep_spec.specs.Agrees.{AreRead, IsSound, IsFirstRefused}
-use Rattle.keep_laws.specs.Laws.{is_dynamic, AreDynamic, EmptyDisksAreSound}
+use Rattle.keep_laws.specs.Laws.{is_dynamic, AreDynamic}
 
 heads : {X : Type 0} (x y : X) (xs ys : List X) → x ∷ xs ≡ y ∷ ys → x ≡ y
 heads x y xs ys e = cc
@@ -159,6 +159,3 @@ empty_is_sound name image is = record {
   read = ap (λ (file : List ℕ). map (update_at name) (payloads file)) is;
   accepted = refl;
 }
-
-pub empty_disks_are_sound : EmptyDisksAreSound
-empty_disks_are_sound name images only image left = empty_is_sound name image (only image left)

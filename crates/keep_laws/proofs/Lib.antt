@@ -2,4 +2,4 @@ pub mod Normal
 pub mod Judged
 pub mod Payloads
 pub mod Accepted
-pub mod Reads
+pub mod ReadUpdates

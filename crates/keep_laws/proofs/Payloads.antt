@@ -22,7 +22,7 @@ use Rattle.written_laws.specs.Normal.{normal}
 use Rattle.written_laws.specs.Read.{IdsDiffer, WrittenTreesAreRead}
 use Rattle.written_laws.proofs.Objects.{IsBack, FieldsBack, object_back, list_back, text_back, found}
 use Rattle.written_laws.proofs.Values as value
-use Rattle.update_spec.specs.Update.{Update, dynamic}
+use Rattle.update_spec.specs.Update.{dynamic}
 use Rattle.line_spec.specs.declared.command_name.UpdateName.TheVariants.{Dynamic}
 use Rattle.line_spec.specs.declared.command_name.CommandName.TheVariants as asked
 use Rattle.line_spec.specs.declared.update_field.UpdateField.TheVariants as field

@@ -1,5 +1,5 @@
 -- Laws of updates that are written, and of updates that are the same but for the order of what they list as sets.
-use Rattle.std.specs.Prelude.{◌≡◌, ℕ, List, [], map, Bool, true, false, IsTrue, IsUtf8, All, Some, Ok}
+use Rattle.std.specs.Prelude.{◌≡◌, ℕ, List, map, Bool, true, false, IsTrue, IsUtf8, All, Some, Ok}
 use Rattle.std.specs.List.{list_all}
 use Rattle.rule_spec.specs.Rule.{Rule}
 use Rattle.rule_spec.specs.IsRule.{IsRule, is_number}
@@ -9,7 +9,7 @@ use Rattle.update_spec.specs.Update.{Update, dynamic}
 use Rattle.update_spec.specs.Judge.{judge_update}
 use Rattle.line_spec.specs.Line as command
 use Rattle.keep_spec.specs.Kept.{update_at, state_of}
-use Rattle.keep_spec.specs.Agrees.{normal_update, AreAlike, Sound}
+use Rattle.keep_spec.specs.Agrees.{normal_update, AreAlike}
 use Rattle.keep_spec.specs.Written.{payload_text, are_tabless, MayBeKept}
 
 abbrev pub is_dynamic : Update → Bool
@@ -43,8 +43,3 @@ abbrev pub ReadUpdatesMayBeKept : Type 0
 ReadUpdatesMayBeKept =
     (number : ℕ) (line name remove : List ℕ) (add : List Rule) → command.command_of number line ≡ Ok (command.update (dynamic name remove add))
     → MayBeKept name (dynamic name remove add)
-
--- a disk that a crash now can only leave empty is sound for every extension
-abbrev pub EmptyDisksAreSound : Type 0
-EmptyDisksAreSound =
-    (name : List ℕ) (images : List ℕ → Type 0) → ((image : List ℕ) → images image → image ≡ []) → Sound name images

@@ -2,9 +2,13 @@
 //! for the order of what they list as sets.
 #![tactic(auto)]
 
+ghost use Rattle.std.specs.Prelude.{List, ℕ, []};
+ghost use Rattle.keep_disk.specs.Images.{Only};
+ghost use Rattle.keep_spec.specs.Agrees.{Sound};
 ghost use Rattle.keep_laws.specs.Laws.{WrittenUpdatesAreRead, AlikeUpdatesAreJudgedAlike};
-ghost use Rattle.keep_laws.specs.Laws.{NormalUpdatesStay, ReadUpdatesMayBeKept, EmptyDisksAreSound};
+ghost use Rattle.keep_laws.specs.Laws.{NormalUpdatesStay, ReadUpdatesMayBeKept};
 
+use keep_disk::Disk;
 use written_laws::{normal_rules_are_the_same, written_rules_are_read};
 
 /// The text of a dynamic update is read as the update with its rules in their normal form.
@@ -24,13 +28,14 @@ pub fn alike_updates_are_judged_alike()
 }
 
 /// A dynamic update that a line reads as may be kept.
-#[tactic(auto, using(crate::proofs::Reads::read_updates_may_be_kept))]
+#[tactic(auto, using(crate::proofs::ReadUpdates::read_updates_may_be_kept))]
 pub fn read_updates_may_be_kept()
     ensures { ReadUpdatesMayBeKept }
 {}
 
 /// A disk that a crash now can only leave empty is sound for every extension.
-#[tactic(auto, using(crate::proofs::Accepted::empty_disks_are_sound))]
-pub fn empty_disks_are_sound()
-    ensures { EmptyDisksAreSound }
-{}
+pub fn empty_disks_are_sound<D: Disk>(disk: &D)
+    ensures { (name : List ℕ) → Only [] (D.images disk.now) → Sound name (D.images disk.now) }
+{
+    let _ = disk;
+}

@@ -3,14 +3,13 @@ use Rattle.std.proofs.Common.{◌≡◌, ℕ, ℤ, pos, negsuc, List, [], ◌∷
 use Rattle.std.specs.Prelude.{nat_lt, unwrap_or, is_none}
 use Rattle.std.specs.Option.{option_map_or}
 use Rattle.std.specs.Result.{result_unwrap_or}
-use Rattle.std.specs.List.{list_all, list_any, cons_option}
+use Rattle.std.specs.List.{list_all, cons_option}
 use Rattle.std.proofs.lemmas.Bool.{and_parts, and_from}
 use Rattle.std.proofs.lemmas.Bool.Decides.{nat_tests}
 use Rattle.serde_json.specs.Data.{Data, Items, no_items, item, Members}
 use Rattle.serde_json.specs.Find.{as_array, as_object}
 use Rattle.dnr_spec.specs.Lines.{max_lines, is_blank}
 use Rattle.rule_spec.specs.declared.placed_refusal.PlacedRefusal.{PlacedRefusal}
-use Rattle.rule_spec.specs.declared.rule_kind.RuleKind.{RuleKind}
 use Rattle.rule_spec.specs.declared.rule_kind.RuleKind.TheVariants as kind
 use Rattle.rule_spec.specs.declared.rule_refusal.RuleRefusal.{RuleRefusal}
 use Rattle.rule_spec.specs.declared.rule_refusal.RuleRefusal.TheVariants.{BadId, DuplicateId, TabsNotSession}
@@ -18,11 +17,11 @@ use Rattle.rule_spec.specs.Rule.{Rule}
 use Rattle.rule_spec.specs.IsRule.{is_number}
 use Rattle.json_spec.specs.Json.{tree_of}
 use Rattle.json_spec.specs.RuleFields.{refused_if, refusal_in, unless_refused as unless}
-use Rattle.json_spec.specs.ReadRule.{Numbers, id_of, no_numbers, number_tests, numbers_of, numbers_in, fields_at, tabs_in, rule_in, rule_of, rule_tests, has_id, read_next, read_from, read_items}
+use Rattle.json_spec.specs.ReadRule.{Numbers, id_of, no_numbers, number_tests, numbers_of, numbers_in, fields_at, tabs_in, rule_in, rule_of, rule_tests, has_id, read_next, read_from}
 use Rattle.rule_laws.proofs.ReadRules.{all_passed, first_none, not_refused, rest_pass, value_there}
 use Rattle.written_laws.specs.Normal.{names_tabs}
 use Rattle.written_laws.specs.Read.{IdsDiffer}
-use Rattle.update_spec.specs.Update.{Update, dynamic, session, rulesets, static, install, uninstall}
+use Rattle.update_spec.specs.Update.{Update, dynamic, session}
 use Rattle.line_spec.specs.declared.command_name.CommandName.{CommandName}
 use Rattle.line_spec.specs.declared.command_name.CommandName.TheVariants as asked
 use Rattle.line_spec.specs.declared.command_name.UpdateName.{UpdateName}
@@ -35,31 +34,35 @@ use Rattle.line_spec.specs.CommandName.{name_in}
 use Rattle.line_spec.specs.Reading.{and_then}
 use Rattle.line_spec.specs.RequestLine.{request_in}
 use Rattle.line_spec.specs.Updates.{value_at, needed, list_given, as_wholes, rule_id, as_rule_ids, text_in, texts_in, wholes_in, remove_in, unless_refused, rules_of_list, rules_given, add_in, new_name_in, sets_in, access_in, replacing_in, rulesets_in, static_in, install_in, uninstall_in, update_in}
-use Rattle.line_spec.specs.Line.{Command, blank, request, explain, update, batch, of_line, command_named, command_of_members, command_in, command_of_tree, command_of}
+use Rattle.line_spec.specs.Line.{blank, request, explain, update, batch, of_line, command_named, command_of_members, command_in, command_of_tree, command_of}
 use Rattle.keep_spec.specs.Written.{are_tabless, MayBeKept}
 use Rattle.keep_laws.specs.Laws.{ReadUpdatesMayBeKept}
 
-same_ok : {T E : Type 0} (x y : T) → Ok {E = E} x ≡ Ok y → x ≡ y
-same_ok x y e = cc
+abbrev ok : {T : Type 0} (E : Type 0) → T → Result T E
+ok E x = Ok x
+
+same_ok : {T : Type 0} (E : Type 0) (x y : T) → ok E x ≡ ok E y → x ≡ y
+same_ok E x y e = cc
 
 -- ---- ids
 
 numbers-kept : (wholes : List ℤ) → list_all is_number (filter_map rule_id wholes) ≡ true
 numbers-kept [] = refl
-numbers-kept (pos n ∷ wholes) = by (is_number n) refl
+numbers-kept (pos n ∷ wholes) = by (is_number n) refl (numbers-kept wholes)
   where
-    by : (b : Bool) → is_number n ≡ b → list_all is_number (cons_option (cond b (Some n) None) (filter_map rule_id wholes)) ≡ true
-    by true is = and_from (is_number n) (list_all is_number (filter_map rule_id wholes)) is (numbers-kept wholes)
-    by false is = numbers-kept wholes
+    by : (b : Bool) → is_number n ≡ b → list_all is_number (filter_map rule_id wholes) ≡ true
+        → list_all is_number (cons_option (cond b (Some n) None) (filter_map rule_id wholes)) ≡ true
+    by true is are = and_from (is_number n) (list_all is_number (filter_map rule_id wholes)) is are
+    by false is are = are
 numbers-kept (negsuc n ∷ wholes) = numbers-kept wholes
 
 wholes-are : (wholes : Option (List ℤ)) (ids : List ℕ) → needed field.RemoveRuleIds (option_map (filter_map rule_id) wholes) ≡ Ok ids → list_all is_number ids ≡ true
 wholes-are None ids h = absurd (cc h)
 wholes-are (Some wholes) ids h =
-    ap (list_all is_number) (sym (same_ok {E = UpdateFault} (filter_map rule_id wholes) ids h)) ∙ numbers-kept wholes
+    ap (list_all is_number) (sym (same_ok UpdateFault (filter_map rule_id wholes) ids h)) ∙ numbers-kept wholes
 
 given-are : (given : Option Data) (ids : List ℕ) → list_given field.RemoveRuleIds as_rule_ids given ≡ Ok ids → list_all is_number ids ≡ true
-given-are None ids h = ap (list_all is_number) (sym (same_ok {E = UpdateFault} [] ids h))
+given-are None ids h = ap (list_all is_number) (sym (same_ok UpdateFault [] ids h))
 given-are (Some d) ids h = wholes-are (as_wholes d) ids h
 
 removed-are : (d : Data) (ids : List ℕ) → remove_in d ≡ Ok ids → list_all is_number ids ≡ true
@@ -91,7 +94,7 @@ free_id is_taken d rule h =
     let free = subst (λ (n : Numbers). is_taken n.id ≡ false) numbers_are (free_number is_taken d numbers.0 numbers.1) in
     subst (λ (r : Rule). is_taken r.id ≡ false) read.1 free
 
-not-named : (b : Bool) → refusal_in (unless (refused_if b TabsNotSession) tt) ≡ None → b ≡ false
+not-named : (b : Bool) → refusal_in (unless (refused_if b TabsNotSession) (tt {0})) ≡ None → b ≡ false
 not-named true h = absurd (cc h)
 not-named false h = refl
 
@@ -154,7 +157,7 @@ next-kept go_on place d (Ok rule) rules each h = each rule refl h
 next-kept go_on place d (Err cause) rules each h = absurd (cc h)
 
 list-kept : (earlier : List Rule) (items : Items) (rules : List Rule) → AreKept earlier → read_from kind.Dynamic earlier items ≡ Ok rules → AreKept rules
-list-kept earlier no_items rules are h = subst AreKept (same_ok {E = PlacedRefusal} earlier rules h) are
+list-kept earlier no_items rules are h = subst AreKept (same_ok PlacedRefusal earlier rules h) are
 list-kept earlier (item d items) rules are h =
     next-kept (λ rule. read_from kind.Dynamic (earlier ++ rule ∷ []) items) (length earlier) d (rule_in kind.Dynamic (has_id earlier) d) rules
     (λ rule read later.
@@ -165,7 +168,7 @@ list-kept earlier (item d items) rules are h =
 
 read-kept : (reading : Result (List Rule) PlacedRefusal) (rules : List Rule) → ((read : List Rule) → reading ≡ Ok read → AreKept read)
     → unless_refused reading ≡ Ok rules → AreKept rules
-read-kept (Ok read) rules each h = subst AreKept (same_ok {E = UpdateFault} read rules h) (each read refl)
+read-kept (Ok read) rules each h = subst AreKept (same_ok UpdateFault read rules h) (each read refl)
 read-kept (Err refusal) rules each h = absurd (cc h)
 
 items-kept : (items : Option Items) (rules : List Rule) → rules_of_list field.AddRules kind.Dynamic items ≡ Ok rules → AreKept rules
@@ -173,7 +176,7 @@ items-kept None rules h = absurd (cc h)
 items-kept (Some items) rules h = read-kept (read_from kind.Dynamic [] items) rules (λ read is. list-kept [] items read no_rules is) h
 
 rules-kept : (given : Option Data) (rules : List Rule) → rules_given field.AddRules kind.Dynamic given ≡ Ok rules → AreKept rules
-rules-kept None rules h = subst AreKept (same_ok {E = UpdateFault} [] rules h) no_rules
+rules-kept None rules h = subst AreKept (same_ok UpdateFault [] rules h) no_rules
 rules-kept (Some d) rules h = items-kept (as_array d) rules h
 
 added-are : (d : Data) (rules : List Rule) → add_in kind.Dynamic d ≡ Ok rules → AreKept rules
@@ -207,7 +210,7 @@ module _ (name remove : List ℕ) (add : List Rule) where
       (λ extension. and_then (remove_in d) (λ ids. and_then (add_in kind.Dynamic d) (λ rules. Ok (dynamic extension ids rules)))) these h in
       let removed = read_of (remove_in d) (λ ids. and_then (add_in kind.Dynamic d) (λ rules. Ok (dynamic named.value ids rules))) these named.later in
       let added = read_of (add_in kind.Dynamic d) (λ rules. Ok (dynamic named.value removed.value rules)) these removed.later in
-      let same = same_ok {E = UpdateFault} (dynamic named.value removed.value added.value) these added.later in
+      let same = same_ok UpdateFault (dynamic named.value removed.value added.value) these added.later in
       let remove_is : removed.value ≡ remove = cc same in
       let add_is : added.value ≡ add = cc same in
       let are = subst AreKept add_is (added-are d added.value added.is) in
@@ -262,7 +265,7 @@ module _ (name remove : List ℕ) (add : List Rule) where
   -- ---- the line
 
   lined : (reading : Result Update UpdateFault) (u : Update) → of_line reading ≡ Ok u → reading ≡ Ok u
-  lined (Ok v) u h = ap Ok (same_ok {E = LineFault} v u h)
+  lined (Ok v) u h = ap Ok (same_ok LineFault v u h)
   lined (Err fault) u h = absurd (cc h)
 
   same_update : (u v : Update) → update u ≡ update v → u ≡ v
@@ -275,13 +278,13 @@ module _ (name remove : List ℕ) (add : List Rule) where
   commanded number d (Some asked.Sync) h = absurd (cc h)
   commanded number d (Some (asked.Update which)) h =
       let read = read_of (of_line (update_in which d)) (λ u. Ok (update u)) (update these) h in
-      let same = same_update read.value these (same_ok {E = LineFault} (update read.value) (update these) read.later) in
+      let same = same_update read.value these (same_ok LineFault (update read.value) (update these) read.later) in
       updated which d (lined (update_in which d) these (read.is ∙ ap Ok same))
   commanded number d (Some asked.Batch) h = absurd (never (batch_in d) (λ us. Ok (batch us)) (update these) (λ us e. absurd (cc e)) h)
 
   in_members : (number : ℕ) (d : Data) (members : Option Members) → command_of_members number d members ≡ Ok (update these) → MayBeKept name these
   in_members number d None h = absurd (cc h)
-  in_members number d (Some members) h = commanded number d (name_in d) h
+  in_members number d (Some _) h = commanded number d (name_in d) h
 
   in_tree : (number : ℕ) (tree : Option Data) → command_of_tree number tree ≡ Ok (update these) → MayBeKept name these
   unfolding command_in
