@@ -7,7 +7,8 @@ use Rattle.load_spec.specs.Files.{Files}
 use Rattle.keep_spec.specs.Agrees.{Sound}
 use Rattle.keep_run_spec.specs.Words.{Keeping}
 use Rattle.keep_run_spec.specs.Ends.{Around, Images}
-use Rattle.keep_run_spec.specs.Laws.{SomethingFailed, HasShortScript, KeepingsComplete}
+use Rattle.keep_run_spec.specs.Laws.{SomethingFailed, HasShortScript}
+use Rattle.keep_run_spec.proofs.Completes.{keepings_complete}
 use Rattle.keep_run.specs.Ends.{EndsSo}
 
 -- what holds of the words that were read
@@ -22,8 +23,8 @@ Completes known keeping around images ended =
     IfSome known (λ files. Sound keeping.extension images.before → HasShortScript files keeping.script
     → (ended ≡ status.Done) ⊎ (ended ≡ status.NoMemory) ⊎ SomethingFailed around)
 
-pub completes : KeepingsComplete → (known : Option Files) (keeping : Keeping) (around : Around) (images : Images) (before now : Option (List ℕ)) (ended : Status)
+pub completes : (known : Option Files) (keeping : Keeping) (around : Around) (images : Images) (before now : Option (List ℕ)) (ended : Status)
     → images.before images.seen → EndsSo known keeping around images before now ended → Completes known keeping around images ended
-completes law None keeping around images before now ended is ends = tt
-completes law (Some files) keeping around images before now ended is ends =
-    λ sound short. law files keeping around images ended ends.0 is sound short ends.2
+completes None keeping around images before now ended is ends = tt
+completes (Some files) keeping around images before now ended is ends =
+    λ sound short. keepings_complete files keeping around images ended ends.0 is sound short ends.2

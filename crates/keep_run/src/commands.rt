@@ -15,7 +15,6 @@ use crate::words::{Keeping, keeping_in};
 use dnr_base::NoMemory;
 use dnr_io::{Shelf, Sink, Status, write_all};
 use keep_disk::Disk;
-use keep_run_spec::keepings_complete;
 use regex_host::RegexHost;
 use rule_keep::{Keep, OpenRefusal};
 use std::alloc::Global;
@@ -72,7 +71,6 @@ pub fn run_keep<F: Shelf, O: Sink, H: RegexHost, D: Disk>(
     ensures write_fault { result ≡ Status.WriteFault → Rose (O.faults out.old) (O.faults out.new) }
     ensures disk_fault { result ≡ Status.DiskFault → Rose (D.faults disk.old) (D.faults disk.new) }
 {
-    keepings_complete();
     match keeping_in(words) {
         Some(keeping) => keep_rules(alloc, keeping, shelf, out, host, disk),
         None => Status::Usage,

@@ -7,11 +7,11 @@ use Rattle.load_spec.specs.Files.{Files}
 use Rattle.keep_laws.proofs.Accepted.{none_refused}
 use Rattle.keep_records.specs.Records.{payloads}
 use Rattle.keep_records.specs.Ends.{max_file}
-use Rattle.keep_spec.specs.Agrees.{IsSound, IsFirstRefused}
+use Rattle.keep_spec.specs.Agrees.{Sound, IsSound, IsFirstRefused}
 use Rattle.keep_run_spec.specs.Output.{too_long_line, bad_record_line, host_line}
 use Rattle.keep_run_spec.specs.Words.{Keeping}
 use Rattle.keep_run_spec.specs.Ends.{Around, HasRisen, Images, AreShort, Answers, IsRefused, EndsKeeping}
-use Rattle.keep_run_spec.specs.Laws.{SomethingFailed, HasShortScript, KeepingsComplete}
+use Rattle.keep_run_spec.specs.Laws.{SomethingFailed, HasShortScript}
 
 abbrev Ends : Status → Around → Type 0
 Ends ended around = (ended ≡ status.Done) ⊎ (ended ≡ status.NoMemory) ⊎ SomethingFailed around
@@ -30,6 +30,15 @@ not_short : (files : Files) (keeping : Keeping) (around : Around) (images : Imag
 not_short files keeping around images written short answers =
     let within : is_within_limits answers.are.0 ≡ true = subst (λ (held : Option (List ℕ)). IfSome held (λ script. is_within_limits script ≡ true)) answers.are.1 short in
     absurd (cc (answers.are.2.0, within))
+
+-- Where the file is sound and the script within the limits, all of it is answered, unless something fails or memory runs
+-- out.
+abbrev pub KeepingsComplete : Type 1
+KeepingsComplete =
+    (files : Files) (keeping : Keeping) (around : Around) (images : Images) (ended : Status) (written : List ℕ)
+    → images.before images.seen → Sound keeping.extension images.before → HasShortScript files keeping.script
+    → EndsKeeping (Some files) keeping around images ended written
+    → (ended ≡ status.Done) ⊎ (ended ≡ status.NoMemory) ⊎ SomethingFailed around
 
 pub keepings_complete : KeepingsComplete
 keepings_complete files keeping around images status.Done written now sound short ends = inl refl

@@ -1,3 +1,3 @@
 mod Computed
 pub mod GoesOn
-mod Completes
+pub mod Completes

@@ -1,15 +1,11 @@
 -- Laws of rules that are kept in a file.
 use Rattle.std.specs.Prelude.{◌≡◌, ◌⊎◌, ℕ, List, ◌++◌, true, Some, IfSome}
 use Rattle.dnr_base.specs.Faults.{Count}
-use Rattle.dnr_spec.specs.declared.status.Status.{Status}
-use Rattle.dnr_spec.specs.declared.status.Status.TheVariants as status
 use Rattle.dnr_spec.specs.Lines.{is_within_limits}
 use Rattle.load_spec.specs.Files.{Files}
 use Rattle.keep_spec.specs.Kept.{Kept}
-use Rattle.keep_spec.specs.Agrees.{Sound}
-use Rattle.keep_run_spec.specs.Words.{Keeping}
 use Rattle.keep_run_spec.specs.Answers.{Answered}
-use Rattle.keep_run_spec.specs.Ends.{Around, HasRisen, Images, EndsKeeping}
+use Rattle.keep_run_spec.specs.Ends.{Around, HasRisen}
 
 -- what first lines say is a beginning of what they say with others behind them
 abbrev pub AnswersGoOn : Type 0
@@ -24,12 +20,3 @@ SomethingFailed around = HasRisen around.shelf ⊎ HasRisen around.sink ⊎ HasR
 -- the script, where it is there, is within the limits
 abbrev pub HasShortScript : Files → List ℕ → Type 0
 HasShortScript files name = IfSome (files name) (λ script. is_within_limits script ≡ true)
-
--- Where the file is sound and the script within the limits, all of it is answered, unless something fails or memory runs
--- out.
-abbrev pub KeepingsComplete : Type 1
-KeepingsComplete =
-    (files : Files) (keeping : Keeping) (around : Around) (images : Images) (ended : Status) (written : List ℕ)
-    → images.before images.seen → Sound keeping.extension images.before → HasShortScript files keeping.script
-    → EndsKeeping (Some files) keeping around images ended written
-    → (ended ≡ status.Done) ⊎ (ended ≡ status.NoMemory) ⊎ SomethingFailed around

@@ -11,4 +11,4 @@ pub use examples::{
     full_files_take_none, keep_takes_three_words, kept_files_are_told, kept_ones_count,
     others_are_bad_lines,
 };
-pub use laws::{answers_go_on, keepings_complete};
+pub use laws::answers_go_on;
