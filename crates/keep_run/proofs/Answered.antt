@@ -49,7 +49,7 @@ part_behind a b c xs ys first part = record {
 
 -- ---- the beginning
 
-begun : (first : Kept) (before : Option (List ℕ)) (was : ℕ) (known : Option (List ℕ)) → SoFar first before before was was known (prepend_known [] known) 0 first
+pub begun : (first : Kept) (before : Option (List ℕ)) (was : ℕ) (known : Option (List ℕ)) → SoFar first before before was was known (prepend_known [] known) 0 first
 begun first before was known = record {
   lines = [];
   read = none_read known;

@@ -1,6 +1,6 @@
 -- How the command ends, once the file is opened or where it is not.
 use Rattle.std.proofs.Common.{◌≡◌, ◌⊎◌, ℕ, ◌+◌, ◌≤◌, List, [], ◌∷◌, ◌++◌, length, true, Option, Some, None, Result, Ok, Err, refl, sym, ap, ◌∙◌, inl, inr, subst, arith, append-nil}
-use Rattle.std.specs.Prelude.{IfSome, IsSome, string_bytes}
+use Rattle.std.specs.Prelude.{IfSome, IfOk, IsSome, string_bytes}
 use Rattle.std.specs.declared.string.String.{String}
 use Rattle.std.specs.declared.alloc.Global.{Global}
 use Rattle.std.specs.Io.KnownBytes.{Appends}
@@ -154,6 +154,10 @@ module _ (known : Option Files) (keeping : Keeping) (a : Around) (images : Image
   ends_opened (Err stop.NoMemory) shelf sink disk (inr ends) = (ends.text, ends.taken, inr (so (AreFirst known keeping.script) (Appends before now) ends))
 
 -- ---- where it is refused
+
+-- what is known of a line that was made
+pub made : (P : String Global → Type 0) (line : Result (String Global) NoMemory) → IfOk line P → (text : String Global) → line ≡ Ok text → P text
+made P line holds text is = subst (λ (r : Result (String Global) NoMemory). IfOk r P) is holds
 
 -- nothing was written
 pub ends_silently : (known : Option Files) (keeping : Keeping) (a : Around) (images : Images) (before now : Option (List ℕ)) → now ≡ before → LeavesAsBefore keeping.extension images

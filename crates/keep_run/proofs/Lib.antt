@@ -3,6 +3,6 @@ mod Faults
 mod Told
 mod Kept
 mod Answered
-mod Lines
+mod Stopped
 mod Ended
 mod Ran

@@ -88,12 +88,12 @@ fn keep_rules<F: Shelf, O: Sink, H: RegexHost, D: Disk>(
 ) -> Status
     requires named { F.allows keeping.script.now }
     ensures no_usage { result ≢ Status.Usage }
-    ensures allowed { IsTrue (D.tells disk.old) → EndsSo (F.Source.files shelf.old) (keeping_seen keeping)
+    ensures allowed { IsTrue (D.tells disk.old) → EndsSo (F.Source.files shelf.old) (keeping_seen keeping.entry)
         (around (F.Source.faults shelf.old) (F.Source.faults shelf.new)
         (O.faults out.old) (O.faults out.new) (H.faults host.old) (H.faults host.new) (D.faults disk.old) (D.faults disk.new))
         (images (D.seen disk.old) (D.images disk.old) (D.images disk.new)) (O.taken out.old) (O.taken out.new) result }
-    ensures sound { IsTrue (D.tells disk.old) → Sound keeping.extension.now (D.images disk.old) →
-        Sound keeping.extension.now (D.images disk.new) }
+    ensures sound { IsTrue (D.tells disk.old) → Sound keeping.entry.extension.now (D.images disk.old) →
+        Sound keeping.entry.extension.now (D.images disk.new) }
     ensures tells { D.tells disk.new ≡ D.tells disk.old }
     ensures read_fault { result ≡ Status.ReadFault → Rose (F.Source.faults shelf.old) (F.Source.faults shelf.new) }
     ensures write_fault { result ≡ Status.WriteFault → Rose (O.faults out.old) (O.faults out.new) }

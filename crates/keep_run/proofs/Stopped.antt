@@ -1,11 +1,12 @@
 -- How the answering of a script ends.
 use Rattle.std.proofs.Common.{◌≡◌, ℕ, ◌+◌, ◌≤◌, List, Option, Result, Ok, Err, refl, sym, subst}
-use Rattle.std.specs.Prelude.{IfSome}
+use Rattle.std.specs.Prelude.{IfSome, IfErr, IsErrAnd}
 use Rattle.std.specs.Io.KnownBytes.{Appends, IsAtEnd}
 use Rattle.dnr_io.specs.Lines.{GivesLine, IsBeyond}
 use Rattle.dnr_io.specs.declared.line_refusal.LineRefusal.{LineRefusal}
 use Rattle.dnr_io.specs.declared.line_refusal.LineRefusal.TheVariants as refusal
 use Rattle.dnr_spec.specs.Lines.{max_lines}
+use Rattle.keep_spec.specs.Agrees.{Sound}
 use Rattle.keep_spec.specs.Kept.{Kept}
 use Rattle.keep_run_spec.specs.Ends.{between, Begins, LosesNothing}
 use Rattle.keep_run.specs.declared.stop.KeepStop.{KeepStop}
@@ -13,6 +14,20 @@ use Rattle.keep_run.specs.declared.stop.KeepStop.TheVariants as stop
 use Rattle.keep_run.specs.Lines.{StopsAtLine, AreLines, Wrote, EndsLines}
 use Rattle.keep_run.specs.Stops.{stop_of_reading}
 use Rattle.keep_run.proofs.Answered.{SoFar, wrote_first, wrote_all, wrote_short, wrote_part, later_host}
+
+-- a file stays sound for the extension by either name of it
+pub sound_on : (name was : List ℕ) (middle now : List ℕ → Type 0) → was ≡ name → (Sound was middle → Sound was now) → Sound name middle → Sound name now
+sound_on name was middle now same on sound = subst (λ (n : List ℕ). Sound n now) same (on (subst (λ (n : List ℕ). Sound n middle) (sym same) sound))
+
+-- what is said of an error
+pub err_so : (P Q : KeepStop → Type 0) (result : Result (Unit {0}) KeepStop) → IsErrAnd result P → ((why : KeepStop) → P why → Q why) → IfErr result Q
+err_so P Q (Ok done) is each = absurd is
+err_so P Q (Err why) is each = each why is
+
+pub stop_so : (Ends : Result (Unit {0}) KeepStop → Type 0) (P : KeepStop → Type 0) (result : Result (Unit {0}) KeepStop) → IsErrAnd result P
+    → ((why : KeepStop) → P why → Ends (Err why)) → Ends result
+stop_so Ends P (Ok done) is each = absurd is
+stop_so Ends P (Err why) is each = each why is
 
 module _ (first : Kept) (before now : Option (List ℕ)) (was is : ℕ) (known rest : Option (List ℕ)) (count : ℕ) (keep : Kept) (images : List ℕ → Type 0)
     (so_far : SoFar first before now was is known rest count keep) (safe : LosesNothing images keep) where
