@@ -35,8 +35,8 @@ returns-in-Ok-clause-ends g c = λ told.
     c.in-Ok.ensures.started (subst (Appends (g.O.Sink.taken c.args.out.now) (g.O.Sink.taken c.write_all.new.sink)) line c.in_ok-write_all.ensures.written)
     c.answer_lines.result (c.answer_lines.ensures.ends told)
 
-pub returns-in-Err-clause-ends : goal.returns-in-Err-clause-ends
-returns-in-Err-clause-ends g c = λ told.
+pub returns-clause-ends : goal.returns-clause-ends
+returns-clause-ends g c = λ told.
     let line : c.as_bytes.result.now ≡ kept_line (length c.args.keep.list) = c.as_bytes.ensures.value ∙ c.in_ok-text.ensures ∙ ap kept_line c.requires.count in
     none_answered (g.F.Source.files c.args.shelf.now) c.args.script.now (Appends (g.O.Sink.taken c.args.out.now) (g.O.Sink.taken c.write_all.new.sink))
     (g.H.RegexHost.faults c.args.host.now) (g.H.RegexHost.faults c.args.host.now) c.args.keep (g.D.Disk.images c.args.disk.now) (omega arith)
