@@ -1,5 +1,5 @@
 -- What a crash leaves while an update is added.
-use Rattle.std.proofs.Common.{◌≡◌, inl, inr, ⊎_elim, ℕ, ◌+◌, ◌<◌, ◌≤◌, true, List, [], ◌∷◌, ◌++◌, map, filter_map, length, Some, None, is_none, Result, Ok, Err, is_err, OnOk, sym, ◌∙◌, ap, arith, refl, subst}
+use Rattle.std.proofs.Common.{◌≡◌, inl, inr, ⊎_elim, ℕ, ◌<◌, ◌≤◌, true, false, List, [], ◌∷◌, ◌++◌, map, filter_map, length, Some, None, is_none, Result, Ok, Err, is_err, OnOk, sym, ◌∙◌, ap, arith, refl, subst}
 use Rattle.std.proofs.lemmas.Bool.{and_parts, and_from}
 use Rattle.std.proofs.lemmas.List.{map-append}
 use Rattle.std.proofs.lemmas.List.Elements.{filter_map-append}
@@ -7,7 +7,9 @@ use Rattle.std.specs.List.{list_all, cons_option}
 use Rattle.keep_disk.specs.Moments.{LeavesOnly}
 use Rattle.keep_disk.proofs.Moments.{weakened}
 use Rattle.rule_spec.specs.Rule.{Rule}
+use Rattle.rule_spec.specs.IsRule.{is_number}
 use Rattle.rule_spec.specs.State.{State}
+use Rattle.written_laws.specs.Read.{IdsDiffer}
 use Rattle.update_spec.specs.Update.{Update, dynamic}
 use Rattle.update_spec.specs.Judge.{judge_update}
 use Rattle.update_spec.specs.Entries.{one, after}
@@ -17,7 +19,7 @@ use Rattle.keep_records.specs.Records.{payloads}
 use Rattle.keep_records.specs.Ends.{AllEnd, MayAdd, Adds}
 use Rattle.keep_spec.specs.Kept.{Kept, update_at, kept, state_of, accepts}
 use Rattle.keep_spec.specs.Agrees.{normal_update, AreAlike, HasList, Agrees, HasBeforeOrAfter, IsSound, Sound}
-use Rattle.keep_spec.specs.Written.{update_written, payload_text, text_of, MayBeKept}
+use Rattle.keep_spec.specs.Written.{update_written, payload_text, text_of, are_tabless, MayBeKept}
 use Rattle.keep_laws.specs.Laws.{is_dynamic, AreDynamic, NormalUpdatesStay, AlikeUpdatesAreJudgedAlike}
 use Rattle.keep_laws.proofs.Accepted.{are_dynamic, kept_is, state_push, sound_after}
 use Rattle.rule_keep.proofs.Opens.{same_kept}
@@ -39,15 +41,21 @@ pub text_is : (name : List ℕ) (update : Update) (may : MayBeKept name update) 
 text_is name update may = ap text_of may.is
 
 -- the parts of an update that may be kept
-pub record Parts (name extension remove : List ℕ) (add : List Rule) (may : MayBeKept name (dynamic extension remove add)) : Type 0 where
-  pub extension_is : extension ≡ name
-  pub remove_is : remove ≡ may.remove
-  pub add_is : add ≡ may.add
+pub record Parts (remove : List ℕ) (add : List Rule) : Type 0 where
+  pub ids : list_all is_number remove ≡ true
+  pub differ : IdsDiffer add
+  pub tabless : are_tabless add ≡ true
 
-pub parts : (name extension remove : List ℕ) (add : List Rule) (may : MayBeKept name (dynamic extension remove add)) → Parts name extension remove add may
-parts name extension remove add may =
-    let is = may.is in
-    record { extension_is = cc is; remove_is = cc is; add_is = cc is }
+pub parts : (name extension remove : List ℕ) (add : List Rule) (update : Update) → MayBeKept name update → update ≡ dynamic extension remove add → Parts remove add
+parts name extension remove add update may is =
+    let same : dynamic name may.remove may.add ≡ dynamic extension remove add = sym may.is ∙ is in
+    let remove_is : may.remove ≡ remove = cc same in
+    let add_is : may.add ≡ add = cc same in
+    record {
+      ids = subst (λ (l : List ℕ). list_all is_number l ≡ true) remove_is may.ids;
+      differ = subst IdsDiffer add_is may.differ;
+      tabless = subst (λ (l : List Rule). are_tabless l ≡ true) add_is may.tabless;
+    }
 
 -- ---- lists
 
@@ -95,13 +103,13 @@ module _ (images : List ℕ → Type 0) (keep : Kept) (update : Update) (payload
 
   pub sound_put : AlikeUpdatesAreJudgedAlike → AreDynamic keep.list → is_dynamic update ≡ true → judge_update (state_of keep.name keep.list) update ≡ None
       → Sound keep.name images → (image : List ℕ) → MayAdd images payload image → IsSound keep.name image
-  sound_put law are dynamic accepted sound image may =
+  sound_put law are changes accepted sound image may =
       let was = sound may.old may.was in
       let list_is = kept_is keep.name may.old was.list was.read in
       let alike : AreAlike was.list keep.list = ap (map normal_update) (sym list_is) ∙ (agrees may.old may.was).alike in
       let also = are_dynamic keep.name (payloads may.old) was.list was.read in
       let taken : accepts (state_of keep.name was.list) (normal_update update) ≡ true =
-      ap is_none (law keep.name keep.list was.list update are also dynamic alike ∙ accepted) in
+      ap is_none (law keep.name keep.list was.list update are also changes alike ∙ accepted) in
       sound_after keep.name may.old image payload (normal_update update) was is taken may.is
 
 -- ---- a run
@@ -124,8 +132,8 @@ module _ {D : Type 0} (moment : D → ℕ) (left_since : D → ℕ → List ℕ 
 
   pub stays_sound : AlikeUpdatesAreJudgedAlike → AreDynamic keep.list → is_dynamic update ≡ true → judge_update (state_of keep.name keep.list) update ≡ None
       → Sound keep.name (images old) → Sound keep.name (images new)
-  stays_sound law are dynamic accepted sound image left =
-      sound_put (images old) keep update payload stay is agrees law are dynamic accepted sound image (added_now image left)
+  stays_sound law are changes accepted sound image left =
+      sound_put (images old) keep update payload stay is agrees law are changes accepted sound image (added_now image left)
 
 -- ---- what the program holds
 

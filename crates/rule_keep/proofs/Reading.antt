@@ -1,9 +1,11 @@
 -- The records of a file, read one after the other.
-use Rattle.std.proofs.Common.{◌≡◌, ℕ, ◌+◌, ◌<◌, ◌≤◌, true, false, List, [], ◌∷◌, ◌++◌, map, length, drop, Some, refl, sym, ◌∙◌, ap, arith, append_assoc, length-drop}
-use Rattle.std.proofs.lemmas.List.{append-nil, drop-drop}
+use Rattle.std.proofs.Common.{◌≡◌, ℕ, ◌+◌, ◌<◌, ◌≤◌, true, false, List, [], ◌∷◌, ◌++◌, map, length, drop, Some, refl, sym, ◌∙◌, ap, subst, arith, append_assoc, length-drop}
+use Rattle.std.proofs.lemmas.List.{append-nil, drop-drop, map-append}
 use Rattle.rule_spec.specs.State.{State}
 use Rattle.update_spec.specs.Update.{Update}
 use Rattle.update_spec.specs.Entries.{one, after}
+use Rattle.ruleset_store.specs.declared.update.Update as held
+use Rattle.ruleset_store.specs.Seen.{update_seen, updates_seen}
 use Rattle.keep_records.specs.Records.{size_of, stands, payloads, span, end_of}
 use Rattle.keep_records.proofs.Steps.{standing, payload_length, none, first_and_rest}
 use Rattle.keep_records.proofs.Listed.{span_push}
@@ -46,6 +48,17 @@ read_more name bytes list at store payload update so_far next is accepted = reco
   accepted = accepted_push name list update so_far.accepted (ap (λ (s : State). accepts s update) (sym so_far.store_is) ∙ accepted);
   within = omega (arith, next_room bytes at payload so_far.within next);
 }
+
+-- the same by what the program holds
+pub read_pushed : (name bytes : List ℕ) (list new : List held.Update) (at : ℕ) (store next : State) (payload : List ℕ) (update : held.Update)
+    → ReadSoFar name bytes (updates_seen list) at store → ReadNext bytes at payload → update_at name payload ≡ Some (update_seen update)
+    → accepts store (update_seen update) ≡ true → next ≡ after store (one (update_seen update)) → new ≡ list ++ update ∷ []
+    → ReadSoFar name bytes (updates_seen new) (at + (5 + length payload)) next
+read_pushed name bytes list new at store next payload update so_far there is accepted next_is new_is =
+    let more = read_more name bytes (updates_seen list) at store payload (update_seen update) so_far there is accepted in
+    let list_is : updates_seen new ≡ updates_seen list ++ update_seen update ∷ [] = ap updates_seen new_is ∙ map-append update_seen list (update ∷ []) in
+    subst (λ (s : State). ReadSoFar name bytes (updates_seen new) (at + (5 + length payload)) s) (sym next_is)
+    (subst (λ (l : List Update). ReadSoFar name bytes l (at + (5 + length payload)) (after store (one (update_seen update)))) (sym list_is) more)
 
 module _ (name bytes : List ℕ) (list : List Update) (at : ℕ) (store : State) (so_far : ReadSoFar name bytes list at store) where
   all-read : stands (drop at bytes) ≡ false → payloads bytes ≡ so_far.all

@@ -1,5 +1,5 @@
 -- Why a payload is not taken.
-use Rattle.std.proofs.Common.{◌≡◌, ℕ, Bool, true, false, Option, Some, None, is_none, Result, Ok, Err, IfOk, OnOk, List, refl, sym, ap, subst}
+use Rattle.std.proofs.Common.{◌≡◌, ℕ, false, Option, None, is_none, Result, Ok, Err, IfOk, OnOk, List, refl, sym, ap, subst}
 use Rattle.rule_spec.specs.declared.rule_refusal.RuleRefusal.{RuleRefusal}
 use Rattle.rule_spec.specs.declared.rule_refusal.RuleRefusal.TheVariants as cause
 use Rattle.update_spec.specs.declared.refusal.Refusal.{Refusal}
@@ -46,7 +46,7 @@ module _ (expected : Result Command LineFault) (rose : Type 0) (before now : ℕ
     by_cause fault cause.HostFault may calm = may.0
     by_cause fault cause.NoMemory may calm = absurd may
 
-  pub by_fault : (stops : LineFault → Type 0) (fault : LineFault) → MayRefuse expected (λ other. rose × stops other) fault → IsCalm {Command} before now (Err fault)
+  pub by_fault : (stops : LineFault → Type 0) (fault : LineFault) → MayRefuse expected (λ other. rose × stops other) fault → IsCalm {X = Command} before now (Err fault)
       → Means (stop_by_fault fault)
   by_fault stops line.BadJson may calm = ((line.BadJson, may), calm)
   by_fault stops (line.BadCommand path) may calm = ((line.BadCommand path, may), calm)
@@ -99,11 +99,14 @@ never_host judged.NoMemory is = cc
 
 -- ---- what it says of a payload
 
-pub same_err : {T E : Type 0} (x y : E) → Err {T} x ≡ Err y → x ≡ y
+abbrev pub err : {E : Type 0} (T : Type 0) → E → Result T E
+err T x = Err x
+
+pub same_err : {T E : Type 0} (x y : E) → err T x ≡ err T y → x ≡ y
 same_err x y e = cc
 
 module _ (name payload : List ℕ) (rose : Type 0) (before now : ℕ) (fault : LineFault) (stop : Stop) (is : stop ≡ stop_by_fault fault)
-    (refused : IsFaultOfLine 1 payload rose fault) (calm : IsCalm {Command} before now (Err fault)) where
+    (refused : IsFaultOfLine 1 payload rose fault) (calm : IsCalm {X = Command} before now (Err fault)) where
   means : Means (command_of 1 payload) rose before now stop
   means = subst (Means (command_of 1 payload) rose before now) (sym is) (by_fault (command_of 1 payload) rose before now (StopsInLine payload) fault refused calm)
 
@@ -120,9 +123,9 @@ module _ (name payload : List ℕ) (rose : Type 0) (before now : ℕ) (fault : L
   host_stays not_host = by stop means not_host
     where
       by : (s : Stop) → Means (command_of 1 payload) rose before now s → (s ≡ HostFault → ⊥) → now ≡ before
-      by Refused m no = m.1
-      by HostFault m no = absurd (no refl)
-      by NoMemory m no = m
+      by Refused m other = m.1
+      by HostFault m other = absurd (other refl)
+      by NoMemory m other = m
 
 -- what it is to who opens the file
 

@@ -14,7 +14,7 @@ ghost use Rattle.keep_spec.specs.Agrees.{Agrees, AreRead, HadList, HasBeforeOrAf
 ghost use Rattle.keep_spec.specs.Agrees.{IsFirstRefused, Sound, normal_update};
 ghost use Rattle.keep_spec.specs.Written.{MayBeKept, text_of};
 
-use crate::listed::{again, read_list};
+use crate::listed::{again, name_of, read_list};
 use crate::opening::bytes_of;
 use crate::payload::payload_of;
 use crate::refusals::{OpenRefusal, PutRefusal};
@@ -297,12 +297,6 @@ impl Keep {
             Err(_) => Err(NoMemory),
         }
     }
-}
-
-fn name_of(alloc: Global, name: &str) -> Result<Text, NoMemory>
-    ensures { IfOk result (λ text. text ≡ name.now) }
-{
-    Ok(Text::build(String::from_str(alloc, name)?))
 }
 
 // How many bytes a payload may have whose record is written behind the gate byte at this place.

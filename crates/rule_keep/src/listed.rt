@@ -85,12 +85,24 @@ fn next_payload(bytes: &[u8], at: usize) -> Option<&[u8]>
 fn started(alloc: Global, name: &str) -> Result<Store, NoMemory>
     ensures { IfOk result (λ store. store ≡ spec.start name.now) }
 {
-    let name = Text::build(String::from_str(alloc, name)?);
-    let extension = Extension::build(alloc, name, Vec::new(alloc), None)?;
+    let extension = empty_extension(alloc, name)?;
     match Store::empty(alloc).install(alloc, extension) {
         Ok(store) => Ok(store),
         Err(_) => Err(NoMemory),
     }
+}
+
+fn empty_extension(alloc: Global, name: &str) -> Result<Extension, NoMemory>
+    ensures { IfOk result (λ extension. extension ≡ spec.empty_extension name.now) }
+{
+    let name = name_of(alloc, name)?;
+    Extension::build(alloc, name, Vec::new(alloc), None)
+}
+
+pub(crate) fn name_of(alloc: Global, name: &str) -> Result<Text, NoMemory>
+    ensures { IfOk result (λ text. text ≡ name.now) }
+{
+    Ok(Text::build(String::from_str(alloc, name)?))
 }
 
 // The updates once more, which share their rules.

@@ -1,9 +1,9 @@
 // The text of an update that is kept.
-ghost use Rattle.std.specs.Prelude.{◌≡◌, IfOk, IsTrue, All, Some, map};
+ghost use Rattle.std.specs.Prelude.{◌≡◌, IfOk, OnOk, IsTrue, All, Some, map};
 ghost use Rattle.std.specs.List.{list_all};
-ghost use Rattle.serde_json.specs.View.{view};
+ghost use Rattle.serde_json.specs.View.{view, members_view};
 ghost use Rattle.rule_spec.specs.IsRule.{IsRule, is_number};
-ghost use Rattle.json_spec.specs.Written.{rule_written};
+ghost use Rattle.json_spec.specs.Written.{with_field, rule_written};
 ghost use Rattle.written_laws.specs.Normal.{normal};
 ghost use Rattle.written_laws.specs.Read.{IdsDiffer};
 ghost use Rattle.update_spec.specs.Update.{dynamic};
@@ -46,6 +46,7 @@ fn are_rules(rules: &[SharedRule])
     }
 }
 
+#[tactic(auto, unfolding(keep_spec::specs::Written::update_written))]
 fn update_value(
     alloc: Global,
     name: &str,
@@ -56,14 +57,26 @@ fn update_value(
 {
     let mut members = Map::new(alloc);
     let rules = Value::Array(rule_values(alloc, add)?);
-    serde_json::put(&mut members, alloc, "addRules", rules)?;
+    put(alloc, &mut members, "addRules", rules)?;
     let command = Value::try_from_str(alloc, "dynamic")?;
-    serde_json::put(&mut members, alloc, "cmd", command)?;
+    put(alloc, &mut members, "cmd", command)?;
     let extension = Value::try_from_str(alloc, name)?;
-    serde_json::put(&mut members, alloc, "extension", extension)?;
+    put(alloc, &mut members, "extension", extension)?;
     let ids = Value::Array(id_values(alloc, remove)?);
-    serde_json::put(&mut members, alloc, "removeRuleIds", ids)?;
+    put(alloc, &mut members, "removeRuleIds", ids)?;
     Ok(Value::Object(members))
+}
+
+fn put(
+    alloc: Global,
+    members: &mut Map<String, Value>,
+    key: &str,
+    value: Value,
+) -> Result<(), NoMemory>
+    ensures { OnOk result (members_view members.new.entries
+        ≡ with_field (members_view members.old.entries) (key.now, Some (view value))) }
+{
+    Ok(serde_json::put(members, alloc, key, value)?)
 }
 
 fn rule_values(alloc: Global, rules: &[SharedRule]) -> Result<Vec<Value>, NoMemory>

@@ -1,4 +1,4 @@
-use Rattle.std.proofs.Common.{◌≡◌, List, ℕ, sym, ◌∙◌, subst}
+use Rattle.std.proofs.Common.{List, ℕ, sym, ◌∙◌, subst}
 use Rattle.keep_records.specs.Records.{payloads}
 use Rattle.keep_spec.specs.Agrees.{AreRead}
 use Rattle.keep_laws.proofs.Accepted.{kept_is}

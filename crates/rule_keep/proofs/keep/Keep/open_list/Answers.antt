@@ -1,6 +1,9 @@
-use Rattle.std.proofs.Common.{◌∙◌, ap, arith}
-use Rattle.keep_records.specs.Records.{end_of}
+use Rattle.std.proofs.Common.{ℕ, List, sym, ◌∙◌, ap, arith}
+use Rattle.ruleset_store.specs.Seen.{updates_seen}
+use Rattle.keep_records.specs.Records.{payloads, end_of}
 use Rattle.keep_records.proofs.Mended.{end_fits}
+use Rattle.keep_spec.specs.Kept.{state_of}
+use Rattle.keep_laws.proofs.Accepted.{are_dynamic}
 use Rattle.rule_keep.proofs.Opens.{read_leaves, open_leaves}
 use Rattle.rule_keep.proofs.keep.Keep.open_list.Goals as goal
 
@@ -35,3 +38,10 @@ returns-clause-any_moment g c = λ told.
 pub mend_end-requires-clause-fits : goal.mend_end-requires-clause-fits
 mend_end-requires-clause-fits g c =
     omega (arith, c.in_ok-read.ensures.place, ap end_of c.deref.ensures.value, end_fits c.in_ok-bytes.bytes.items c.in_ok-bytes.ensures.short)
+
+pub invariant_of-keep : goal.invariant_of-keep
+invariant_of-keep g c =
+    let list = updates_seen c.in_ok-read.read.list.items in (
+      c.in_ok-read.ensures.store ∙ ap (λ (name : List ℕ). state_of name list) (sym c.in_ok-named.ensures),
+      are_dynamic c.args.name.now (payloads c.deref.result.now) list c.in_ok-read.ensures.read,
+    )
