@@ -6,11 +6,14 @@ _dnr() {
     compopt +o default +o nospace 2>/dev/null
     COMPREPLY=()
     if ((COMP_CWORD == 1)); then
-        words='match follow serve check compile hide prune sample'
+        words='match follow serve check compile hide prune keep sample'
     else
         case $command,$before in
             check,check) words='static dynamic session' ;;
             sample,*) return ;;
+            # (NAME is a name, and stands behind FILE)
+            keep,keep) ;;
+            keep,*) ((COMP_CWORD == 3)) && return ;;
             serve,--workers) words='1 2 3 4 5 6 7 8' ;;
             # (an extension is a folder of the current one, named without a slash)
             serve,--ext) mapfile -t COMPREPLY < <(compgen -d -X '*[!a-z0-9_-]*' -- "$word"); return ;;

@@ -1,11 +1,13 @@
 //! The program `dnr`: the engine over the files of the current folder and standard output.
 #![tactic(auto)]
 
-ghost use Rattle.std.specs.Prelude.{◌≡◌, length, IfOk};
+ghost use Rattle.std.specs.Prelude.{◌≡◌, length, IfOk, IsTrue};
 
 use dnr_base::NoMemory;
-use dnr_io::{DirShelf, Output, Status};
+use dnr_io::{DirShelf, Output, Sink, Status};
 use dnr_top::run;
+use keep_file::FileDisk;
+use keep_run::run_keep;
 use lookup_pool::NoGate;
 use regex_host::PackHost;
 use session_laws::nine_hosts_are_enough;
@@ -13,6 +15,7 @@ use std::alloc::Global;
 use std::env::Env;
 use std::io;
 use std::process::ExitCode;
+use std::rt::Files;
 
 // At most so many workers decide requests, each by a host of its own.
 const WORKERS: usize = 8;
@@ -21,25 +24,47 @@ const WORKERS: usize = 8;
 const ROOM: usize = 1_024;
 
 fn main(rt: HostRuntime) -> ExitCode {
-    let status = match (words_of(&rt), hosts_of(rt.alloc())) {
-        (Ok(words), Ok(mut hosts)) => {
-            let mut shelf = DirShelf::new(&rt);
-            let mut out = Output::new(rt.stdout());
-            nine_hosts_are_enough();
-            run(
-                &rt,
-                rt.alloc(),
-                &words,
-                &mut shelf,
-                &mut out,
-                &mut hosts,
-                &NoGate,
-            )
-        }
-        (Err(status), _) => status,
-        (_, Err(NoMemory)) => Status::NoMemory,
+    let mut out = Output::new(rt.stdout());
+    let status = match words_of(&rt) {
+        Ok(words) if asks_to_keep(&words) => keep(&rt, &words, &mut out),
+        Ok(words) => match hosts_of(rt.alloc()) {
+            Ok(mut hosts) => {
+                let mut shelf = DirShelf::new(&rt);
+                nine_hosts_are_enough();
+                run(
+                    &rt,
+                    rt.alloc(),
+                    &words,
+                    &mut shelf,
+                    &mut out,
+                    &mut hosts,
+                    &NoGate,
+                )
+            }
+            Err(NoMemory) => Status::NoMemory,
+        },
+        Err(status) => status,
     };
     ExitCode::from(status.value())
+}
+
+// Whether there are four words, and the first is `keep`.
+fn asks_to_keep(words: &[String]) -> bool
+    ensures { IsTrue result → length words.now ≡ 4 }
+{
+    words.len() == 4 && words[0].as_str() == "keep"
+}
+
+// Keeps dynamic rules in a file.
+fn keep(rt: &(impl Files + AllocGlobal), words: &[String], out: &mut impl Sink) -> Status
+    requires { length words.now ≡ 4 }
+{
+    let Ok(mut host) = PackHost::new(rt.alloc()) else {
+        return Status::NoMemory;
+    };
+    let mut shelf = DirShelf::new(rt);
+    let mut disk = FileDisk::new(rt, words[1].as_str());
+    run_keep(rt.alloc(), words, &mut shelf, out, &mut host, &mut disk)
 }
 
 // The words after the program's name. A word that is no text makes a command that no words say.

@@ -1,0 +1,4 @@
+pub mod Seen
+pub mod Stops
+pub mod Lines
+pub mod Ends

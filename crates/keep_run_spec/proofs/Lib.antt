@@ -1,0 +1,3 @@
+mod Computed
+pub mod GoesOn
+pub mod Completes
