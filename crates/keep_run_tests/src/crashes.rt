@@ -22,12 +22,14 @@ fn an_update_is_there_in_the_next_run(rt: HostRuntime) -> Result<(), Fail> {
     let mut disk = MemoryDisk::new(alloc, b"", Vec::new(alloc))?;
     let first = run(alloc, &mut disk, ADDS)?;
     assert!(rt; first.status == Status::Done);
-    assert!(rt; first.written.as_slice() == b"{\"kept\":0}\n{\"line\":1,\"accepted\":1}\n");
+    assert!(rt;
+        first.written.as_slice() == b"{\"kept\":0}\n{\"line\":1,\"accepted\":1}\n".as_slice()
+    );
     let second = run(alloc, &mut disk, ADDS)?;
     assert!(rt; second.status == Status::Done);
     assert!(rt;
         second.written.as_slice()
-            == b"{\"kept\":1}\n{\"line\":1,\"refused\":\"duplicate-id\",\"id\":1}\n"
+            == b"{\"kept\":1}\n{\"line\":1,\"refused\":\"duplicate-id\",\"id\":1}\n".as_slice()
     );
     Ok(())
 }
@@ -38,14 +40,15 @@ fn what_was_said_is_kept_wherever_the_disk_stops(rt: HostRuntime) -> Result<(), 
     for calls in 0..CALLS {
         let mut disk = MemoryDisk::new(alloc, b"", later(alloc, calls)?)?;
         let ran = run(alloc, &mut disk, ADDS)?;
-        let accepted = ran.written.as_slice() == b"{\"kept\":0}\n{\"line\":1,\"accepted\":1}\n";
+        let accepted = ran.written.as_slice()
+            == b"{\"kept\":0}\n{\"line\":1,\"accepted\":1}\n".as_slice();
         assert!(rt; accepted == (ran.status == Status::Done), "{calls}");
         assert!(rt; accepted || ran.status == Status::DiskFault, "{calls}");
         for image in disk.images()? {
             let mut image = image;
             let again = run(alloc, &mut image, "")?;
-            let one = again.written.as_slice() == b"{\"kept\":1}\n";
-            let none = again.written.as_slice() == b"{\"kept\":0}\n";
+            let one = again.written.as_slice() == b"{\"kept\":1}\n".as_slice();
+            let none = again.written.as_slice() == b"{\"kept\":0}\n".as_slice();
             assert!(rt; one || none && !accepted, "{calls}");
         }
         if accepted {

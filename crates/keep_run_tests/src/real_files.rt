@@ -20,7 +20,7 @@ fn a_file_is_made_written_cut_and_read(rt: HostRuntime) -> Result<(), Fail> {
     assert!(rt; disk.read_at(2, &mut part).is_err());
     assert_eq!(rt; disk.faults(), 1);
     let bytes = fs::read(&rt, "k")?;
-    assert!(rt; bytes.as_slice() == b"axy");
+    assert!(rt; bytes.as_slice() == b"axy".as_slice());
 
     // A folder that is not there, and the folder itself.
     for path in ["gone/k", "."] {
