@@ -1,0 +1,5 @@
+pub mod Owns
+pub mod Codes
+pub mod Given
+pub mod Ends
+pub mod Faults

@@ -1,0 +1,111 @@
+// The opening of a seat.
+ghost use Rattle.std.specs.Prelude.{◌≡◌, ◌≢◌, ◌≤◌, Some, take, IfOk, IfErr, length as length_of};
+ghost use Rattle.session_spec.specs.Words.{task_of};
+ghost use Rattle.engine.specs.Opening.{EndsFor, IsOpenedBy};
+ghost use Rattle.dnr_c.specs.Codes as code;
+ghost use Rattle.dnr_c.specs.Ends.{Opened};
+ghost use Rattle.dnr_c.specs.Faults.{Fails, IsToldAs};
+ghost use Rattle.dnr_c.specs.Given as given;
+
+use crate::code::{NO_FILE, NO_MEMORY, NO_TEXT, REFUSED, TOO_LONG, Told, USAGE, told};
+use crate::given::{GivenFile, GivenText, are_texts, files_of, words_of};
+use crate::handle::Handle;
+use crate::seat::Seat;
+use dnr_base::NoMemory;
+use engine::{Engine, OpenRefusal};
+use std::alloc::Global;
+
+/// Why a seat is not opened.
+#[derive(Debug, Drop)]
+pub(crate) enum Fault {
+    /// A word or a name is no text.
+    NoText,
+    /// The engine is not opened.
+    Engine(OpenRefusal),
+}
+
+// A seat with this engine.
+pub(crate) fn seated(alloc: Global, engine: Engine) -> Result<Seat, NoMemory>
+    ensures { IfOk result (λ seat. seat.handle.engine ≡ Some engine) }
+{
+    match Box::new(alloc, engine) {
+        Ok(engine) => Ok(Seat {
+            handle: Handle::of(engine),
+            is_open: true,
+        }),
+        Err(_) => Err(NoMemory),
+    }
+}
+
+// A seat with an engine over these files, as the words say.
+pub(crate) fn opened(
+    alloc: Global,
+    words: &[GivenText<'_>],
+    files: &[GivenFile<'_>],
+) -> Result<Seat, Fault>
+    ensures opened { IfOk result (λ seat. Opened (task_of (given.words_of words.now)) (given.files_of files.now) seat.handle.engine) }
+    ensures failed { IfErr result (Fails words.now files.now) }
+{
+    if !are_texts(words, files) {
+        return Err(Fault::NoText);
+    }
+    match engine_of(alloc, words, files) {
+        Ok(engine) => match seated(alloc, engine) {
+            Ok(seat) => Ok(seat),
+            Err(NoMemory) => Err(Fault::Engine(OpenRefusal::NoMemory)),
+        },
+        Err(refusal) => Err(Fault::Engine(refusal)),
+    }
+}
+
+fn engine_of(
+    alloc: Global,
+    words: &[GivenText<'_>],
+    files: &[GivenFile<'_>],
+) -> Result<Engine, OpenRefusal>
+    ensures opened { IfOk result (IsOpenedBy (task_of (given.words_of words.now)) (given.files_of files.now)) }
+    ensures refused { IfErr result (EndsFor (task_of (given.words_of words.now)) (given.files_of files.now)) }
+{
+    let (Ok(words), Ok(files)) = (words_of(alloc, words), files_of(alloc, files)) else {
+        return Err(OpenRefusal::NoMemory);
+    };
+    Engine::open(alloc, &words, files)
+}
+
+// Tells why a seat is not opened: by a code, and by a line where there is one and room for it.
+pub(crate) fn tell(fault: &Fault, out: &mut [u8]) -> Told
+    ensures told { IsToldAs fault.now result out.new }
+    ensures failed { (result.code ≢ code.done) × (result.code ≢ code.is_opened) }
+{
+    match fault {
+        Fault::NoText => told(NO_TEXT),
+        Fault::Engine(refusal) => tell_refusal(refusal, out),
+    }
+}
+
+fn tell_refusal(refusal: &OpenRefusal, out: &mut [u8]) -> Told
+    ensures told { IsToldAs (Fault.Engine refusal.now) result out.new }
+    ensures failed { (result.code ≢ code.done) × (result.code ≢ code.is_opened) }
+{
+    match refusal {
+        OpenRefusal::Usage => told(USAGE),
+        OpenRefusal::Refused(line) => Told {
+            code: REFUSED,
+            length: put(line.as_bytes(), out),
+        },
+        OpenRefusal::NoFile => told(NO_FILE),
+        OpenRefusal::TooLong => told(TOO_LONG),
+        OpenRefusal::NoMemory => told(NO_MEMORY),
+    }
+}
+
+// Puts a line at the front of `out`, if there is room for it, and gives its length.
+fn put(line: &[u8], out: &mut [u8]) -> usize
+    ensures long { result ≡ length_of line.now }
+    ensures written { length_of line.now ≤ length_of out.new → take result out.new ≡ line.now }
+{
+    if line.len() <= out.len() {
+        out[..line.len()].copy_from_slice(line);
+    }
+    line.len()
+}

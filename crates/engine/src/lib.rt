@@ -1,0 +1,16 @@
+//! An engine that a program holds in its own memory: what is installed, pattern hosts of its own, and what is kept from one
+//! line to the next. It is opened over files in memory as `serve` and `match` are over files of a folder, answers the lines of
+//! a script as they do, and is shared: a second engine goes on from the same state, and neither sees what the other does.
+//! Nothing waits here, no thread is started, and nothing outside is read or written.
+//!
+//! What it answers stands in `session_spec`, `specs/Answers.antt`; how it is opened in `specs/Opening.antt` here.
+#![tactic(auto)]
+
+mod answering;
+mod engine;
+mod installing;
+mod opening;
+mod refusal;
+
+pub use engine::Engine;
+pub use refusal::{AskRefusal, OpenRefusal};
