@@ -1,6 +1,6 @@
 pub mod Ascii
+pub mod Ends
 pub mod Excluding
 pub mod Pieces
 pub mod Places
 pub mod Separators
-pub mod Trimmed

@@ -79,8 +79,10 @@ fn excluded_of(alloc: Global, entries: &[DomainEntry]) -> Result<BTreeSet<String
     Ok(excluded)
 }
 
-// Whether one domain is both listed and excluded.
-fn has_conflict(alloc: Global, entries: &[DomainEntry]) -> Result<bool, NoMemory>
+/// Whether one domain is both listed and excluded.
+///
+/// `NoMemory`: no memory is left for the domains that are excluded.
+pub fn has_conflict(alloc: Global, entries: &[DomainEntry]) -> Result<bool, NoMemory>
     ensures { IfOk result (λ answer. answer ≡ spec.has_conflict entries.now) }
 {
     let excluded = excluded_of(alloc, entries)?;

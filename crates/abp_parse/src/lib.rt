@@ -14,6 +14,8 @@ mod place;
 mod text;
 
 pub use dnr_base::{Items, KindSet, NoMemory, Text};
+pub use entries::{cut_tilde, has_conflict};
 pub use line::{FilterLine, FilterPattern, Line, parse_line};
 pub use list_spec::{DomainEntry, Reason};
+pub use text::{cut_at, trimmed};
 pub use url_filter::Pattern;

@@ -1,29 +1,15 @@
 //! The domains of a hiding line.
-ghost use Rattle.std.specs.Prelude.{◌≡◌, IfOk, OnOk, map};
-ghost use Rattle.abp_parse.specs.Excluded.{AddsEntry, HasExcluded};
+ghost use Rattle.std.specs.Prelude.{IfOk, map};
 ghost use Rattle.list_spec.specs.Entries as spec;
 ghost use Rattle.list_spec.specs.Pieces as pieces;
 ghost use Rattle.hide_spec.specs.HidingLine.{hide_entries};
 ghost use Rattle.hide_rules.specs.Read.{IsEntryOf, AreEntriesOf};
 
-use crate::text::cut_at;
+use abp_parse::{cut_at, cut_tilde};
 use dnr_base::{NoMemory, Text};
 use domain_set::is_domain;
 use list_spec::DomainEntry;
 use std::alloc::Global;
-use std::collections::BTreeSet;
-
-// The text without a `~` at its beginning, and whether there is one.
-fn cut_tilde(text: &[u8]) -> (bool, &[u8])
-    ensures inverse { result.0 ≡ pieces.is_inverse text.now }
-    ensures rest { result.1.now ≡ pieces.without_tilde text.now }
-{
-    if text.starts_with(b"~") {
-        (true, &text[1..])
-    } else {
-        (false, text)
-    }
-}
 
 // The entry of a piece. `None`: it names no domain.
 fn read_entry(alloc: Global, piece: &[u8]) -> Result<Option<DomainEntry>, NoMemory>
@@ -71,38 +57,4 @@ pub fn read_entries(alloc: Global, text: &[u8]) -> Result<Option<Vec<DomainEntry
         return Ok(Some(Vec::new(alloc)));
     }
     read_pieces(alloc, text)
-}
-
-// Puts the domain of an entry in, if it is excluded.
-fn exclude(
-    alloc: Global,
-    excluded: &mut BTreeSet<String>,
-    entry: &DomainEntry,
-) -> Result<(), NoMemory>
-    ensures { OnOk result (AddsEntry excluded.old excluded.new entry.now) }
-{
-    if entry.excluded {
-        let domain = String::from_str(alloc, entry.domain.as_str())?;
-        excluded.insert(domain)?;
-    }
-    Ok(())
-}
-
-// The domains that are excluded.
-fn excluded_of(alloc: Global, entries: &[DomainEntry]) -> Result<BTreeSet<String>, NoMemory>
-    ensures { IfOk result (λ excluded. HasExcluded excluded entries.now) }
-{
-    let mut excluded = BTreeSet::new(alloc);
-    for entry in entries {
-        exclude(alloc, &mut excluded, entry)?;
-    }
-    Ok(excluded)
-}
-
-/// Whether one domain is both listed and excluded.
-pub fn has_conflict(alloc: Global, entries: &[DomainEntry]) -> Result<bool, NoMemory>
-    ensures { IfOk result (λ answer. answer ≡ spec.has_conflict entries.now) }
-{
-    let excluded = excluded_of(alloc, entries)?;
-    Ok(entries.iter().any(|entry| !entry.excluded && excluded.contains(entry.domain.as_str())))
 }

@@ -4,9 +4,10 @@ ghost use Rattle.list_spec.specs.LineKind as lines;
 ghost use Rattle.hide_spec.specs.HidingLine as spec;
 ghost use Rattle.hide_rules.specs.Seen.{line_seen};
 
-use crate::entries::{has_conflict, read_entries};
+use crate::entries::read_entries;
 use crate::separator::separator_place;
-use crate::text::{selector_of, trimmed};
+use crate::text::selector_of;
+use abp_parse::{has_conflict, trimmed};
 use dnr_base::{NoMemory, Text};
 use hide_spec::HideReason;
 use list_spec::DomainEntry;

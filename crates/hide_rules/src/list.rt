@@ -8,7 +8,7 @@ ghost use Rattle.hide_rules.specs.Seen.{hiding_seen, line_seen};
 ghost use Rattle.hide_rules.specs.Taken.{CountsTooMany, TakesIn};
 
 use crate::line::{HidingLine, Line, read_line};
-use crate::text::cut_at;
+use abp_parse::cut_at;
 use dnr_base::NoMemory;
 use hide_spec::{HideReason, HideReported};
 use std::alloc::Global;

@@ -11,7 +11,7 @@ use Rattle.update_spec.specs.Judge.{has_id, uses_regex}
 use Rattle.index_laws.specs.Segments as law
 use Rattle.index_laws.proofs.Few.{segments_are_few}
 use Rattle.rule_ids.specs.Counted.{counts_of, sum_of}
-use Rattle.rule_segments.specs.Segments.{Segment, live_in, live_among, weight, AreFew, AreTapered, IsAbove, LastIsAbove}
+use Rattle.rule_segments.specs.Segments.{Segment, live_in, live_among, weight, AreFew, AreHalfLive, AreTapered, IsAbove, IsHalfLive, LastIsAbove}
 
 -- ---- they are few
 
@@ -56,13 +56,14 @@ live_push segments one = flat_map-append live_in segments (one ∷ []) ∙ ap (�
 pub record Tapers (segments left next : List Segment) : Type 0 where
   pub same : live_among left ++ live_among next ≡ live_among segments
   pub taper : AreTapered next
+  pub half : AreHalfLive next
   pub above : LastIsAbove left next
 
 pub tapers_first : (segments : List Segment) → Tapers segments segments []
-tapers_first segments = record { same = append-nil (live_among segments); taper = tt; above = λ k last e. tt }
+tapers_first segments = record { same = append-nil (live_among segments); taper = tt; half = tt; above = λ k last e. tt }
 
-pub tapers_last : (segments left next : List Segment) → left ≡ [] → Tapers segments left next → (live_among next ≡ live_among segments) × AreTapered next
-tapers_last segments left next none is = (subst (λ (left : List Segment). live_among left ++ live_among next ≡ live_among segments) none is.same, is.taper)
+pub tapers_last : (segments left next : List Segment) → left ≡ [] → Tapers segments left next → (live_among next ≡ live_among segments) × AreTapered next × AreHalfLive next
+tapers_last segments left next none is = (subst (λ (left : List Segment). live_among left ++ live_among next ≡ live_among segments) none is.same, is.taper, is.half)
 
 last_at : (left older : List Segment) (last : Segment) → left ≡ older ++ last ∷ [] → (k : ℕ) (d : Segment) → k + 1 ≡ length left → get_or left k d ≡ last
 last_at left older last is k d e =
@@ -82,6 +83,7 @@ tapers_skip segments left next older last is none tapers =
     record {
       same = ap (λ (rules : List Rule). rules ++ live_among next) (sym live) ∙ tapers.same;
       taper = tapers.taper;
+      half = tapers.half;
       above = λ k d e. above_none (length (live_in (get_or older k d))) next nothing;
     }
 
@@ -95,9 +97,10 @@ last_within left older last start is lt =
 -- the newest that are left are joined
 pub tapers_more : (segments left next older : List Segment) (last one : Segment) (start : ℕ) → left ≡ older ++ last ∷ [] → 0 < length (live_in last) → start < length left
     → live_in one ≡ live_among (drop start left)
+    → IsHalfLive one
     → ((k : ℕ) (d : Segment) → k + 1 ≡ start → 2 * length (live_among (drop start left)) < length (live_in (get_or left k d)))
     → Tapers segments left next → Tapers segments (take start left) (one ∷ next)
-tapers_more segments left next older last one start is some lt live apart tapers =
+tapers_more segments left next older last one start is some lt live half_live apart tapers =
     let long : length left ≡ length older + 1 = ap length is ∙ length-append older (last ∷ []) in
     let first : IsAbove (length (live_in last)) next =
     subst (λ (s : Segment). IsAbove (length (live_in s)) next) (last_at left older last is (length older) last (sym long)) (tapers.above (length older) last (sym long)) in
@@ -110,6 +113,7 @@ tapers_more segments left next older last one start is some lt live apart tapers
           ∙ sym (append_assoc (live_among (take start left)) (live_among (drop start left)) (live_among next))
           ∙ ap (λ (rules : List Rule). rules ++ live_among next) split ∙ tapers.same;
       taper = tapered_cons one next (omega arith) (above_more (length (live_in last)) (length (live_in one)) next more first) tapers.taper;
+      half = (half_live, tapers.half);
       above = λ k d e.
           let below : k < start = omega arith in
           let at : get_or (take start left) k d ≡ get_or left k d = get_or-take start left k d below in

@@ -6,7 +6,7 @@ use Rattle.rule_index.specs.Lists.{ListIndex, IsListIndexOf}
 use Rattle.rule_ids.specs.Counted.{counts_of, known_of}
 use Rattle.rule_ids.specs.declared.counts.Counts.{Counts}
 use Rattle.rule_ids.specs.declared.known_rule.KnownRule.{KnownRule}
-use Rattle.rule_segments.specs.Segments.{Segment, live_among, AreTapered}
+use Rattle.rule_segments.specs.Segments.{Segment, live_among, AreHalfLive, AreTapered}
 
 -- the index, what is known and the counts are those of the rules
 pub record AreHeld (rules : List Rule) (by_key : ListIndex) (by_id : List KnownRule) (number : Counts) : Type 0 where
@@ -14,7 +14,8 @@ pub record AreHeld (rules : List Rule) (by_key : ListIndex) (by_id : List KnownR
   pub known : IsPermutation (map known_of rules) by_id
   pub counts : number ≡ counts_of rules
 
--- the counts are those of the live rules, and the segments taper
+-- the counts are those of the live rules, the segments taper, and each is half live
 pub record AreListed (segments : List Segment) (number : Counts) : Type 0 where
   pub counts : number ≡ counts_of (live_among segments)
   pub taper : AreTapered segments
+  pub half : AreHalfLive segments

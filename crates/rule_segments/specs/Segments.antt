@@ -1,5 +1,5 @@
 -- Rules that stand in segments, oldest first, of which some are removed.
-use Rattle.std.specs.Prelude.{◌≡◌, ℕ, ◌+◌, ◌*◌, ◌^◌, ◌<◌, ◌≤◌, ◌==◌, List, [], ◌∷◌, filter, flat_map, length, map, slice_index_or}
+use Rattle.std.specs.Prelude.{◌≡◌, ℕ, ◌+◌, ◌*◌, ◌^◌, ◌<◌, ◌≤◌, ◌==◌, List, [], ◌∷◌, filter, flat_map, length, map, slice_index_or, All}
 use Rattle.rule_spec.specs.Rule.{Rule}
 use Rattle.update_spec.specs.Update.{without_ids}
 use Rattle.index_laws.specs.Segments as law
@@ -19,6 +19,13 @@ live_among segments = flat_map live_in segments
 -- the segments are few for so many rules
 abbrev pub AreFew : List Segment → Type 0
 AreFew segments = 2 ^ length segments ≤ 2 * length (live_among segments) + 1
+
+-- at least half of its rules are live
+abbrev pub IsHalfLive : Segment → Type 0
+IsHalfLive segment = length segment.rules ≤ 2 * length (live_in segment)
+
+abbrev pub AreHalfLive : List Segment → Type 0
+AreHalfLive segments = All IsHalfLive segments
 
 abbrev pub of_id : ℕ → List Rule → List Rule
 of_id id rules = filter (λ rule. id == rule.id) rules

@@ -1,7 +1,7 @@
 ghost use Rattle.std.specs.Prelude.{◌≡◌, ◌+◌, ◌*◌, ◌<◌, ◌≤◌, ◌↔◌, ℕ, drop, length, slice_index_or, IsTrue, IfOk};
 ghost use Rattle.rule_ids.specs.Counted.{counts_of};
 ghost use Rattle.rule_segments.specs.Segments as spec;
-ghost use Rattle.rule_segments.specs.Segments.{AreTapered, live_in, live_among};
+ghost use Rattle.rule_segments.specs.Segments.{AreHalfLive, AreTapered, IsHalfLive, live_in, live_among};
 
 use crate::indexed_rules::IndexedRules;
 use crate::segment::Segment;
@@ -22,7 +22,8 @@ pub(crate) fn total(segments: &[Segment]) -> Result<Counts, NoMemory>
 
 // One segment of the live rules of all.
 fn remade(alloc: Global, segments: &[Segment]) -> Result<Segment, NoMemory>
-    ensures { IfOk result (λ one. live_in one ≡ live_among segments.now) }
+    ensures live { IfOk result (λ one. live_in one ≡ live_among segments.now) }
+    ensures half { IfOk result IsHalfLive }
 {
     let mut handles = Vec::new(alloc);
     for segment in segments {
@@ -33,7 +34,8 @@ fn remade(alloc: Global, segments: &[Segment]) -> Result<Segment, NoMemory>
 
 // The same, which is the only one itself where half of its rules are live.
 fn joined(alloc: Global, segments: &[Segment]) -> Result<Segment, NoMemory>
-    ensures { IfOk result (λ one. live_in one ≡ live_among segments.now) }
+    ensures live { IfOk result (λ one. live_in one ≡ live_among segments.now) }
+    ensures half { IfOk result IsHalfLive }
 {
     if segments.len() == 1 && segments[0].is_half_live() {
         return segments[0].again();
@@ -64,10 +66,12 @@ fn start_of_last(segments: &[Segment]) -> Result<usize, NoMemory>
     Ok(start)
 }
 
-// The live rules of the segments in segments that taper. From the newest on, those are joined that would not taper.
+// The live rules of the segments in segments that taper. From the newest on, those are joined that would not taper, and
+// one of which less than half is live is made anew.
 pub(crate) fn tapered(alloc: Global, segments: &[Segment]) -> Result<Vec<Segment>, NoMemory>
     ensures same { IfOk result (λ next. live_among next.items ≡ live_among segments.now) }
     ensures taper { IfOk result (λ next. AreTapered next.items) }
+    ensures half { IfOk result (λ next. AreHalfLive next.items) }
 {
     let mut next = Vec::new(alloc);
     let mut left = segments;

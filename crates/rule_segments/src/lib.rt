@@ -6,6 +6,7 @@
 
 mod indexed_rules;
 mod joining;
+mod kept_rules;
 mod rule_list;
 mod segment;
 mod shared_rule;
@@ -13,6 +14,7 @@ mod shared_rule;
 pub use dnr_base::NoMemory;
 pub use dnr_rules::Rule;
 pub use indexed_rules::IndexedRules;
+pub use kept_rules::KeptRules;
 pub use rule_ids::OffIds;
 pub use rule_index::ListIndex;
 pub use rule_list::RuleList;

@@ -1,13 +1,12 @@
-ghost use Rattle.std.specs.Prelude.{◌≡◌, ◌++◌, [], ◌∷◌, length, count_by, flat_map, IfOk};
-ghost use Rattle.std.specs.List.{list_any};
-ghost use Rattle.update_spec.specs.Judge.{uses_regex, count_unsafe, has_id};
+ghost use Rattle.std.specs.Prelude.{◌≡◌, [], length, count_by, IfOk};
+ghost use Rattle.update_spec.specs.Judge.{uses_regex, count_unsafe};
 ghost use Rattle.update_spec.specs.Update.{without_ids};
 ghost use Rattle.rule_ids.specs.Counted.{counts_of};
 ghost use Rattle.rule_ids.specs.Off.{AreApart};
-ghost use Rattle.rule_segments.specs.Segments.{AreFew, live_among, live_in};
+ghost use Rattle.rule_segments.specs.Segments.{AreFew, AreHalfLive, live_among};
 
-use crate::indexed_rules::IndexedRules;
 use crate::joining::{tapered, total};
+use crate::kept_rules::KeptRules;
 use crate::segment::Segment;
 use dnr_base::NoMemory;
 use rule_ids::{Counts, distinct};
@@ -35,35 +34,18 @@ impl Model for RuleList {
     ghost invariant = { λ l. AreListed l.segments.items l.counts };
 }
 
-// The same segments once more.
-fn again(alloc: Global, segments: &[Segment]) -> Result<Vec<Segment>, NoMemory>
-    ensures { IfOk result (λ again. again.items ≡ segments.now) }
-{
-    let mut again = Vec::with_capacity(alloc, segments.len().saturating_add(1))?;
-    for segment in segments {
-        again.push(segment.again()?)?;
-    }
-    Ok(again)
-}
-
 // The segments without the rules of these ids.
 #[tactic(auto, using(crate::proofs::Removed::without_more))]
 fn without(alloc: Global, segments: &[Segment], remove: &[u32]) -> Result<Vec<Segment>, NoMemory>
     requires { AreApart remove.now }
     ensures { IfOk result (λ next. live_among next.items ≡ without_ids remove.now (live_among segments.now)) }
 {
-    let mut next = Vec::with_capacity(alloc, segments.len())?;
+    // (one may come behind them)
+    let mut next = Vec::with_capacity(alloc, segments.len().saturating_add(1))?;
     for segment in segments {
         next.push(segment.without(alloc, remove)?)?;
     }
     Ok(next)
-}
-
-// Whether a live rule of one of the segments has this id.
-fn has_live(segments: &[Segment], id: u32) -> bool
-    ensures { result ≡ list_any (λ segment. has_id (live_in segment) id) segments.now }
-{
-    segments.iter().any(|segment| segment.has_live(id))
 }
 
 impl RuleList {
@@ -78,7 +60,7 @@ impl RuleList {
     }
 
     // The live rules of the segments.
-    fn of(alloc: Global, segments: &[Segment]) -> Result<RuleList, NoMemory>
+    pub(crate) fn of(alloc: Global, segments: &[Segment]) -> Result<RuleList, NoMemory>
         ensures { IfOk result (λ list. list ≡ live_among segments.now) }
     {
         let segments = tapered(alloc, segments)?;
@@ -105,6 +87,7 @@ impl RuleList {
     pub fn segments(&self) -> &[Segment]
         ensures live { live_among result.now ≡ self.now }
         ensures few { AreFew result.now }
+        ensures half { AreHalfLive result.now }
     {
         self.segments.as_slice()
     }
@@ -123,32 +106,14 @@ impl RuleList {
         self.counts().unsafe_rules
     }
 
-    /// Whether one of the rules has this id. It is asked in the time of a search in each segment.
-    pub fn has_id(&self, id: u32) -> bool
-        ensures { result ≡ has_id self.now id }
-    {
-        has_live(self.segments(), id)
-    }
-
     /// The rules that stay when those of these ids are removed.
     ///
     /// `NoMemory`: no memory is left for what changes.
-    pub fn without(&self, alloc: Global, remove: &[u32]) -> Result<RuleList, NoMemory>
+    pub fn without(&self, alloc: Global, remove: &[u32]) -> Result<KeptRules, NoMemory>
         ensures { IfOk result (λ kept. kept ≡ without_ids remove.now self.now) }
     {
         let remove = distinct(alloc, remove)?;
         let segments = without(alloc, self.segments(), remove.as_slice())?;
-        RuleList::of(alloc, segments.as_slice())
-    }
-
-    /// The rules and these behind them, which are a segment of their own or part of one.
-    ///
-    /// `NoMemory`: no memory is left for what changes.
-    pub fn with(&self, alloc: Global, add: &IndexedRules) -> Result<RuleList, NoMemory>
-        ensures { IfOk result (λ next. next ≡ self.now ++ add.now) }
-    {
-        let mut segments = again(alloc, self.segments())?;
-        segments.push(Segment::of(alloc, add.again()?)?)?;
-        RuleList::of(alloc, segments.as_slice())
+        Ok(KeptRules::of(segments))
     }
 }

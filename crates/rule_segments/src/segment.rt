@@ -1,9 +1,9 @@
-ghost use Rattle.std.specs.Prelude.{◌≡◌, ◌++◌, ◌*◌, ◌≤◌, ◌↔◌, [], filter, length, IsTrue, IfOk, OnOk};
+ghost use Rattle.std.specs.Prelude.{◌≡◌, ◌++◌, ◌↔◌, [], filter, length, IsTrue, IfOk, OnOk};
 ghost use Rattle.update_spec.specs.Judge.{has_id};
 ghost use Rattle.update_spec.specs.Update.{without_ids};
 ghost use Rattle.rule_ids.specs.Counted.{counts_of};
 ghost use Rattle.rule_ids.specs.Off.{AreApart};
-ghost use Rattle.rule_segments.specs.Segments.{live_in};
+ghost use Rattle.rule_segments.specs.Segments.{IsHalfLive, live_in};
 
 use crate::indexed_rules::IndexedRules;
 use crate::shared_rule::SharedRule;
@@ -39,7 +39,8 @@ impl Segment {
     // These rules, of which none is removed.
     #[tactic(auto, using(crate::proofs::Removed::none_removed))]
     pub(crate) fn of(alloc: Global, rules: IndexedRules) -> Result<Segment, NoMemory>
-        ensures { IfOk result (λ segment. live_in segment ≡ rules) }
+        ensures whole { IfOk result (λ segment. segment.rules ≡ rules) }
+        ensures live { IfOk result (λ segment. live_in segment ≡ rules) }
     {
         let counts = rules.counts();
         Ok(Segment {
@@ -79,7 +80,7 @@ impl Segment {
 
     // Whether half of the rules are live.
     pub(crate) fn is_half_live(&self) -> bool
-        ensures { IsTrue result ↔ length self.now.rules ≤ 2 * length (live_in self.now) }
+        ensures { IsTrue result ↔ IsHalfLive self.now }
     {
         self.rules.len().saturating_sub(self.len()) <= self.len()
     }

@@ -12,4 +12,4 @@ mod sets;
 
 pub use dnr_base::NoMemory;
 pub use dnr_rules::Rule;
-pub use rules::write_rules;
+pub use rules::{rule_value, write_rules};

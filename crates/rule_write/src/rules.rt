@@ -48,8 +48,11 @@ fn rule_text(alloc: Global, rule: &Rule) -> Result<Vec<u8>, NoMemory>
     Ok(value.to_vec(alloc)?)
 }
 
+/// A rule as a JSON value, in the form in which rules are read.
+///
+/// `NoMemory`: no memory is left for the value.
 #[tactic(auto, unfolding(json_spec::specs::Written::rule_written))]
-fn rule_value(alloc: Global, rule: &Rule) -> Result<Value, NoMemory>
+pub fn rule_value(alloc: Global, rule: &Rule) -> Result<Value, NoMemory>
     ensures { IfOk result (λ value. view value ≡ rule_written rule.now) }
 {
     let mut members = Map::new(alloc);

@@ -24,7 +24,7 @@ pub use extension::Extension;
 pub use installed::InstalledExtension;
 pub use installed_set::InstalledSet;
 pub use match_patterns::MatchPattern;
-pub use rule_segments::{IndexedRules, OffIds, RuleList, Segment, SharedRule};
+pub use rule_segments::{IndexedRules, KeptRules, OffIds, RuleList, Segment, SharedRule};
 pub use rule_set::{RuleSet, SharedSet};
 pub use store::Store;
 pub use update::{BatchRefusal, Update};

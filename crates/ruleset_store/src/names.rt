@@ -10,7 +10,7 @@ ghost use Rattle.ruleset_store.specs.Seen.{Answers};
 ghost use Rattle.ruleset_store.specs.Tests as tests;
 
 use crate::ids::{has_whole, wholes_among};
-use crate::{InstalledExtension, InstalledSet, RuleList, SharedRule};
+use crate::{InstalledExtension, InstalledSet, KeptRules, SharedRule};
 use dnr_base::{NoMemory, Text};
 use std::alloc::Global;
 use std::collections::BTreeSet;
@@ -149,14 +149,14 @@ pub(crate) fn judge_both(alloc: Global, disable: &[i128], enable: &[i128]) -> Re
 }
 
 // The first of the rules whose id one of the others has.
-fn first_taken<'a>(others: &RuleList, add: &'a [SharedRule]) -> Option<&'a SharedRule>
+fn first_taken<'a>(others: &KeptRules, add: &'a [SharedRule]) -> Option<&'a SharedRule>
     ensures { option_copied result ≡ find (λ rule. has_id others.now rule.id) add.now }
 {
     add.iter().find(|rule| others.has_id(rule.rule().id()))
 }
 
 // The first rule to add is refused whose id one of the others has.
-pub(crate) fn judge_ids(others: &RuleList, add: &[SharedRule]) -> Result<(), Refusal>
+pub(crate) fn judge_ids(others: &KeptRules, add: &[SharedRule]) -> Result<(), Refusal>
     ensures { Answers (tests.id_test others.now add.now) result }
 {
     match first_taken(others, add) {

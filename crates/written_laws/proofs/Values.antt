@@ -61,14 +61,14 @@ rule_fields rule =
 
 -- ---- texts, numbers and lists
 
-text_back : (n : ℕ) (text : List ℕ) → IsBack n (string text)
+pub text_back : (n : ℕ) (text : List ℕ) → IsBack n (string text)
 text_back n text = record { value = refl; numbers = tt; shallow = omega arith }
 
 flag_back : (n : ℕ) (flag : Bool) → IfSome (if_true flag) (IsBack n)
 flag_back n true = record { value = refl; numbers = tt; shallow = omega arith }
 flag_back n false = tt
 
-number_back : (n m : ℕ) → m < 2 ^ 64 → IsBack n (number (unsigned m))
+pub number_back : (n m : ℕ) → m < 2 ^ 64 → IsBack n (number (unsigned m))
 number_back n m small = record { value = ap (option_map number) (number_of-decimal m small); numbers = IsNumber-decimal m small; shallow = omega arith }
 
 tab_back : (n : ℕ) (tab : ℤ) → is_tab tab ≡ true → IsBack n (tab_written tab)
@@ -77,7 +77,7 @@ tab_back n (negsuc m) is =
     let small : m < 2 ^ 63 = grind (arith, nat_tests) in
     record { value = ap (option_map number) (number_of-negative m small); numbers = IsNumber-signed_decimal (negsuc m) small; shallow = omega arith }
 
-deeper : (m n : ℕ) (d : Data) → m ≤ n → IsBack m d → IsBack n d
+pub deeper : (m n : ℕ) (d : Data) → m ≤ n → IsBack m d → IsBack n d
 deeper m n d near b = record { value = b.value; numbers = b.numbers; shallow = omega (arith, b.shallow) }
 
 everywhere : {X : Type 0} (P : X → Type 0) → ((x : X) → P x) → (list : List X) → AllByRecursion P list
@@ -266,7 +266,7 @@ action_back action = object_back 5 (action_fields action) (text_back 5 _, target
 
 -- ---- rules
 
-rule_back : (rule : Rule) → IsRule rule → IsBack 7 (rule_written rule)
+pub rule_back : (rule : Rule) → IsRule rule → IsBack 7 (rule_written rule)
 unfolding rule_written
 rule_back rule is =
     object_back 6 (rule_fields rule) (

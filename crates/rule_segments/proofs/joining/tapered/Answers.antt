@@ -12,7 +12,7 @@ loop-last-preserved-then-len-eq0 c =
 pub loop-last-preserved : goal.loop-last-preserved
 loop-last-preserved c =
     let some : 0 < length (live_in c.in-Some.last.now) = (let e = c.len.ensures in let f = c.if-len-eq0.false in omega arith) in
-    let live = c.in_ok-joined.ensures ∙ ap live_among (between_to_end c.loop-last.left.now c.in_ok-start.start (length c.loop-last.left.now) (omega arith)) in
+    let live = c.in_ok-joined.ensures.live ∙ ap live_among (between_to_end c.loop-last.left.now c.in_ok-start.start (length c.loop-last.left.now) (omega arith)) in
     rw c.in_ok-insert.ensures.items
     (tapers_more c.args.segments.now c.loop-last.left.now c.loop-last.next.items c.in-Some.older.now c.in-Some.last.now c.in_ok-joined.field-0 c.in_ok-start.start
-    c.in-Some.ensures.cases.0 some c.in_ok-start.ensures.within live c.in_ok-start.ensures.apart c.loop-last.invariant)
+    c.in-Some.ensures.cases.0 some c.in_ok-start.ensures.within live c.in_ok-joined.ensures.half c.in_ok-start.ensures.apart c.loop-last.invariant)
