@@ -7,7 +7,7 @@ use crate::AskRefusal;
 use crate::answering::answer;
 use dnr_base::NoMemory;
 use generation::Generation;
-use regex_host::PackHost;
+use regex_host::{PackHost, RegexHost};
 use script_read::Memo;
 use std::alloc::Global;
 use std::marker::Model;

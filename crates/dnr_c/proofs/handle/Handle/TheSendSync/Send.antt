@@ -12,7 +12,7 @@ use Rattle.std.proofs.Crossing as heap
 use Rattle.std_alloc.proofs.SendSync.{quiet, lies}
 use Rattle.std_heap.proofs.Global.TheSendSync as handle
 use Rattle.engine.specs.contracts.engine.Engine as Engine
-use Rattle.low.proofs.Engine.TheSendSync.{the_send as engine}
+use Rattle.engine.proofs.engine.Engine.TheSendSync.{the_send as engine}
 use Rattle.dnr_c.specs.Owns.{handle_owns}
 use Rattle.dnr_c.specs.contracts.handle.Handle.{the_row, the_type}
 
