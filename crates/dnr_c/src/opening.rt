@@ -1,5 +1,5 @@
 // The opening of a seat.
-ghost use Rattle.std.specs.Prelude.{◌≡◌, ◌≢◌, ◌≤◌, Some, take, IfOk, IfErr, length as length_of};
+ghost use Rattle.std.specs.Prelude.{◌≡◌, ◌≢◌, Some, IfOk, IfErr};
 ghost use Rattle.session_spec.specs.Words.{task_of};
 ghost use Rattle.engine.specs.Opening.{EndsFor, IsOpenedBy};
 ghost use Rattle.dnr_c.specs.Codes as code;
@@ -12,7 +12,7 @@ use crate::given::{GivenFile, GivenText, are_texts, files_of, words_of};
 use crate::handle::Handle;
 use crate::seat::Seat;
 use dnr_base::NoMemory;
-use engine::{Engine, OpenRefusal};
+use engine::{Engine, OpenRefusal, put_front};
 use std::alloc::Global;
 
 /// Why a seat is not opened.
@@ -91,21 +91,10 @@ fn tell_refusal(refusal: &OpenRefusal, out: &mut [u8]) -> Told
         OpenRefusal::Usage => told(USAGE),
         OpenRefusal::Refused(line) => Told {
             code: REFUSED,
-            length: put(line.as_bytes(), out),
+            length: put_front(line.as_bytes(), out),
         },
         OpenRefusal::NoFile => told(NO_FILE),
         OpenRefusal::TooLong => told(TOO_LONG),
         OpenRefusal::NoMemory => told(NO_MEMORY),
     }
-}
-
-// Puts a line at the front of `out`, if there is room for it, and gives its length.
-fn put(line: &[u8], out: &mut [u8]) -> usize
-    ensures long { result ≡ length_of line.now }
-    ensures written { length_of line.now ≤ length_of out.new → take result out.new ≡ line.now }
-{
-    if line.len() <= out.len() {
-        out[..line.len()].copy_from_slice(line);
-    }
-    line.len()
 }

@@ -3,8 +3,8 @@ ghost use Rattle.std.specs.Arc.{arc_value};
 ghost use Rattle.engine.specs.Asking.{Answers, AskFails, Stays, left_by};
 ghost use Rattle.engine.specs.Held.{no_faults};
 
-use crate::AskRefusal;
 use crate::answering::answer;
+use crate::{AskRefusal, put_front};
 use dnr_base::NoMemory;
 use generation::Generation;
 use regex_host::{PackHost, RegexHost};
@@ -107,8 +107,7 @@ impl Engine {
             return Err(AskRefusal::Room(count));
         }
         self.go_on(alloc, next)?;
-        out[..count].copy_from_slice(text.as_bytes());
-        Ok(count)
+        Ok(put_front(text.as_bytes(), out))
     }
 
     // Puts what the line says into an empty text, and gives the generation that it leaves, if that is another.

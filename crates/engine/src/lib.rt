@@ -11,6 +11,8 @@ mod engine;
 mod installing;
 mod opening;
 mod refusal;
+mod room;
 
 pub use engine::Engine;
 pub use refusal::{AskRefusal, OpenRefusal};
+pub use room::put_front;
