@@ -1,10 +1,10 @@
 // The calls of an open seat. Each takes the seat and gives it back.
 ghost use Rattle.std.specs.Prelude.{◌≡◌, ◌≢◌, ◌≤◌, ◌↔◌, Some, None, take, IfOk, IfErr, length as length_of};
 ghost use Rattle.engine.specs.Asking.{Answers, Stays, TakesMore};
-ghost use Rattle.dnr_c.specs.Codes as code;
+ghost use Rattle.dnr_c.specs.Codes as codes;
 ghost use Rattle.dnr_c.specs.Ends.{Answered, IsShare, Keeps, LacksRoom};
 
-use crate::code::{DONE, IS_CLOSED, NO_MEMORY, NO_ROOM, Told, told};
+use crate::code::{DONE, IS_CLOSED, NO_MEMORY, NO_ROOM, Told, alone};
 use crate::handle::Handle;
 use crate::opening::seated;
 use crate::seat::Seat;
@@ -20,15 +20,15 @@ pub(crate) fn asked(
     line: &[u8],
     out: &mut [u8],
 ) -> (Seat, Told)
-    ensures answered { result.1.code ≡ code.done → Answered seat.handle.engine number line.now (take result.1.length out.new) result.0.handle.engine }
-    ensures within { result.1.code ≡ code.done → result.1.length ≤ length_of out.new }
-    ensures stays { result.1.code ≢ code.done → Keeps seat.handle.engine result.0.handle.engine }
-    ensures untouched { result.1.code ≢ code.done → out.new ≡ out.old }
-    ensures room { result.1.code ≡ code.no_room → LacksRoom seat.handle.engine number line.now result.1.length (length_of out.old) }
-    ensures closed { (result.1.code ≡ code.is_closed) ↔ (seat.handle.engine ≡ None) }
+    ensures answered { result.1.code ≡ codes.done → Answered seat.handle.engine number line.now (take result.1.length out.new) result.0.handle.engine }
+    ensures within { result.1.code ≡ codes.done → result.1.length ≤ length_of out.new }
+    ensures stays { result.1.code ≢ codes.done → Keeps seat.handle.engine result.0.handle.engine }
+    ensures untouched { result.1.code ≢ codes.done → out.new ≡ out.old }
+    ensures room { result.1.code ≡ codes.no_room → LacksRoom seat.handle.engine number line.now result.1.length (length_of out.old) }
+    ensures closed { (result.1.code ≡ codes.is_closed) ↔ (seat.handle.engine ≡ None) }
 {
     if !seat.is_open {
-        return (seat, told(IS_CLOSED));
+        return (seat, alone(IS_CLOSED));
     }
     let mut engine = seat.handle.into_box();
     let answer = ask(&mut engine, alloc, number, line, out);
@@ -43,12 +43,12 @@ pub(crate) fn asked(
 }
 
 fn ask(engine: &mut Engine, alloc: Global, number: u32, line: &[u8], out: &mut [u8]) -> Told
-    ensures answered { result.code ≡ code.done → Answers engine.old number line.now (take result.length out.new) engine.new }
-    ensures within { result.code ≡ code.done → result.length ≤ length_of out.new }
-    ensures stays { result.code ≢ code.done → Stays engine.old engine.new }
-    ensures untouched { result.code ≢ code.done → out.new ≡ out.old }
-    ensures room { result.code ≡ code.no_room → TakesMore engine.old number line.now result.length (length_of out.old) }
-    ensures open { result.code ≢ code.is_closed }
+    ensures answered { result.code ≡ codes.done → Answers engine.old number line.now (take result.length out.new) engine.new }
+    ensures within { result.code ≡ codes.done → result.length ≤ length_of out.new }
+    ensures stays { result.code ≢ codes.done → Stays engine.old engine.new }
+    ensures untouched { result.code ≢ codes.done → out.new ≡ out.old }
+    ensures room { result.code ≡ codes.no_room → TakesMore engine.old number line.now result.length (length_of out.old) }
+    ensures open { result.code ≢ codes.is_closed }
 {
     match engine.ask(alloc, number, line, out) {
         Ok(length) => Told { code: DONE, length },
@@ -56,7 +56,7 @@ fn ask(engine: &mut Engine, alloc: Global, number: u32, line: &[u8], out: &mut [
             code: NO_ROOM,
             length,
         },
-        Err(AskRefusal::NoMemory) => told(NO_MEMORY),
+        Err(AskRefusal::NoMemory) => alone(NO_MEMORY),
     }
 }
 
@@ -64,8 +64,8 @@ fn ask(engine: &mut Engine, alloc: Global, number: u32, line: &[u8], out: &mut [
 pub(crate) fn shared(seat: Seat, alloc: Global) -> (Seat, Result<Seat, u32>)
     ensures same { result.0.handle.engine ≡ seat.handle.engine }
     ensures share { IfOk result.1 (λ other. IsShare seat.handle.engine other.handle.engine) }
-    ensures failed { IfErr result.1 (λ number. number ≢ code.done) }
-    ensures closed { IfErr result.1 (λ number. (number ≡ code.is_closed) ↔ (seat.handle.engine ≡ None)) }
+    ensures failed { IfErr result.1 (λ number. number ≢ codes.done) }
+    ensures closed { IfErr result.1 (λ number. (number ≡ codes.is_closed) ↔ (seat.handle.engine ≡ None)) }
 {
     if !seat.is_open {
         return (seat, Err(IS_CLOSED));
@@ -84,7 +84,7 @@ pub(crate) fn shared(seat: Seat, alloc: Global) -> (Seat, Result<Seat, u32>)
 
 fn share(engine: &Engine, alloc: Global) -> Result<Seat, u32>
     ensures share { IfOk result (λ other. IsShare (Some engine.now) other.handle.engine) }
-    ensures failed { IfErr result (λ number. number ≡ code.no_memory) }
+    ensures failed { IfErr result (λ number. number ≡ codes.no_memory) }
 {
     match engine.share(alloc) {
         Ok(other) => match seated(alloc, other) {
@@ -98,8 +98,8 @@ fn share(engine: &Engine, alloc: Global) -> Result<Seat, u32>
 // Ends the seat's engine.
 pub(crate) fn ended(seat: Seat, alloc: Global) -> (Seat, u32)
     ensures closed { result.0.handle.engine ≡ None }
-    ensures done { (result.1 ≡ code.done) ↔ (seat.handle.engine ≢ None) }
-    ensures otherwise { result.1 ≢ code.done → result.1 ≡ code.is_closed }
+    ensures done { (result.1 ≡ codes.done) ↔ (seat.handle.engine ≢ None) }
+    ensures otherwise { result.1 ≢ codes.done → result.1 ≡ codes.is_closed }
 {
     if !seat.is_open {
         return (seat, IS_CLOSED);

@@ -29,7 +29,7 @@ pub(crate) struct Told {
 }
 
 // The code alone.
-pub(crate) fn told(code: u32) -> Told
+pub(crate) fn alone(code: u32) -> Told
     ensures { result ≡ record { code = code; length = 0 } }
 {
     Told { code, length: 0 }

@@ -1,7 +1,7 @@
 // What C hands over.
 ghost use Rattle.std.specs.Prelude.{◌≡◌, map, IfOk, string_bytes};
 ghost use Rattle.std.specs.Str.{is_utf8};
-ghost use Rattle.dnr_c.specs.Given as given;
+ghost use Rattle.dnr_c.specs.Given as from_c;
 
 use dnr_base::NoMemory;
 use dnr_io::MemoryFile;
@@ -25,32 +25,36 @@ pub struct GivenFile<'a> {
 
 // Whether the words and the names are texts.
 pub(crate) fn are_texts(words: &[GivenText<'_>], files: &[GivenFile<'_>]) -> bool
-    ensures { result ≡ given.are_texts words.now files.now }
+    ensures { result ≡ from_c.are_texts words.now files.now }
 {
     are_words(words) && are_names(files)
 }
 
 fn are_words(words: &[GivenText<'_>]) -> bool
-    ensures { result ≡ given.are_words words.now }
+    ensures { result ≡ from_c.are_words words.now }
 {
     words.iter().all(|word| is_text(word.bytes))
 }
 
 fn are_names(files: &[GivenFile<'_>]) -> bool
-    ensures { result ≡ given.are_names files.now }
+    ensures { result ≡ from_c.are_names files.now }
 {
     files.iter().all(|file| is_text(file.name))
 }
 
+#[tactic(auto, using(crate::proofs::Texts::text_is, crate::proofs::Texts::no_text_is))]
 fn is_text(bytes: &[u8]) -> bool
     ensures { result ≡ is_utf8 bytes.now }
 {
-    str::from_utf8(bytes).is_ok()
+    match str::from_utf8(bytes) {
+        Ok(_) => true,
+        Err(_) => false,
+    }
 }
 
 // A copy of the words. Where one is no text there is none.
 pub(crate) fn words_of(alloc: Global, words: &[GivenText<'_>]) -> Result<Vec<String>, NoMemory>
-    ensures { IfOk result (λ all. map string_bytes all.items ≡ given.words_of words.now) }
+    ensures { IfOk result (λ all. map string_bytes all.items ≡ from_c.words_of words.now) }
 {
     let mut all = Vec::with_capacity(alloc, words.len())?;
     for word in words {
@@ -64,7 +68,7 @@ pub(crate) fn files_of(
     alloc: Global,
     files: &[GivenFile<'_>],
 ) -> Result<Vec<MemoryFile>, NoMemory>
-    ensures { IfOk result (λ all. all.items ≡ given.files_of files.now) }
+    ensures { IfOk result (λ all. all.items ≡ from_c.files_of files.now) }
 {
     let mut all = Vec::with_capacity(alloc, files.len())?;
     for file in files {
@@ -74,7 +78,7 @@ pub(crate) fn files_of(
 }
 
 fn file_of(alloc: Global, file: &GivenFile<'_>) -> Result<MemoryFile, NoMemory>
-    ensures { IfOk result (λ copy. copy ≡ given.file_of file.now) }
+    ensures { IfOk result (λ copy. copy ≡ from_c.file_of file.now) }
 {
     let name = text_of(alloc, file.name)?;
     let mut bytes = Vec::new(alloc);

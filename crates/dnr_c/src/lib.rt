@@ -7,10 +7,10 @@
 
 ghost use Rattle.std.specs.Prelude.{◌≡◌, ◌≢◌, ◌≤◌, ◌↔◌, None, take, length as length_of};
 ghost use Rattle.session_spec.specs.Words.{task_of};
-ghost use Rattle.dnr_c.specs.Codes as code;
+ghost use Rattle.dnr_c.specs.Codes as codes;
 ghost use Rattle.dnr_c.specs.Ends.{Answered, IsShare, Keeps, LacksRoom, Opened};
 ghost use Rattle.dnr_c.specs.Faults.{IsRefused};
-ghost use Rattle.dnr_c.specs.Given as given;
+ghost use Rattle.dnr_c.specs.Given as from_c;
 
 mod asking;
 mod code;
@@ -24,7 +24,7 @@ use asking::{asked, ended, shared};
 use code::{DONE, IS_OPENED};
 use core::mem::replace_with;
 use given::{GivenFile, GivenText};
-use opening::{opened, tell};
+use opening::{open_seat, tell};
 use seat::Seat;
 use std::alloc::Global;
 use std::marker::Send;
@@ -41,16 +41,16 @@ pub extern "C" fn dnr_open(
     out: &mut [u8],
     length: &mut usize,
 ) -> u32
-    ensures opened { result ≡ code.done → Opened (task_of (given.words_of words.now)) (given.files_of files.now) seat.new.handle.engine }
-    ensures same { result ≢ code.done → seat.new.handle.engine ≡ seat.old.handle.engine }
-    ensures is_opened { (result ≡ code.is_opened) ↔ (seat.old.handle.engine ≢ None) }
-    ensures refused { result ≢ code.done → result ≢ code.is_opened → IsRefused words.now files.now result length.new out.new }
+    ensures opened { result ≡ codes.done → Opened (task_of (from_c.words_of words.now)) (from_c.files_of files.now) seat.new.handle.engine }
+    ensures same { result ≢ codes.done → seat.new.handle.engine ≡ seat.old.handle.engine }
+    ensures is_opened { (result ≡ codes.is_opened) ↔ (seat.old.handle.engine ≢ None) }
+    ensures refused { result ≢ codes.done → result ≢ codes.is_opened → IsRefused words.now files.now result length.new out.new }
 {
     *length = 0;
     if seat.is_open {
         return IS_OPENED;
     }
-    match opened(alloc, words, files) {
+    match open_seat(alloc, words, files) {
         Ok(new) => {
             *seat = new;
             DONE
@@ -75,12 +75,12 @@ pub extern "C" fn dnr_ask(
     out: &mut [u8],
     length: &mut usize,
 ) -> u32
-    ensures answered { result ≡ code.done → Answered seat.old.handle.engine number line.now (take length.new out.new) seat.new.handle.engine }
-    ensures within { result ≡ code.done → length.new ≤ length_of out.new }
-    ensures stays { result ≢ code.done → Keeps seat.old.handle.engine seat.new.handle.engine }
-    ensures untouched { result ≢ code.done → out.new ≡ out.old }
-    ensures room { result ≡ code.no_room → LacksRoom seat.old.handle.engine number line.now length.new (length_of out.old) }
-    ensures closed { (result ≡ code.is_closed) ↔ (seat.old.handle.engine ≡ None) }
+    ensures answered { result ≡ codes.done → Answered seat.old.handle.engine number line.now (take length.new out.new) seat.new.handle.engine }
+    ensures within { result ≡ codes.done → length.new ≤ length_of out.new }
+    ensures stays { result ≢ codes.done → Keeps seat.old.handle.engine seat.new.handle.engine }
+    ensures untouched { result ≢ codes.done → out.new ≡ out.old }
+    ensures room { result ≡ codes.no_room → LacksRoom seat.old.handle.engine number line.now length.new (length_of out.old) }
+    ensures closed { (result ≡ codes.is_closed) ↔ (seat.old.handle.engine ≡ None) }
 {
     let told = replace_with(seat, out, |seat, out| asked(seat, alloc, number, line, out));
     *length = told.length;
@@ -92,10 +92,10 @@ pub extern "C" fn dnr_ask(
 #[unsafe(no_mangle)]
 pub extern "C" fn dnr_share(alloc: Global, seat: &mut Seat, other: &mut Seat) -> u32
     ensures same { seat.new.handle.engine ≡ seat.old.handle.engine }
-    ensures share { result ≡ code.done → IsShare seat.old.handle.engine other.new.handle.engine }
-    ensures unshared { result ≢ code.done → other.new.handle.engine ≡ other.old.handle.engine }
-    ensures is_opened { (result ≡ code.is_opened) ↔ (other.old.handle.engine ≢ None) }
-    ensures closed { result ≡ code.is_closed → seat.old.handle.engine ≡ None }
+    ensures share { result ≡ codes.done → IsShare seat.old.handle.engine other.new.handle.engine }
+    ensures unshared { result ≢ codes.done → other.new.handle.engine ≡ other.old.handle.engine }
+    ensures is_opened { (result ≡ codes.is_opened) ↔ (other.old.handle.engine ≢ None) }
+    ensures closed { result ≡ codes.is_closed → seat.old.handle.engine ≡ None }
 {
     if other.is_open {
         return IS_OPENED;
@@ -113,8 +113,8 @@ pub extern "C" fn dnr_share(alloc: Global, seat: &mut Seat, other: &mut Seat) ->
 #[unsafe(no_mangle)]
 pub extern "C" fn dnr_close(alloc: Global, seat: &mut Seat) -> u32
     ensures closed { seat.new.handle.engine ≡ None }
-    ensures done { (result ≡ code.done) ↔ (seat.old.handle.engine ≢ None) }
-    ensures otherwise { result ≢ code.done → result ≡ code.is_closed }
+    ensures done { (result ≡ codes.done) ↔ (seat.old.handle.engine ≢ None) }
+    ensures otherwise { result ≢ codes.done → result ≡ codes.is_closed }
 {
     replace_with(seat, alloc, |seat, alloc| ended(seat, alloc))
 }

@@ -2,12 +2,12 @@
 ghost use Rattle.std.specs.Prelude.{◌≡◌, ◌≢◌, Some, IfOk, IfErr};
 ghost use Rattle.session_spec.specs.Words.{task_of};
 ghost use Rattle.engine.specs.Opening.{EndsFor, IsOpenedBy};
-ghost use Rattle.dnr_c.specs.Codes as code;
+ghost use Rattle.dnr_c.specs.Codes as codes;
 ghost use Rattle.dnr_c.specs.Ends.{Opened};
 ghost use Rattle.dnr_c.specs.Faults.{Fails, IsToldAs};
-ghost use Rattle.dnr_c.specs.Given as given;
+ghost use Rattle.dnr_c.specs.Given as from_c;
 
-use crate::code::{NO_FILE, NO_MEMORY, NO_TEXT, REFUSED, TOO_LONG, Told, USAGE, told};
+use crate::code::{NO_FILE, NO_MEMORY, NO_TEXT, REFUSED, TOO_LONG, Told, USAGE, alone};
 use crate::given::{GivenFile, GivenText, are_texts, files_of, words_of};
 use crate::handle::Handle;
 use crate::seat::Seat;
@@ -38,12 +38,12 @@ pub(crate) fn seated(alloc: Global, engine: Engine) -> Result<Seat, NoMemory>
 }
 
 // A seat with an engine over these files, as the words say.
-pub(crate) fn opened(
+pub(crate) fn open_seat(
     alloc: Global,
     words: &[GivenText<'_>],
     files: &[GivenFile<'_>],
 ) -> Result<Seat, Fault>
-    ensures opened { IfOk result (λ seat. Opened (task_of (given.words_of words.now)) (given.files_of files.now) seat.handle.engine) }
+    ensures opened { IfOk result (λ seat. Opened (task_of (from_c.words_of words.now)) (from_c.files_of files.now) seat.handle.engine) }
     ensures failed { IfErr result (Fails words.now files.now) }
 {
     if !are_texts(words, files) {
@@ -63,8 +63,8 @@ fn engine_of(
     words: &[GivenText<'_>],
     files: &[GivenFile<'_>],
 ) -> Result<Engine, OpenRefusal>
-    ensures opened { IfOk result (IsOpenedBy (task_of (given.words_of words.now)) (given.files_of files.now)) }
-    ensures refused { IfErr result (EndsFor (task_of (given.words_of words.now)) (given.files_of files.now)) }
+    ensures opened { IfOk result (IsOpenedBy (task_of (from_c.words_of words.now)) (from_c.files_of files.now)) }
+    ensures refused { IfErr result (EndsFor (task_of (from_c.words_of words.now)) (from_c.files_of files.now)) }
 {
     let (Ok(words), Ok(files)) = (words_of(alloc, words), files_of(alloc, files)) else {
         return Err(OpenRefusal::NoMemory);
@@ -75,26 +75,26 @@ fn engine_of(
 // Tells why a seat is not opened: by a code, and by a line where there is one and room for it.
 pub(crate) fn tell(fault: &Fault, out: &mut [u8]) -> Told
     ensures told { IsToldAs fault.now result out.new }
-    ensures failed { (result.code ≢ code.done) × (result.code ≢ code.is_opened) }
+    ensures failed { (result.code ≢ codes.done) × (result.code ≢ codes.is_opened) }
 {
     match fault {
-        Fault::NoText => told(NO_TEXT),
+        Fault::NoText => alone(NO_TEXT),
         Fault::Engine(refusal) => tell_refusal(refusal, out),
     }
 }
 
 fn tell_refusal(refusal: &OpenRefusal, out: &mut [u8]) -> Told
     ensures told { IsToldAs (Fault.Engine refusal.now) result out.new }
-    ensures failed { (result.code ≢ code.done) × (result.code ≢ code.is_opened) }
+    ensures failed { (result.code ≢ codes.done) × (result.code ≢ codes.is_opened) }
 {
     match refusal {
-        OpenRefusal::Usage => told(USAGE),
+        OpenRefusal::Usage => alone(USAGE),
         OpenRefusal::Refused(line) => Told {
             code: REFUSED,
             length: put_front(line.as_bytes(), out),
         },
-        OpenRefusal::NoFile => told(NO_FILE),
-        OpenRefusal::TooLong => told(TOO_LONG),
-        OpenRefusal::NoMemory => told(NO_MEMORY),
+        OpenRefusal::NoFile => alone(NO_FILE),
+        OpenRefusal::TooLong => alone(TOO_LONG),
+        OpenRefusal::NoMemory => alone(NO_MEMORY),
     }
 }
