@@ -1,5 +1,6 @@
 -- Rules that stand in segments, oldest first, of which some are removed.
-use Rattle.std.specs.Prelude.{◌≡◌, ℕ, ◌+◌, ◌*◌, ◌^◌, ◌<◌, ◌≤◌, ◌==◌, List, [], ◌∷◌, filter, flat_map, length, map, slice_index_or, All}
+use Rattle.std.specs.Prelude.{◌≡◌, ℕ, ◌+◌, ◌*◌, ◌^◌, ◌<◌, ◌≤◌, ◌==◌, List, [], ◌∷◌, filter, flat_map, length, map, slice_index_or}
+use Rattle.std.specs.List.{AllByRecursion}
 use Rattle.rule_spec.specs.Rule.{Rule}
 use Rattle.update_spec.specs.Update.{without_ids}
 use Rattle.index_laws.specs.Segments as law
@@ -25,7 +26,7 @@ abbrev pub IsHalfLive : Segment → Type 0
 IsHalfLive segment = length segment.rules ≤ 2 * length (live_in segment)
 
 abbrev pub AreHalfLive : List Segment → Type 0
-AreHalfLive segments = All IsHalfLive segments
+AreHalfLive segments = AllByRecursion IsHalfLive segments
 
 abbrev pub of_id : ℕ → List Rule → List Rule
 of_id id rules = filter (λ rule. id == rule.id) rules

@@ -1,14 +1,10 @@
 -- The laws of runs.
-use Rattle.std.proofs.Common.{◌≡◌, ℕ, List, [], ◌∷◌, Option, Some, None, Result, Ok, refl, sym, ap, ◌∙◌, inl, inr, subst}
-use Rattle.dnr_spec.specs.declared.status.Status.TheVariants as status
-use Rattle.load_spec.specs.Files.{Files}
+use Rattle.std.proofs.Common.{◌≡◌, List, [], ◌∷◌, Option, Some, None, Result, Ok, refl, sym, ap, ◌∙◌}
 use Rattle.rule_spec.specs.State.{State}
 use Rattle.update_spec.specs.declared.refusal.Refusal.{Refusal}
 use Rattle.update_spec.specs.Update.{NewExtension, install, changed}
 use Rattle.update_spec.specs.Judge.{judge_update}
 use Rattle.update_spec.specs.Entries.{RefusedInstall, changed_unless, install_then, install_all, empty}
-use Rattle.session_spec.specs.Answers.{Applies}
-use Rattle.session_spec.specs.Out.{Outside, Session, HasLongFileOf, HoldsTooMuch, in_rounds}
 use Rattle.run_laws.specs.Laws.{SessionsBeginAtZero, ServedRoundsAreAHistory}
 use Rattle.run_laws.proofs.History.{one_history}
 

@@ -3,4 +3,9 @@ pub mod Printed
 pub mod Laws
 pub mod Wrote
 pub mod Ready
+pub mod Going
+pub mod Cuts
+pub mod Finished
+pub mod Runs
+pub mod Views
 pub mod Listed

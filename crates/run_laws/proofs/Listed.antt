@@ -3,7 +3,6 @@ use Rattle.std.specs.Bool.{Decides}
 use Rattle.std.proofs.Common.{◌≡◌, ℕ, List, [], ◌∷◌, Option, Some, None, Result, Ok, refl, sym, ap, ◌∙◌, subst}
 use Rattle.std.specs.List.{AllZip}
 use Rattle.dnr_base.specs.declared.request.Request.{Request}
-use Rattle.dnr_spec.specs.declared.status.Status.TheVariants as status
 use Rattle.rule_spec.specs.State.{State}
 use Rattle.rule_spec.specs.Scan.{Verdict, scan}
 use Rattle.rule_spec.specs.declared.outcome.Outcome.TheVariants as outcome
@@ -19,16 +18,16 @@ use Rattle.update_spec.specs.Judge.{judge_update}
 use Rattle.update_spec.specs.Entries.{RefusedInstall, changed_unless, install_then, empty, opening}
 use Rattle.load_spec.specs.Files.{Files, HoldsFile}
 use Rattle.session_spec.specs.Loading.{HoldsListExtension, Reads}
-use Rattle.session_spec.specs.Out.{of_words}
+use Rattle.session_spec.specs.Out.{Outside, of_words, IsServed}
 use Rattle.session_spec.specs.Said.{Answer, decided, explained, failed, traced, failed_at}
-use Rattle.session_spec.specs.Words.{Installed, list}
-use Rattle.run_laws.specs.History.{Place, command_at, Transcript, state_after, IsTranscript}
+use Rattle.session_spec.specs.Words.{Installed, list, Serving, task_of}
+use Rattle.run_laws.specs.History.{Place, number_at, command_at, Transcript, state_after}
 use Rattle.run_laws.specs.Printed.{IsAnswerOn}
-use Rattle.run_laws.specs.Wrote.{AllRounds}
-use Rattle.run_laws.specs.Listed.{asked_about, verdict_in, transcript_of, BlocksAsSaid}
-use Rattle.run_laws.specs.Laws.{ServedListsBlockWhatTheySay}
+use Rattle.run_laws.specs.Listed.{asked_about, verdict_in, transcript_of, BlocksAsListed}
+use Rattle.run_laws.specs.Laws.{ListsBlockWhatTheySay, ServedListsBlockWhatTheySay}
 use Rattle.run_laws.proofs.Printed.{verdicts_are_scans}
-use Rattle.run_laws.proofs.Wrote.{sessions_are_histories}
+use Rattle.run_laws.proofs.Views.{known_views}
+use Rattle.run_laws.proofs.Wrote.{history_of, wrote_so, of_session}
 
 -- the list of these bytes is the only extension
 record IsAlone (files : Files) (name file : List ℕ) (first : State) : Type 0 where
@@ -70,24 +69,29 @@ about t at (failed rule) state r verdict has asks fits = absurd (cc has)
 about t at (traced way) state r verdict has asks fits = absurd (cc has)
 about t at (failed_at hop rule) state r verdict has asks fits = absurd (cc has)
 
-blocks_as_said : (t : Transcript) (written : List ℕ) → IsTranscript t written → (name bytes : List ℕ) → t.first.extensions ≡ list_extension name (compiled (lists.lines_of bytes)) ∷ []
-    → BlocksAsSaid bytes t
-blocks_as_said t written told name bytes alone at r verdict one =
+pub lists_block : ListsBlockWhatTheySay
+lists_block t written told name bytes alone at r verdict one =
     let state : State = state_after t one.number in
     let answer = verdicts_are_scans t written told at one.seat one.number one.answer one.says in
     let scanned : verdict ≡ scan t.setting.suffixes state r = about t at one.answer state r verdict one.has one.asks answer.of_state.fits in
     subst (λ (v : Verdict). Decides (says (lists.lines_of bytes) t.setting.suffixes r) (v.outcome ≡ outcome.Block)) (sym scanned)
-    (lists_block_what_they_say name (lists.lines_of bytes) t.setting.suffixes state r one.views (one.unchanged ∙ alone))
+    (lists_block_what_they_say name (lists.lines_of bytes) t.setting.suffixes state r (known_views t.setting.updates (number_at at) at.line r one.asks) (one.unchanged ∙ alone))
 
-pub served_lists_block_what_they_say : ServedListsBlockWhatTheySay
-served_lists_block_what_they_say words files outside written serving name file is alone out =
-    let served : AllRounds files outside (of_words serving) serving.script written =
-    sessions_are_histories words files outside status.Done written (of_words serving) serving.script (rw is (refl, refl)) out in
-    let only = only_list files name file served.loaded.extensions served.first
-    (subst (λ (ones : List Installed). AllZip (Reads files) ones served.loaded.extensions) alone served.opens.read.extensions) served.opens.installed in
+-- rounds that were served where the list is all that is installed
+listed : (files : Files) (outside : Outside) (serving : Serving) (name file : List ℕ) → serving.installed ≡ list name file ∷ [] → (Script : List ℕ → Type 0) (rounds_in : List ℕ → List (List (List ℕ))) (written : List ℕ)
+    → IsServed files outside (of_words serving) Script rounds_in written → BlocksAsListed files outside serving file Script rounds_in written
+listed files outside serving name file alone Script rounds_in written served =
+    let history = history_of files outside (of_words serving) Script rounds_in written served in
+    let only = only_list files name file history.loaded.extensions history.first
+    (subst (λ (ones : List Installed). AllZip (Reads files) ones history.loaded.extensions) alone history.opens.read.extensions) history.opens.installed in
     record {
-      served = served;
+      history = history;
       bytes = only.bytes;
       held = only.held;
-      blocks = blocks_as_said (transcript_of files outside (of_words serving) serving.script written served) written served.history.told name only.bytes only.alone;
+      blocks = lists_block (transcript_of files outside (of_words serving) Script rounds_in written history) written history.history.told name only.bytes only.alone;
     }
+
+pub served_lists_block_what_they_say : ServedListsBlockWhatTheySay
+served_lists_block_what_they_say words files outside ended written serving name file is alone out =
+    wrote_so (BlocksAsListed files outside serving file) files outside (of_words serving) serving.script (listed files outside serving name file alone) ended written
+    (of_session (task_of words) files outside (of_words serving) serving.script ended written (rw is (refl, refl)) out)

@@ -24,7 +24,7 @@ use Rattle.session_spec.specs.Words.{Installed, folder, list, Task, match_files,
 use Rattle.session_spec.specs.Loading.{PrintsRefusedRules, HoldsList, IsRefusedList, PrintsRefusedList, Reads, Refuses, IsTooLong, ReadsSuffixes, RefusesSuffixes, IsLongSuffixFile, Loaded}
 use Rattle.session_spec.specs.Out.{Outside, HostRose, Session, of_rules, of_words, LoadsFor, loaded_with, Opens, HoldsScript, HoldsTooMuch, RefusesSession, RefusesFileOf, HasLongFileOf, IsCounted, IsCompiled, in_rounds, at_once, EndsBy, EndsFor}
 use Rattle.session_spec.specs.Hiding.{IsHidden, HidesTooMuch}
-use Rattle.session_spec.specs.Pruning.{IsPruned, HasTooManyRules, RefusesPruning}
+use Rattle.session_spec.specs.Pruning.{IsPruned, RefusesPruning}
 use Rattle.session_spec.specs.Sample.{IsSampled}
 use Rattle.run_laws.specs.Ready.{SessionIsReady, IsReady}
 use Rattle.run_laws.specs.Laws.{CommandsComplete}
@@ -32,7 +32,7 @@ use Rattle.session_laws.proofs.Laws.{sessions_complete}
 
 -- ---- one file
 
-same_file : (files : Files) (name one other : List ℕ) → files name ≡ Some one → files name ≡ Some other → one ≡ other
+pub same_file : (files : Files) (name one other : List ℕ) → files name ≡ Some one → files name ≡ Some other → one ≡ other
 same_file files name one other is as_well = let both : Some one ≡ Some other = sym is ∙ as_well in cc both
 
 same_rules : (files : Files) (kind : RuleKind) (name : List ℕ) (one other : List Rule) → HoldsRules files kind name one → HoldsRules files kind name other → one ≡ other

@@ -1,6 +1,9 @@
 pub mod History
 pub mod Printed
 pub mod Wrote
-pub mod Ready
+pub mod InTurn
+pub mod Finished
+pub mod Runs
 pub mod Listed
+pub mod Ready
 pub mod Laws

@@ -2,21 +2,18 @@
 use Rattle.std.specs.Bool.{Decides}
 use Rattle.std.specs.Prelude.{◌≡◌, ℕ, List, Option, Some, None, Result, Ok, Err}
 use Rattle.dnr_base.specs.declared.request.Request.{Request}
-use Rattle.dnr_spec.specs.Lines as script
 use Rattle.rule_spec.specs.declared.outcome.Outcome.TheVariants as outcome
 use Rattle.rule_spec.specs.Scan.{Verdict}
 use Rattle.list_spec.specs.LineKind as list
 use Rattle.list_spec.specs.Says.{says}
-use Rattle.compile_laws.specs.Origins.{HasViews}
 use Rattle.line_spec.specs.declared.line_fault.LineFault.{LineFault}
 use Rattle.line_spec.specs.Line.{Command, blank, sync, request, explain, update, batch}
 use Rattle.load_spec.specs.Files.{Files, HoldsFile}
 use Rattle.session_spec.specs.Out.{Outside, Session, of_words, setting_of}
-use Rattle.session_spec.specs.Rounds.{rounds_of}
 use Rattle.session_spec.specs.Said.{Answer, decided, explained, failed, traced, failed_at, answered}
 use Rattle.session_spec.specs.Words.{Serving}
 use Rattle.run_laws.specs.History.{Place, command_at, Transcript, SaysAt, state_after}
-use Rattle.run_laws.specs.Wrote.{AllRounds}
+use Rattle.run_laws.specs.Wrote.{IsHistoryOf}
 
 -- ---- what a line says of a request
 
@@ -39,8 +36,8 @@ verdict_in (failed_at hop rule) = None
 
 -- ---- a session of one list
 
--- At this place the session says what becomes of this request, whose URLs are those of views, and the extensions are those
--- of the beginning, as they are where the answer prints 0.
+-- At this place the session says what becomes of this request, and the extensions are those of the beginning, as they are
+-- where the answer prints 0.
 pub record HasVerdict (t : Transcript) (at : Place) (r : Request) (verdict : Verdict) : Type 0 where
   pub seat : ℕ
   pub number : ℕ
@@ -48,7 +45,6 @@ pub record HasVerdict (t : Transcript) (at : Place) (r : Request) (verdict : Ver
   pub says : SaysAt t at (answered seat number answer)
   pub has : verdict_in answer ≡ Some verdict
   pub asks : asked_about (command_at t.setting at) ≡ Some r
-  pub views : HasViews r
   pub unchanged : (state_after t number).extensions ≡ t.first.extensions
 
 -- each such verdict blocks exactly where the list of these bytes says so, which knows no rules, but its lines alone
@@ -57,19 +53,20 @@ BlocksAsSaid bytes t =
     (at : Place) (r : Request) (verdict : Verdict) → HasVerdict t at r verdict
     → Decides (says (list.lines_of bytes) t.setting.suffixes r) (verdict.outcome ≡ outcome.Block)
 
--- what was told of all rounds
-abbrev pub transcript_of : (files : Files) (outside : Outside) (session : Session) (name written : List ℕ) → AllRounds files outside session name written → Transcript
-transcript_of files outside session name written h = record {
+-- the transcript of a history
+abbrev pub transcript_of : (files : Files) (outside : Outside) (session : Session) (Script : List ℕ → Type 0) (rounds_in : List ℕ → List (List (List ℕ))) (written : List ℕ)
+    → IsHistoryOf files outside session Script rounds_in written → Transcript
+transcript_of files outside session Script rounds_in written h = record {
   hosts = outside.hosts;
   setting = setting_of session h.loaded.suffixes;
   first = h.first;
-  rounds = rounds_of (script.lines_of h.script);
+  rounds = rounds_in h.script;
   said = h.history.said;
 }
 
--- all rounds of the session were served, and it blocks as the list in this file says
-pub record BlocksAsListed (files : Files) (outside : Outside) (serving : Serving) (file written : List ℕ) : Type 0 where
-  pub served : AllRounds files outside (of_words serving) serving.script written
+-- what was written is a history of these rounds, which blocks as the list in this file says
+pub record BlocksAsListed (files : Files) (outside : Outside) (serving : Serving) (file : List ℕ) (Script : List ℕ → Type 0) (rounds_in : List ℕ → List (List (List ℕ))) (written : List ℕ) : Type 0 where
+  pub history : IsHistoryOf files outside (of_words serving) Script rounds_in written
   pub bytes : List ℕ
   pub held : HoldsFile files file bytes
-  pub blocks : BlocksAsSaid bytes (transcript_of files outside (of_words serving) serving.script written served)
+  pub blocks : BlocksAsSaid bytes (transcript_of files outside (of_words serving) Script rounds_in written history)

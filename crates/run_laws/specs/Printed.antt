@@ -1,7 +1,6 @@
 -- What a reader may take from one line of what a session wrote.
 use Rattle.std.specs.Prelude.{◌≡◌, ◌⊎◌, ℕ, suc, ◌+◌, ◌<◌, ◌≤◌, List, [], ◌∷◌, ◌++◌, length, take, slice_get, true, Some, None, Ok}
 use Rattle.dnr_base.specs.declared.request.Request.{Request}
-use Rattle.dnr_base.specs.declared.rule_name.RuleName.{RuleName}
 use Rattle.rule_spec.specs.PatternRule.{NamesPattern}
 use Rattle.rule_spec.specs.Scan.{scan}
 use Rattle.rule_spec.specs.State.{State}

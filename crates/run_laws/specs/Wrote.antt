@@ -25,6 +25,10 @@ IsSession (Some (prune_file file)) session name = ⊥
 
 -- ---- rounds
 
+-- what is said of a script that is so, of its rounds that were served, and of what was written
+abbrev pub OfRounds : Type 1
+OfRounds = (List ℕ → Type 0) → (List ℕ → List (List (List ℕ))) → List ℕ → Type 0
+
 -- All was read and installed, and of a script that is so what was written is the history of these rounds.
 pub record IsHistoryOf (files : Files) (outside : Outside) (session : Session) (Script : List ℕ → Type 0) (rounds_in : List ℕ → List (List (List ℕ))) (written : List ℕ) : Type 0 where
   pub loaded : Loaded
@@ -35,46 +39,48 @@ pub record IsHistoryOf (files : Files) (outside : Outside) (session : Session) (
   pub history : IsHistory outside.hosts (setting_of session loaded.suffixes) first (rounds_in script) written
 
 -- all rounds of a script within the limits
-abbrev pub AllRounds : Files → Outside → Session → List ℕ → List ℕ → Type 0
-AllRounds files outside session name = IsHistoryOf files outside session (HoldsScript files name) (λ script. rounds_of (lines_of script))
+abbrev pub AllRounds : OfRounds → Files → List ℕ → List ℕ → Type 0
+AllRounds Told files name = Told (HoldsScript files name) (λ script. rounds_of (lines_of script))
 
 -- those that are whole before a line that is too long, or one too many
-abbrev pub ShortRounds : Files → Outside → Session → List ℕ → List ℕ → Type 0
-ShortRounds files outside session name =
-    IsHistoryOf files outside session (HoldsTooMuch files name) (λ script. whole_rounds_of (short_lines script))
+abbrev pub ShortRounds : OfRounds → Files → List ℕ → List ℕ → Type 0
+ShortRounds Told files name = Told (HoldsTooMuch files name) (λ script. whole_rounds_of (short_lines script))
 
 -- those that are whole in what the script gave
-abbrev pub GivenRounds : Files → Outside → Session → List ℕ → List ℕ → Type 0
-GivenRounds files outside session name =
-    IsHistoryOf files outside session (λ given. HoldsGiven files name given outside.left) (λ given. whole_rounds_of (ended_lines given))
+abbrev pub GivenRounds : OfRounds → Files → Outside → List ℕ → List ℕ → Type 0
+GivenRounds Told files outside name = Told (λ given. HoldsGiven files name given outside.left) (λ given. whole_rounds_of (ended_lines given))
 
 -- the same where it gave all, and its end was told before the fault: then its last line needs no LF
-abbrev pub RoundsToEnd : Files → Outside → Session → List ℕ → List ℕ → Type 0
-RoundsToEnd files outside session name =
-    IsHistoryOf files outside session (λ script. (files name ≡ Some script) × (outside.left ≡ [])) (λ script. whole_rounds_of (short_lines script))
+abbrev pub RoundsToEnd : OfRounds → Files → Outside → List ℕ → List ℕ → Type 0
+RoundsToEnd Told files outside name =
+    Told (λ script. (files name ≡ Some script) × (outside.left ≡ [])) (λ script. whole_rounds_of (short_lines script))
 
 -- some first of those that are whole
-pub record FirstRounds (files : Files) (outside : Outside) (session : Session) (name written : List ℕ) : Type 0 where
+pub record FirstRounds (Told : OfRounds) (files : Files) (name written : List ℕ) : Type 0 where
   pub count : ℕ
-  pub history : IsHistoryOf files outside session (λ script. files name ≡ Some script) (λ script. take count (whole_rounds_of (short_lines script))) written
+  pub told : Told (λ script. files name ≡ Some script) (λ script. take count (whole_rounds_of (short_lines script))) written
 
 -- what may have been written at some moment: rounds, or the line that says what was refused before them
-abbrev pub Meanwhile : Files → Outside → Session → List ℕ → List ℕ → Type 0
-Meanwhile files outside session name written =
-    AllRounds files outside session name written ⊎ FirstRounds files outside session name written ⊎ RefusesSession files outside session written
+abbrev pub Meanwhile : OfRounds → Files → Outside → Session → List ℕ → List ℕ → Type 0
+Meanwhile Told files outside session name written =
+    AllRounds Told files name written ⊎ FirstRounds Told files name written ⊎ RefusesSession files outside session written
 
 -- ---- statuses
 
--- what a session wrote that ended so
-abbrev pub Wrote : Files → Outside → Session → List ℕ → Status → List ℕ → Type 0
-Wrote files outside session name status.Done written = AllRounds files outside session name written
-Wrote files outside session name status.Refused written = RefusesSession files outside session written
-Wrote files outside session name status.Usage written = ⊥
-Wrote files outside session name status.ReadFault written =
+-- what a session wrote that ended so, of whose rounds this is told
+abbrev pub WroteSo : OfRounds → Files → Outside → Session → List ℕ → Status → List ℕ → Type 0
+WroteSo Told files outside session name status.Done written = AllRounds Told files name written
+WroteSo Told files outside session name status.Refused written = RefusesSession files outside session written
+WroteSo Told files outside session name status.Usage written = ⊥
+WroteSo Told files outside session name status.ReadFault written =
     (HasNotStarted outside × (written ≡ []))
-    ⊎ (HasStarted outside × (GivenRounds files outside session name written ⊎ RoundsToEnd files outside session name written))
-Wrote files outside session name status.WriteFault written = IsBeginning (Meanwhile files outside session name) written
-Wrote files outside session name status.NoMemory written = (written ≡ []) ⊎ IsBeginning (Meanwhile files outside session name) written
-Wrote files outside session name status.FileTooLong written =
-    (HasLongFileOf files session × (written ≡ [])) ⊎ ShortRounds files outside session name written
-Wrote files outside session name status.DiskFault written = ⊥
+    ⊎ (HasStarted outside × (GivenRounds Told files outside name written ⊎ RoundsToEnd Told files outside name written))
+WroteSo Told files outside session name status.WriteFault written = IsBeginning (Meanwhile Told files outside session name) written
+WroteSo Told files outside session name status.NoMemory written = (written ≡ []) ⊎ IsBeginning (Meanwhile Told files outside session name) written
+WroteSo Told files outside session name status.FileTooLong written =
+    (HasLongFileOf files session × (written ≡ [])) ⊎ ShortRounds Told files name written
+WroteSo Told files outside session name status.DiskFault written = ⊥
+
+-- what a session wrote that ended so: a history, of all its rounds or of the first
+abbrev pub Wrote : Files → Outside → Session → List ℕ → Status → List ℕ → Type 0
+Wrote files outside session = WroteSo (IsHistoryOf files outside session) files outside session

@@ -1,0 +1,4 @@
+pub mod Moments
+pub mod Works
+pub mod Pushed
+pub mod Done

@@ -1,0 +1,5 @@
+pub mod Normal
+pub mod Judged
+pub mod Payloads
+pub mod Accepted
+pub mod Reads

@@ -1,0 +1,9 @@
+pub mod Steps
+pub mod Fronts
+pub mod Gates
+pub mod Listed
+pub mod Staged
+pub mod Opened
+pub mod Appends
+pub mod Mended
+pub mod Mends

@@ -1,0 +1,4 @@
+pub mod Kept
+pub mod Agrees
+pub mod Written
+pub mod Examples

@@ -1,0 +1,22 @@
+-- The records of a file, read one after the other.
+use Rattle.std.specs.Prelude.{◌≡◌, ℕ, ◌≤◌, true, List, ◌++◌, length, drop}
+use Rattle.rule_spec.specs.State.{State}
+use Rattle.update_spec.specs.Update.{Update}
+use Rattle.keep_records.specs.Records.{stands, payload_of, payloads, span}
+use Rattle.keep_spec.specs.Kept.{start, state_of, all_accepted}
+use Rattle.keep_spec.specs.Agrees.{AreRead}
+
+-- the record that stands at a place has this payload
+pub record ReadNext (bytes : List ℕ) (at : ℕ) (payload : List ℕ) : Type 0 where
+  pub is : stands (drop at bytes) ≡ true
+  pub payload_is : payload ≡ payload_of (drop at bytes)
+
+-- so many bytes were read, and the payloads of their records are these updates
+pub record ReadSoFar (name bytes : List ℕ) (list : List Update) (at : ℕ) (store : State) : Type 0 where
+  pub all : List (List ℕ)
+  pub all_is : payloads bytes ≡ all ++ payloads (drop at bytes)
+  pub place_is : at ≡ span all
+  pub read : AreRead name all list
+  pub store_is : store ≡ state_of name list
+  pub accepted : all_accepted (start name) list ≡ true
+  pub within : at ≤ length bytes

@@ -1,0 +1,17 @@
+//! The dynamic rules of one extension, kept in a file: a crash at any moment loses no update that was acknowledged.
+//!
+//! What a file keeps stands in `keep_spec`, `specs/Kept.antt`, and what a kept list has to do with the images that a
+//! crash may leave in `specs/Agrees.antt` there.
+#![tactic(auto)]
+
+mod keep;
+mod listed;
+mod opening;
+mod payload;
+mod refusals;
+mod take;
+
+pub use dnr_base::NoMemory;
+pub use keep::Keep;
+pub use keep_records::{Disk, Failed};
+pub use refusals::{OpenRefusal, PutRefusal};

@@ -1,0 +1,6 @@
+mod Segments
+mod Hosts
+mod Paths
+mod Ascii
+mod Places
+pub mod Read
