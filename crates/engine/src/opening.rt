@@ -1,5 +1,6 @@
 //! An engine over files in memory.
 ghost use Rattle.std.specs.Prelude.{◌≡◌, map, false, IfOk, IfErr, string_bytes};
+ghost use Rattle.std.specs.List.{list_all};
 ghost use Rattle.dnr_io.specs.Files.{held_or_empty};
 ghost use Rattle.dnr_words.specs.Seen.{installed_seen};
 ghost use Rattle.session_spec.specs.Out.{of_rules, of_words};
@@ -121,6 +122,7 @@ fn refusal_of(stop: Stop) -> OpenRefusal
 }
 
 // Whether the suffix list and each filter list of the session are there.
+#[tactic(auto, using(crate::proofs::Given::all_given, crate::proofs::Given::suffixes_lack))]
 fn names_are_given(
     alloc: Global,
     serving: &Serving<'_>,
@@ -128,13 +130,26 @@ fn names_are_given(
 ) -> Result<bool, NoMemory>
     ensures { IfOk result (λ given. are_given files.now (of_words serving.now) ≡ given) }
 {
-    if let Some(name) = serving.suffixes() {
-        if !has_file(files, name) {
-            return Ok(false);
-        }
+    if !suffixes_are_given(serving, files) {
+        return Ok(false);
     }
     let installed = serving.installed(alloc)?;
-    Ok(installed.iter().all(|one| is_there(files, one)))
+    Ok(lists_are_given(&installed, files))
+}
+
+fn suffixes_are_given(serving: &Serving<'_>, files: &[MemoryFile]) -> bool
+    ensures { result ≡ is_given_at files.now serving.now.suffixes }
+{
+    match serving.suffixes() {
+        Some(name) => has_file(files, name),
+        None => true,
+    }
+}
+
+fn lists_are_given(installed: &[Installed<'_>], files: &[MemoryFile]) -> bool
+    ensures { result ≡ list_all (λ one. is_given_at files.now (file_of (installed_seen one))) installed.now }
+{
+    installed.iter().all(|one| is_there(files, one))
 }
 
 // Whether the file of what is installed is there, if it has one of its own.
