@@ -19,9 +19,9 @@ seen_there files (one ∷ all) = ap (λ b. there files (installed_seen one) && b
 -- the suffix list is there, and all depends on the filter lists
 pub all_given : (files : List MemoryFile) (serving : spec.Serving) (all : List Installed) (named lists : Bool) → named ≡ is_given_at files serving.suffixes → named ≡ true
     → lists ≡ list_all (λ one. is_given_at files (file_of (installed_seen one))) all → map installed_seen all ≡ serving.installed → are_given files (of_words serving) ≡ lists
-all_given files serving all named lists is yes given same =
-    ap (λ b. b && list_all (there files) serving.installed) (sym is ∙ yes)
+all_given files serving all named lists is there_is given same =
+    ap (λ b. b && list_all (there files) serving.installed) (sym is ∙ there_is)
     ∙ ap (list_all (there files)) (sym same) ∙ seen_there files all ∙ sym given
 
 pub suffixes_lack : (files : List MemoryFile) (serving : spec.Serving) (named : Bool) → named ≡ is_given_at files serving.suffixes → named ≡ false → are_given files (of_words serving) ≡ false
-suffixes_lack files serving named is no = ap (λ b. b && list_all (there files) serving.installed) (sym is ∙ no)
+suffixes_lack files serving named is lacks = ap (λ b. b && list_all (there files) serving.installed) (sym is ∙ lacks)

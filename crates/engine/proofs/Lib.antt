@@ -1,3 +1,4 @@
-pub mod Answering
+pub mod Lines
 pub mod Reading
 pub mod Given
+pub mod Installs

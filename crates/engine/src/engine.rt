@@ -120,6 +120,7 @@ impl Engine {
     ) -> Result<Option<Generation>, NoMemory>
         requires { string_bytes into.old ≡ [] }
         ensures heard { IfOk result (λ next. Answers self.old number line.now (string_bytes into.new) (left_by self.new next)) }
+        ensures suffixes { IfOk result (λ next. IfSome next (λ basis. basis.suffixes ≡ self.new.suffixes)) }
         ensures stays { Stays self.old self.new }
     {
         answer(

@@ -6,16 +6,20 @@ use Rattle.dnr_base.specs.declared.request.Request.{Request}
 use Rattle.dnr_spec.specs.Suffixes.{SuffixRule}
 use Rattle.rule_spec.specs.State.{State}
 use Rattle.generation.specs.Basis.{Basis}
-use Rattle.update_spec.specs.Entries.{Entry, judge, after}
+use Rattle.update_spec.specs.declared.refusal.Refusal.{Refusal}
+use Rattle.update_spec.specs.Update.{Update}
+use Rattle.update_spec.specs.Judge.{judge_update}
+use Rattle.update_spec.specs.Entries.{Entry, judge, after, batch as together}
 use Rattle.line_spec.specs.declared.line_fault.LineFault.{LineFault}
 use Rattle.line_spec.specs.declared.line_fault.LineFault.TheVariants.{NoMemory}
 use Rattle.line_spec.specs.IsFault.{IsFaultOfLine}
-use Rattle.line_spec.specs.Line.{Command, blank, request, explain, command_of}
+use Rattle.line_spec.specs.Line.{Command, blank, sync, request, explain, update as of_update, batch, command_of}
 use Rattle.session_spec.specs.Answers.{Decides, Explains}
-use Rattle.session_spec.specs.Output.{accepted_line, bad_line}
+use Rattle.session_spec.specs.Output.{accepted_line, sync_line, refused_line, refused_batch_line, bad_line}
 use Rattle.session_laws.specs.Turns.{LineTold, FaultsRise}
-use Rattle.session_serve.specs.Told.{AnswerTold, CommandTold, ReplyTold}
-use Rattle.session_serve.proofs.Told.{request_told, explain_told, reply_told, blank_told, accepted_told, command_with, command_said, fault_said}
+use Rattle.ruleset_store.specs.Seen.{IsRefusalOf, IsRefusalAt}
+use Rattle.session_serve.specs.Told.{AnswerTold, CommandTold, ReplyTold, IsNamed}
+use Rattle.session_serve.proofs.Told.{request_told, explain_told, reply_told, blank_told, accepted_told, command_with, command_said, fault_said, sync_told, refusal_told, batch_refusal_told}
 use Rattle.engine.specs.Asking.{setting, state_left}
 
 -- ---- a whole line
@@ -77,3 +81,22 @@ pub suffixes_left : {E : Type 0} (result : Result (Option Basis) E) (suffixes : 
     → IfOk result (λ given. IfSome given (λ basis. basis.suffixes ≡ suffixes))
 suffixes_left (Err e) suffixes next same is = tt
 suffixes_left (Ok given) suffixes next same is = subst (λ (g : Option Basis). IfSome g (λ basis. basis.suffixes ≡ suffixes)) (sym is) same
+
+-- a `sync`
+pub sync_left : (suffixes : List SuffixRule) (state : State) (number count : ℕ) (before now : List ℕ) → count ≡ state.count → now ≡ before ++ sync_line number count
+    → ReplyTold (setting suffixes 0) state number (Ok sync) before now state
+sync_left suffixes state number count before now counted grown =
+    sync_told {T = Unit {0}} {E = Unit {0}} (Ok tt) (setting suffixes 0) state number count before now refl counted grown
+
+-- an update or a batch that is refused
+pub refused_left : (suffixes : List SuffixRule) (state : State) (number : ℕ) (u : Update) (why : Refusal) (before now : List ℕ)
+    → IsRefusalOf (judge_update state u) why → IsNamed why × (now ≡ before ++ refused_line number why)
+    → ReplyTold (setting suffixes 0) state number (Ok (of_update u)) before now state
+refused_left suffixes state number u why before now judged grown =
+    refusal_told {T = Unit {0}} {E = Unit {0}} (Ok tt) (setting suffixes 0) state number u why before now refl judged grown
+
+pub batch_refused_left : (suffixes : List SuffixRule) (state : State) (number place : ℕ) (us : List Update) (why : Refusal) (before now : List ℕ)
+    → IsRefusalAt (judge state (together us)) place why → IsNamed why × (now ≡ before ++ refused_batch_line number place why)
+    → ReplyTold (setting suffixes 0) state number (Ok (batch us)) before now state
+batch_refused_left suffixes state number place us why before now judged grown =
+    batch_refusal_told {T = Unit {0}} {E = Unit {0}} (Ok tt) (setting suffixes 0) state number place us why before now refl judged grown
