@@ -58,6 +58,7 @@ pub(crate) fn open_seat(
     }
 }
 
+#[tactic(auto, using(crate::proofs::Opens::refused_same))]
 fn engine_of(
     alloc: Global,
     words: &[GivenText<'_>],
@@ -66,10 +67,13 @@ fn engine_of(
     ensures opened { IfOk result (IsOpenedBy (task_of (from_c.words_of words.now)) (from_c.files_of files.now)) }
     ensures refused { IfErr result (EndsFor (task_of (from_c.words_of words.now)) (from_c.files_of files.now)) }
 {
-    let (Ok(words), Ok(files)) = (words_of(alloc, words), files_of(alloc, files)) else {
+    let Ok(said) = words_of(alloc, words) else {
         return Err(OpenRefusal::NoMemory);
     };
-    Engine::open(alloc, &words, files)
+    let Ok(held) = files_of(alloc, files) else {
+        return Err(OpenRefusal::NoMemory);
+    };
+    Engine::open(alloc, &said, held)
 }
 
 // Tells why a seat is not opened: by a code, and by a line where there is one and room for it.
