@@ -1,5 +1,0 @@
-pub mod Owns
-pub mod Codes
-pub mod Given
-pub mod Ends
-pub mod Faults
