@@ -160,12 +160,7 @@ fn accept(
     }
 }
 
-fn refuse(
-    alloc: Global,
-    number: u32,
-    refusal: Refusal,
-    into: &mut String,
-) -> Result<(), NoMemory>
+fn refuse(alloc: Global, number: u32, refusal: Refusal, into: &mut String) -> Result<(), NoMemory>
     ensures { OnOk result (IsNamed refusal × (string_bytes into.new ≡ string_bytes into.old ++ refused_line number refusal)) }
 {
     match refusal {
