@@ -1,3 +1,4 @@
 pub mod Held
 pub mod Asking
 pub mod Opening
+pub mod Decided

@@ -20,10 +20,10 @@ const ROOM: usize = 1_024;
 /// `rule_spec`, and how often each host failed: the one that reads rules, and the one that finds matches.
 #[derive(Drop)]
 pub struct Engine {
-    generation: Arc<Generation>,
+    pub(crate) generation: Arc<Generation>,
     memo: Memo,
     checker: PackHost,
-    finder: PackHost,
+    pub(crate) finder: PackHost,
 }
 
 impl Model for Engine {

@@ -7,12 +7,16 @@
 #![tactic(auto)]
 
 mod answering;
+mod deciding;
 mod engine;
 mod installing;
 mod opening;
 mod refusal;
 mod room;
 
+pub use deciding::Undecided;
 pub use engine::Engine;
+pub use generation::Verdict;
+pub use request_given::{GivenFrame, GivenHeader, GivenRequest};
 pub use refusal::{AskRefusal, OpenRefusal};
 pub use room::put_front;
