@@ -57,7 +57,7 @@ fn goes_on(alloc: Global, disk: &mut MemoryDisk, kept: usize) -> Result<(), Fail
         return Err("the rest is not added".into());
     }
     match opened(alloc, disk) {
-        Ok(ids) if ids == [1, 2, 3] => Ok(()),
+        Ok(ids) if ids.as_slice() == [1, 2, 3].as_slice() => Ok(()),
         _ => Err("the file does not keep the rest".into()),
     }
 }
@@ -65,7 +65,7 @@ fn goes_on(alloc: Global, disk: &mut MemoryDisk, kept: usize) -> Result<(), Fail
 fn is_beginning(ids: &[u32], kept: usize) -> bool {
     let all = [1, 2, 3];
     let long_enough = kept <= ids.len() && ids.len() - kept <= 1;
-    long_enough && all.starts_with(ids)
+    long_enough && all.as_slice().starts_with(ids)
 }
 
 #[test]

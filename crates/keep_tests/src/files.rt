@@ -59,13 +59,13 @@ fn a_file_that_is_cut_keeps_its_whole_records(rt: HostRuntime) -> Result<(), Fai
 // What a file is opened with whose byte at a place of its last record is turned, which begins behind so many bytes and
 // has a payload of less than 256 bytes.
 fn turned(start: usize, payload: usize, place: usize) -> Result<usize, OpenRefusal> {
-    if place < start + 4 {
+    if place < start.saturating_add(4) {
         return Ok(2);
     }
-    if place == start + 4 && 255 - payload > payload {
+    if place == start.saturating_add(4) && 255_usize.saturating_sub(payload) > payload {
         return Ok(2);
     }
-    if place == start + 5 + payload {
+    if place == start.saturating_add(5).saturating_add(payload) {
         return Ok(3);
     }
     Err(OpenRefusal::BadRecord(start as u64))
