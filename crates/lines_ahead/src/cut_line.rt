@@ -1,12 +1,13 @@
 //! A line that stands alone, and what is known of it before its turn.
-ghost use Rattle.std.specs.Prelude.{◌≡◌, ◌≤◌, Ok, IfOk, IfErr, IfSome, IsTrue};
+ghost use Rattle.std.specs.Prelude.{◌≡◌, ◌≤◌, Ok, IfOk, IfErr, IfSome, IsTrue, codes};
 ghost use Rattle.dnr_base.specs.Faults.{Rose};
 ghost use Rattle.line_spec.specs.IsFault.{IsCalm, IsFaultOf, IsFaultOfLine};
 ghost use Rattle.line_spec.specs.Line as spec;
 ghost use Rattle.lines_ahead.specs.Cut.{IsPlainLine};
+ghost use Rattle.lines_ahead.specs.Plain.{HasNoString};
 ghost use Rattle.script_read.specs.Seen.{command_seen};
 
-use crate::plain::PlainSearch;
+use crate::plain::{PlainSearch, lacks_sync};
 use regex_host::RegexHost;
 use script_read::{
     Asked, Command, LineFault, Memo, ask_line, finish_line, is_blank, read_line_with,
@@ -77,6 +78,15 @@ impl CutLine {
         ensures { IsTrue result → IsPlainLine self.now }
     {
         self.plain
+    }
+
+    /// Whether it may be a sync, as its bytes show: it has the string `"sync"`, or may write it by an escape. A plain line
+    /// is none.
+    pub fn may_sync(&self) -> bool
+        ensures syncs { spec.command_of self.now.number self.now.bytes ≡ Ok spec.sync → IsTrue result }
+        ensures told { IsTrue result → ¬ HasNoString (codes "sync") self.now.bytes }
+    {
+        !self.plain && !lacks_sync(&self.bytes)
     }
 
     /// Reads a plain line, for which no pattern host is needed.

@@ -1,10 +1,11 @@
-// Script lines that are told by their bytes alone, before they are read, to ask for nothing but a request.
-ghost use Rattle.std.specs.Prelude.{ℕ, ◌↔◌, IsTrue};
-ghost use Rattle.line_spec.specs.Line.{command_of};
-ghost use Rattle.lines_ahead.specs.Plain.{IsPlain, IsRequestAtMost};
+// Script lines that are told by their bytes alone, before they are read: those that ask for nothing but a request, and
+// those that are no sync.
+ghost use Rattle.std.specs.Prelude.{ℕ, ◌↔◌, ◌≢◌, Ok, IsTrue, codes};
+ghost use Rattle.line_spec.specs.Line.{command_of, sync};
+ghost use Rattle.lines_ahead.specs.Plain.{HasNoString, IsPlain, IsRequestAtMost};
 
 use memchr::memchr;
-use memchr::memmem::Finder;
+use memchr::memmem::{self, Finder};
 use std::marker::Model;
 
 /// A search that tells plain lines, made once for many of them. A clause sees what it searches for.
@@ -42,4 +43,13 @@ impl PlainSearch {
     {
         self.finder.find(bytes).is_none() && memchr(b'\\', bytes).is_none()
     }
+}
+
+/// Whether the bytes of a line hold neither the string `"sync"` nor a backslash. Whatever its number, such a line is no
+/// sync: what a JSON string without an escape says stands in its text as it is, between two quotes.
+pub fn lacks_sync(bytes: &[u8]) -> bool
+    ensures told { IsTrue result ↔ HasNoString (codes "sync") bytes.now }
+    ensures no_sync { IsTrue result → (number : ℕ) → command_of number bytes.now ≢ Ok sync }
+{
+    memmem::find(bytes, b"\"sync\"").is_none() && memchr(b'\\', bytes).is_none()
 }
