@@ -14,3 +14,4 @@ pub mod Taken
 pub mod Answering
 pub mod Telling
 pub mod Log
+pub mod Syncs

@@ -5,7 +5,9 @@ use Rattle.dnr_io.specs.Lines.{GivesLine, IsBeyond, StopsIn}
 use Rattle.dnr_io.specs.declared.line_refusal.LineRefusal.{LineRefusal}
 use Rattle.dnr_io.specs.declared.line_refusal.LineRefusal.TheVariants as refusal
 use Rattle.dnr_spec.specs.Lines.{max_line}
+use Rattle.line_spec.specs.Line.{command_of}
 use Rattle.lines_ahead.specs.Cut.{CutSeen}
+use Rattle.session_spec.specs.Rounds.{is_sync}
 
 -- the bytes of each
 abbrev pub bytes_of : List CutSeen → List (List ℕ)
@@ -20,6 +22,16 @@ GivesLines rest next (line ∷ lines) = (behind : Option (List ℕ)) × GivesLin
 abbrev pub FollowOn : ℕ → List CutSeen → Type 0
 FollowOn given [] = Unit {0}
 FollowOn given (line ∷ lines) = (line.number ≡ given + 1) × (length line.bytes ≤ max_line) × FollowOn (given + 1) lines
+
+-- the line is no sync, as it reads
+abbrev pub IsNoSync : CutSeen → Type 0
+IsNoSync line = is_sync (command_of line.number line.bytes) ≡ false
+
+-- no line but the last one is a sync
+abbrev pub EndsAtSync : List CutSeen → Type 0
+EndsAtSync [] = Unit {0}
+EndsAtSync (line ∷ []) = Unit {0}
+EndsAtSync (line ∷ next ∷ lines) = IsNoSync line × EndsAtSync (next ∷ lines)
 
 -- What stands behind the lines that were cut, after so many of the script: more, or its end, or why the next line is not
 -- given.

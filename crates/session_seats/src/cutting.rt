@@ -3,12 +3,11 @@ ghost use Rattle.std.specs.Prelude.{◌≡◌, ◌+◌, ◌<◌, ◌≤◌, [], 
 ghost use Rattle.dnr_base.specs.Faults.{HasCauseOf};
 ghost use Rattle.dnr_io.specs.Lines.{ahead};
 ghost use Rattle.dnr_spec.specs.Lines.{max_lines};
-ghost use Rattle.session_seats.specs.Cutting.{CutsLines, StandsBehind};
+ghost use Rattle.session_seats.specs.Cutting.{CutsLines, EndsAtSync, IsNoSync, StandsBehind};
 
-use crate::round_lines::RoundLines;
+use crate::round_lines::{Room, RoundLines};
 use dnr_io::{LineRefusal, Lines, Source};
 use lines_ahead::{CutLine, PlainSearch, ask_all};
-use memchr::{memchr, memmem};
 use std::alloc::Global;
 use std::thread::Threads;
 
@@ -16,7 +15,7 @@ use std::thread::Threads;
 /// until there is no more room. `Ok(false)` is the end of the script, before which lines may have been cut, and `Ok(true)`
 /// has cut one at least.
 ///
-/// So a program that ends its lines by a sync is answered before more is read.
+/// No line but the last one is a sync. So a program that ends its lines by a sync is answered before more is cut.
 ///
 /// # Errors
 ///
@@ -35,6 +34,7 @@ pub fn cut_lines<S: Source>(
     ensures round { round.new ≡ round.old }
     ensures cut { CutsLines (ahead lines.old (S.left source.old)) number.old cut.new.items
         (StandsBehind number.new (ahead lines.new (S.left source.new)) (S.left source.new) result) }
+    ensures syncs { EndsAtSync cut.new.items }
     ensures number { number.new ≡ number.old + length cut.new.items }
     ensures few { number.old ≤ max_lines → number.new ≤ max_lines }
     ensures some { result ≡ Ok true → number.old < number.new }
@@ -55,7 +55,7 @@ pub fn cut_lines<S: Source>(
         }
         let place = *number + 1;
         let line = CutLine::new(place, line, &search);
-        going = room.take(line.bytes().len()) && !may_sync(&line);
+        going = goes_on(&mut room, &line);
         cut.push(line)?;
         *number = place;
     }
@@ -70,9 +70,10 @@ pub fn ask_cut<R: Threads + Sync>(rt: &R, alloc: Global, threads: usize, cut: &m
     ask_all(rt, alloc, threads, cut);
 }
 
-// Whether the line may be a sync: it has the word, or may write it by escapes.
-fn may_sync(line: &CutLine) -> bool {
-    let bytes = line.bytes();
-    !line.is_plain()
-        && (memmem::find(bytes, b"\"sync\"").is_some() || memchr(b'\\', bytes).is_some())
+// Whether the cut goes on behind a line: there is room for another, and this one is no sync.
+fn goes_on(room: &mut Room, line: &CutLine) -> bool
+    ensures { IsTrue result → IsNoSync line.now }
+{
+    let has_room = room.take(line.bytes().len());
+    has_room && !line.may_sync()
 }

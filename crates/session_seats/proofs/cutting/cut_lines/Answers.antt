@@ -2,8 +2,9 @@ use Rattle.std.proofs.Common.{◌∷◌, [], Ok, Err, refl, sym, subst, ap, ◌�
 use Rattle.std.specs.Prelude.{IfSome}
 use Rattle.dnr_io.specs.Lines.{ahead, IsBeyond}
 use Rattle.lines_ahead.specs.Cut.{CutSeen}
-use Rattle.session_seats.specs.Cutting.{bytes_of, GivesLines, FollowOn}
+use Rattle.session_seats.specs.Cutting.{bytes_of, EndsAtSync, GivesLines, FollowOn}
 use Rattle.session_seats.proofs.Cuts.{gives_one_more, follows_one_more, stands_refused, stands_unread}
+use Rattle.session_seats.proofs.Syncs.{AreNoSync, ends_at_sync, no_sync_more}
 use Rattle.session_seats.proofs.cutting.cut_lines.Goals as goal
 
 pub loop-going-init : goal.loop-going-init
@@ -13,6 +14,8 @@ loop-going-init g c =
       gives = subst (λ (ls : List CutSeen). GivesLines all all (bytes_of ls)) (sym c.requires.none) refl;
       follow = subst (λ (ls : List CutSeen). FollowOn c.args.number.now ls) (sym c.requires.none) tt;
       more = omega (arith, ap length c.requires.none);
+      syncs = subst EndsAtSync (sym c.requires.none) tt;
+      none = λ is. subst AreNoSync (sym c.requires.none) tt;
       here = c.requires.here;
       live = c.requires.live;
       few = λ before. before;
@@ -60,6 +63,9 @@ returns-in_err-push-clause-cut g c =
       holds = stands_unread c.loop-going.number (ahead c.next.new.self (g.S.Source.left c.next.new.source)) (g.S.Source.left c.next.new.source) behind _ c.from_residual-in_err-push.ensures.1;
     }
 
+pub returns-in_err-push-clause-syncs : goal.returns-in_err-push-clause-syncs
+returns-in_err-push-clause-syncs g c = subst EndsAtSync (sym c.in_err-push.ensures.items) c.loop-going.invariant.syncs
+
 pub loop-going-preserved : goal.loop-going-preserved
 loop-going-preserved g c =
     let inv = c.loop-going.invariant in
@@ -73,6 +79,8 @@ loop-going-preserved g c =
           c.loop-going.cut.items c.push.new.self.items c.new-line.result c.next.new.line.items longer made.bytes given inv.gives;
       follow = follows_one_more c.args.number.now c.loop-going.number c.loop-going.cut.items c.push.new.self.items c.new-line.result c.next.new.line.items longer made.bytes inv.more made.number (next.within c.if-not-branch.false) inv.follow;
       more = omega (arith, inv.more, ap length longer, length-append c.loop-going.cut.items (c.new-line.result ∷ []));
+      syncs = ends_at_sync c.loop-going.cut.items c.push.new.self.items c.new-line.result longer (inv.none c.loop-going-test.true);
+      none = λ is. no_sync_more c.loop-going.cut.items c.push.new.self.items c.new-line.result longer (inv.none c.loop-going-test.true) (c.goes_on-going.ensures is);
       here = omega (arith, inv.here, counted.1);
       live = next.live.1 (ap Ok c.if-not-branch.false);
       few = λ before. omega (arith, inv.here, counted.0, counted.1);

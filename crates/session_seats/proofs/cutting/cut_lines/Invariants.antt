@@ -1,8 +1,9 @@
-use Rattle.std.proofs.Common.{◌≡◌, ◌+◌, ◌-◌, ◌<◌, ◌≤◌, false, length, is_some}
+use Rattle.std.proofs.Common.{◌≡◌, ◌+◌, ◌-◌, ◌<◌, ◌≤◌, true, false, length, is_some}
 use Rattle.std.specs.Prelude.{IsTrue}
 use Rattle.dnr_io.specs.Lines.{ahead}
 use Rattle.dnr_spec.specs.Lines.{max_lines}
-use Rattle.session_seats.specs.Cutting.{bytes_of, GivesLines, FollowOn}
+use Rattle.session_seats.specs.Cutting.{bytes_of, EndsAtSync, GivesLines, FollowOn}
+use Rattle.session_seats.proofs.Syncs.{AreNoSync}
 use Rattle.session_seats.proofs.cutting.cut_lines.Given as goal
 
 abbrev pub invariant-loop-going : goal.invariant-loop-going
@@ -13,6 +14,8 @@ invariant-loop-going g l = record {
   here : l.number ≡ l.lines.count;
   live : IsTrue l.lines.live;
   few : l.fn.number ≤ max_lines → l.number ≤ max_lines;
+  syncs : EndsAtSync l.cut.items;
+  none : l.going ≡ true → AreNoSync l.cut.items;
   some : l.going ≡ false → l.fn.number < l.number;
   told : is_some (g.S.Source.left l.source) ≡ is_some (g.S.Source.left l.fn.source);
   files : g.S.Source.files l.source ≡ g.S.Source.files l.fn.source;
