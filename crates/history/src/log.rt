@@ -1,4 +1,4 @@
-ghost use Rattle.std.specs.Prelude.{◌≡◌, ◌≤◌, ◌++◌, ◌∷◌, [], length, IsTrue, IfSome};
+ghost use Rattle.std.specs.Prelude.{◌≡◌, ◌≤◌, ◌<◌, ◌++◌, ◌∷◌, [], length, IsTrue, IsFalse, IfSome};
 ghost use mathlib.Core.List.{IsPrefix};
 
 use crate::Head;
@@ -54,7 +54,8 @@ impl<E> Log<E> {
     /// Whether it has at least as many entries as another log of the history, which then begins it.
     pub fn covers(&self, other: &Log<E>) -> bool
         requires { other.now.book ≡ self.now.book }
-        ensures { IsTrue result → IsPrefix other.now.list self.now.list }
+        ensures begins { IsTrue result → IsPrefix other.now.list self.now.list }
+        ensures longer { IsFalse result → length self.now.list < length other.now.list }
     {
         agree(other, self);
         other.count <= self.count

@@ -3,3 +3,4 @@ pub mod Entering
 pub mod Next
 pub mod Coming
 pub mod Counted
+pub mod Passes

@@ -1,12 +1,16 @@
 -- What a writer shows, and what it has staged.
-use Rattle.std.specs.Prelude.{◌≡◌, ◌⊎◌, List, [], ◌∷◌, ◌++◌, length, drop, Option, None, Some}
+use Rattle.std.specs.Prelude.{◌≡◌, ◌⊎◌, ℕ, List, [], ◌∷◌, ◌++◌, length, drop, Option, None, Some}
 use Rattle.update_spec.specs.Entries.{Entry, after}
 use Rattle.published.specs.Shared.{Copy}
 
--- the accepted entries, and the one that is staged, if any
+-- the accepted entries, and the one that is staged, if any; and how often there was no place for a pass
 pub record Listed : Type 0 where
   pub list : List Entry
   pub staged : List Entry
+  pub unplaced : ℕ
+
+abbrev pub with_unplaced : Listed → ℕ → Listed
+with_unplaced writer count = record { list = writer.list; staged = writer.staged; unplaced = count }
 
 -- the copies that are to come: the one that is kept aside, and those that were handed on
 abbrev pub coming : Option Copy → List Copy → List Copy

@@ -1,4 +1,4 @@
-ghost use Rattle.std.specs.Prelude.{◌≡◌, length, IsTrue};
+ghost use Rattle.std.specs.Prelude.{◌≡◌, ◌<◌, length, IsTrue, IsFalse};
 ghost use mathlib.Core.List.{IsPrefix};
 
 use crate::{Entry, Pair};
@@ -50,7 +50,8 @@ impl<P: Pair> Note<P> {
 
     /// Whether it tells of no more than another note of the pair, which then goes on from it.
     pub fn begins(&self, other: &Note<P>) -> bool
-        ensures { IsTrue result → IsPrefix self.now other.now }
+        ensures begins { IsTrue result → IsPrefix self.now other.now }
+        ensures longer { IsFalse result → length other.now < length self.now }
     {
         other.log.covers(&self.log)
     }

@@ -1,5 +1,6 @@
-ghost use Rattle.std.specs.Prelude.{◌≡◌, ◌<◌, ◌≤◌, ◌+◌, [], length, IfOk, All};
+ghost use Rattle.std.specs.Prelude.{◌≡◌, ◌<◌, ◌≤◌, ◌+◌, [], length, IfOk, All, vec_len, vec_capacity};
 ghost use Rattle.std.specs.Arc.{arc_value};
+ghost use Rattle.published.specs.Pass.{HasSeenNothing};
 
 use crate::copy::Shown;
 use crate::{Entry, ReaderPass, Writer};
@@ -32,8 +33,8 @@ impl Pair for Brand {
     ghost opening = { record { suffixes = []; state = record { extensions = []; count = 0 } } };
 }
 
-/// A writer and passes of one pair, which open with this generation, after no update. There is a pass for each seat
-/// for which `left_right` has a place, and at most 8.
+/// A writer and passes of one pair, which open with this generation, after no update. A pass is asked for of each seat,
+/// of which there are at most 8, and there is one but for those that the writer found no place for.
 ///
 /// # Errors
 ///
@@ -48,27 +49,32 @@ pub fn publish_pair<P: Pair>(
     requires book { opened ≡ P.book }
     requires opening { first ≡ P.opening }
     ensures writer { IfOk result (λ pair. (pair.0.list ≡ []) × (pair.0.staged ≡ [])) }
-    ensures passes { IfOk result (λ pair. All (λ pass. pass ≡ []) pair.1.items) }
-    ensures seats { IfOk result (λ pair. length pair.1.items ≤ seats) }
+    ensures passes { IfOk result (λ pair. All HasSeenNothing pair.1.items) }
+    ensures seats { IfOk result (λ pair. length pair.1.items + pair.0.unplaced ≡ seats) }
 {
     let mut passes = Vec::with_capacity(alloc, seats as usize)?;
     let (head, log) = opened.parts();
     let empty = log.again();
     let shown = Shown::new(Arc::new(alloc, first).map_err(|_| NoMemory)?, log);
     let spare = shown.again()?;
-    let writer = Writer::new(alloc, head, shown, spare, seats)?;
+    let mut writer = Writer::new(alloc, head, shown, spare, seats)?;
     for _ in 0..seats {
-        add_pass(&writer, &empty, &mut passes);
+        add_pass(&mut writer, &empty, &mut passes);
     }
     Ok((writer, passes))
 }
 
-// One pass more, where there is a place for it. There is room for it.
-fn add_pass<P: Pair>(writer: &Writer<P>, empty: &Log<Entry>, passes: &mut Vec<ReaderPass<P>>)
+// One pass more, or one more that there was no place for. There is memory for it.
+fn add_pass<P: Pair>(writer: &mut Writer<P>, empty: &Log<Entry>, passes: &mut Vec<ReaderPass<P>>)
     requires empty { empty.now ≡ record { book = P.book; list = [] } }
-    requires fresh { All (λ pass. pass ≡ []) passes.old.items }
-    ensures count { length passes.new.items ≤ length passes.old.items + 1 }
-    ensures fresh { All (λ pass. pass ≡ []) passes.new.items }
+    requires few { writer.old.unplaced < 8 }
+    requires memory { vec_len passes.old < vec_capacity passes.old }
+    requires fresh { All HasSeenNothing passes.old.items }
+    ensures count { length passes.new.items + writer.new.unplaced ≡ length passes.old.items + writer.old.unplaced + 1 }
+    ensures writer { (writer.new.list ≡ writer.old.list) × (writer.new.staged ≡ writer.old.staged) }
+    ensures memory { vec_capacity passes.old ≤ vec_capacity passes.new }
+    ensures one { vec_len passes.new ≤ vec_len passes.old + 1 }
+    ensures fresh { All HasSeenNothing passes.new.items }
 {
     if let Some(pass) = writer.pass(empty) {
         let _ = passes.push(pass);

@@ -1,10 +1,12 @@
 ghost use Rattle.std.specs.Prelude.{◌≡◌, ◌≤◌, ◌+◌, [], length, IsTrue, IsFalse, IfOk};
 ghost use mathlib.Core.List.{IsPrefix};
+ghost use Rattle.dnr_base.specs.Faults.{HasCauseOf};
 ghost use Rattle.dnr_base.specs.Request.{max_frames};
 ghost use Rattle.explain_spec.specs.Explanation.{explanation_of};
 ghost use Rattle.index_spec.specs.Pairs.{pairs_of};
 ghost use Rattle.rule_spec.specs.Scan.{scan};
 ghost use Rattle.update_spec.specs.Entries.{replay};
+ghost use Rattle.published.specs.Pass.{HasSeenNothing, IsBehind};
 ghost use Rattle.published.specs.Refused.{EndsAfter};
 
 use crate::look::{CopyReader, look, look_into, peek};
@@ -17,23 +19,29 @@ use std::alloc::Global;
 use std::marker::Model;
 use std::sync::ledger::Ledger;
 
-/// A reader of what is published. A clause sees the entries that it has seen.
+/// A reader of what is published. A clause sees the entries that it has seen, those of the copy that it entered last,
+/// and how often there was no copy to enter.
 #[derive(Drop)]
 pub struct ReaderPass<P: Pair> {
     // It is always there: a call takes it out and puts it back.
     reader: Option<CopyReader<P>>,
     log: Log<Entry>,
+    missed: u64,
 }
 
 impl<P: Pair> Model for ReaderPass<P> {
-    ghost use Rattle.std.specs.Prelude.{◌≡◌, List, IsSomeAnd};
+    ghost use Rattle.std.specs.Prelude.{◌≡◌, IsSomeAnd};
     ghost use mathlib.Core.List.{IsPrefix};
     ghost use Rattle.left_right.specs.Sides as sides;
-    ghost use Rattle.update_spec.specs.Entries as entries;
+    ghost use Rattle.published.specs.Pass.{PassSeen, entered_of};
 
-    ghost Value = { List entries.Entry };
+    ghost Value = { PassSeen };
 
-    ghost view = { λ p. p.log.list };
+    ghost view = { λ p. record {
+      seen = p.log.list;
+      entered = entered_of p.reader (λ r. sides.view r.place);
+      missed = p.missed;
+    } };
 
     ghost invariant = { λ p. (p.log.book ≡ P.book)
         × IsSomeAnd p.reader (λ r. IsPrefix p.log.list (sides.view r.place)) };
@@ -43,11 +51,12 @@ impl<P: Pair> ReaderPass<P> {
     // A pass that has seen nothing.
     pub(crate) fn new(reader: CopyReader<P>, log: Log<Entry>) -> ReaderPass<P>
         requires { log ≡ record { book = P.book; list = [] } }
-        ensures { result ≡ [] }
+        ensures { HasSeenNothing result }
     {
         ReaderPass {
             reader: Some(reader),
             log,
+            missed: 0,
         }
     }
 
@@ -65,16 +74,18 @@ impl<P: Pair> ReaderPass<P> {
         steps: &mut Steps<L>,
     ) -> Result<Answer, ReadRefusal>
         requires { length request.now.frames ≤ max_frames }
-        ensures later { IsPrefix self.old self.new }
-        ensures number { IfOk result (λ answer. answer.number ≡ length self.new) }
+        ensures later { IsPrefix self.old.seen self.new.seen }
+        ensures cause { HasCauseOf ReadRefusal.NotEntered self.old.missed self.new.missed result }
+        ensures number { IfOk result (λ answer. answer.number ≡ length self.new.seen) }
         ensures verdict { IfOk result (λ answer. answer.verdict
-            ≡ scan P.opening.suffixes (replay P.opening.state self.new) request.now) }
-        ensures ends { EndsAfter P.opening self.new (H.faults host.old) (H.faults host.new) result }
-        ensures bound { steps.new ≤ steps.old + pairs_of (replay P.opening.state self.new) request.now }
+            ≡ scan P.opening.suffixes (replay P.opening.state self.new.seen) request.now) }
+        ensures ends { EndsAfter P.opening self.new.seen (H.faults host.old) (H.faults host.new) result }
+        ensures bound { steps.new ≤ steps.old + pairs_of (replay P.opening.state self.new.seen) request.now }
     {
         let (reader, found) = look(self.reader.take().unwrap(), alloc, request, host, steps);
         self.reader = Some(reader);
         let Some((log, decided)) = found else {
+            self.missed = self.missed.saturating_add(1);
             return Err(ReadRefusal::NotEntered);
         };
         let number = log.len();
@@ -100,16 +111,18 @@ impl<P: Pair> ReaderPass<P> {
         steps: &mut Steps<L>,
     ) -> Result<Explained, ReadRefusal>
         requires { length request.now.frames ≤ max_frames }
-        ensures later { IsPrefix self.old self.new }
-        ensures number { IfOk result (λ answer. answer.number ≡ length self.new) }
+        ensures later { IsPrefix self.old.seen self.new.seen }
+        ensures cause { HasCauseOf ReadRefusal.NotEntered self.old.missed self.new.missed result }
+        ensures number { IfOk result (λ answer. answer.number ≡ length self.new.seen) }
         ensures explanation { IfOk result (λ answer. answer.explanation
-            ≡ explanation_of P.opening.suffixes (replay P.opening.state self.new) request.now) }
-        ensures ends { EndsAfter P.opening self.new (H.faults host.old) (H.faults host.new) result }
-        ensures bound { steps.new ≤ steps.old + pairs_of (replay P.opening.state self.new) request.now }
+            ≡ explanation_of P.opening.suffixes (replay P.opening.state self.new.seen) request.now) }
+        ensures ends { EndsAfter P.opening self.new.seen (H.faults host.old) (H.faults host.new) result }
+        ensures bound { steps.new ≤ steps.old + pairs_of (replay P.opening.state self.new.seen) request.now }
     {
         let (reader, found) = look_into(self.reader.take().unwrap(), alloc, request, host, steps);
         self.reader = Some(reader);
         let Some((log, explained)) = found else {
+            self.missed = self.missed.saturating_add(1);
             return Err(ReadRefusal::NotEntered);
         };
         let number = log.len();
@@ -128,13 +141,16 @@ impl<P: Pair> ReaderPass<P> {
     ///
     /// False: there was no copy to enter, or one that the note is ahead of. Nothing is learnt then.
     pub fn learn(&mut self, note: Note<P>) -> bool
-        ensures seen { IsTrue result → IsPrefix self.old self.new }
-        ensures told { IsTrue result → IsPrefix note self.new }
-        ensures none { IsFalse result → self.new ≡ self.old }
+        ensures seen { IsTrue result → IsPrefix self.old.seen self.new.seen }
+        ensures told { IsTrue result → IsPrefix note self.new.seen }
+        ensures none { IsFalse result → self.new.seen ≡ self.old.seen }
+        ensures cause { IsFalse result → IsBehind self.old self.new note }
+        ensures later { self.old.missed ≤ self.new.missed }
     {
         let (reader, found) = peek(self.reader.take().unwrap());
         self.reader = Some(reader);
         let Some(log) = found else {
+            self.missed = self.missed.saturating_add(1);
             return false;
         };
         if !log.covers(note.log()) {
@@ -146,7 +162,7 @@ impl<P: Pair> ReaderPass<P> {
 
     /// A note of what this pass has seen.
     pub fn note(&self) -> Note<P>
-        ensures { result ≡ self.now }
+        ensures { result ≡ self.now.seen }
     {
         Note::new(self.log.again())
     }
@@ -154,8 +170,8 @@ impl<P: Pair> ReaderPass<P> {
     /// Of what a pass has seen and a note the shorter begins the longer. This is known of all of them, and the
     /// function does nothing.
     pub fn compare(&self, note: &Note<P>)
-        ensures before { length self.now ≤ length note.now → IsPrefix self.now note.now }
-        ensures after { length note.now ≤ length self.now → IsPrefix note.now self.now }
+        ensures before { length self.now.seen ≤ length note.now → IsPrefix self.now.seen note.now }
+        ensures after { length note.now ≤ length self.now.seen → IsPrefix note.now self.now.seen }
     {
         agree(&self.log, note.log());
         agree(note.log(), &self.log);

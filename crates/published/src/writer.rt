@@ -1,8 +1,9 @@
-ghost use Rattle.std.specs.Prelude.{◌≡◌, ◌↔◌, ◌<◌, ◌≤◌, ◌∷◌, ◌++◌, [], length, None, IsTrue, IsFalse, IfSome, IfOk, IfErr, OnOk, OnErr};
+ghost use Rattle.std.specs.Prelude.{◌≡◌, ◌↔◌, ◌<◌, ◌≤◌, ◌+◌, ◌∷◌, ◌++◌, [], length, None, IsTrue, IsFalse, IsSome, IsNone, IfSome, IfOk, IfErr, OnOk, OnErr};
 ghost use Rattle.ruleset_store.specs.Seen.{IsBatchRefusal, IsRefusalOf, update_seen, updates_seen};
 ghost use Rattle.update_spec.specs.Entries as entries;
 ghost use Rattle.update_spec.specs.Entries.{replay};
 ghost use Rattle.update_spec.specs.Judge.{judge_update};
+ghost use Rattle.published.specs.Ahead.{with_unplaced};
 ghost use Rattle.published.specs.Shared.{basis_after};
 
 use crate::copies::{Copies, hand_on, next_copy, next_copy_together, publish_in};
@@ -16,12 +17,13 @@ use std::alloc::{AllocError, Global};
 use std::marker::Model;
 use std::sync::Wait;
 
-/// The one writer of a pair. A clause sees the accepted entries, and the staged one, if any. It is not `Drop`:
-/// `close` ends it.
+/// The one writer of a pair. A clause sees the accepted entries, the staged one, if any, and how often there was no
+/// place for a pass. It is not `Drop`: `close` ends it.
 pub struct Writer<P: Pair> {
     copies: Copies<P>,
     head: Head<Entry>,
     kept: Option<Shown>,
+    unplaced: u32,
     alloc: Global,
 }
 
@@ -35,6 +37,7 @@ impl<P: Pair> Model for Writer<P> {
     ghost view = { λ w. record {
       list = w.copies.desk.shown.value.list;
       staged = beyond w.copies.desk.shown.value (coming w.kept (drop w.copies.behind w.copies.log.items));
+      unplaced = w.unplaced;
     } };
 
     ghost invariant = { λ w. (w.head ≡ P.book) × IsCopy P.book P.opening w.copies.desk.shown.value
@@ -54,23 +57,30 @@ impl<P: Pair> Writer<P> {
         requires head { head ≡ P.book }
         requires first { first ≡ record { basis = P.opening; book = P.book; list = [] } }
         requires spare { spare ≡ first }
-        ensures { IfOk result (λ writer. writer ≡ record { list = []; staged = [] }) }
+        ensures { IfOk result (λ writer. writer ≡ record { list = []; staged = []; unplaced = 0 }) }
     {
         let copies = Copies::new(alloc, first, spare, seats as usize)?;
         Ok(Writer {
             copies,
             head,
             kept: None,
+            unplaced: 0,
             alloc,
         })
     }
 
-    // A pass that has seen nothing, where there is a place for one.
-    pub(crate) fn pass(&self, empty: &Log<Entry>) -> Option<ReaderPass<P>>
-        requires { empty.now ≡ record { book = P.book; list = [] } }
-        ensures { IfSome result (λ pass. pass ≡ []) }
+    // A pass that has seen nothing, or one more that there was no place for.
+    pub(crate) fn pass(&mut self, empty: &Log<Entry>) -> Option<ReaderPass<P>>
+        requires empty { empty.now ≡ record { book = P.book; list = [] } }
+        requires few { self.old.unplaced < 8 }
+        ensures fresh { IfSome result (λ pass. pass.seen ≡ []) }
+        ensures placed { IsSome result → self.new ≡ self.old }
+        ensures unplaced { IsNone result → self.new ≡ with_unplaced self.old (self.old.unplaced + 1) }
     {
-        let reader = self.copies.factory().reader().ok()?;
+        let Ok(reader) = self.copies.factory().reader() else {
+            self.unplaced += 1;
+            return None;
+        };
         Some(ReaderPass::new(reader, empty.again()))
     }
 
@@ -165,6 +175,7 @@ impl<P: Pair> Writer<P> {
             copies,
             head: _,
             kept: _,
+            unplaced: _,
             alloc: _,
         } = self;
         drop(copies.take(rt));

@@ -7,6 +7,7 @@ use Rattle.std.proofs.lemmas.List.Elements.{All-nil, All-push, All-same, All-con
 use mathlib.Core.List.{IsPrefix}
 use Rattle.generation.specs.Basis.{Basis}
 use Rattle.published.proofs.Beginnings.{begins_itself}
+use Rattle.published.specs.Pass.{PassSeen}
 use Rattle.session_spec.specs.Rounds.{Held, asks, is_full, is_sync}
 use Rattle.session_rounds.specs.Lines.{read_seen}
 use Rattle.session_rounds.specs.declared.read_line.ReadLine.{ReadLine}
@@ -29,19 +30,19 @@ one_kept opening reads seen before now said true is answers all = subst (All (An
 one_kept opening reads seen before now said false is answers all = subst (All (Answers opening reads seen)) (sym is) all
 
 -- what was answered stays answered as the pass sees more
-pub kept_on : (opening : Basis) (reads : List ReadLine) (pass : Option (List Entry)) (was now : List Entry) (said : List Said) → pass ≡ Some was → IsPrefix was now
-    → All (Answers opening reads (seen_of pass)) said → All (Answers opening reads now) said
+pub kept_on : (opening : Basis) (reads : List ReadLine) (pass : Option PassSeen) (was now : PassSeen) (said : List Said) → pass ≡ Some was → IsPrefix was.seen now.seen
+    → All (Answers opening reads (seen_of pass)) said → All (Answers opening reads now.seen) said
 kept_on opening reads pass was now said is later all =
-    all_further opening reads (seen_of pass) now said (subst (λ (p : Option (List Entry)). IsPrefix (seen_of p) now) (sym is) later) all
+    all_further opening reads (seen_of pass) now.seen said (subst (λ (p : Option PassSeen). IsPrefix (seen_of p) now.seen) (sym is) later) all
 
 -- a pass that may have learnt goes on from what it had seen
 goes_on : (old new : List Entry) (learnt : Bool) → (IsTrue learnt → IsPrefix old new) → (IsFalse learnt → new ≡ old) → IsPrefix old new
 goes_on old new true later same = later refl
 goes_on old new false later same = subst (λ (list : List Entry). IsPrefix old list) (sym (same refl)) (begins_itself old)
 
-pub learns_on : (seen : List Entry) (pass : Option (List Entry)) (was now : List Entry) (learnt : Bool) → seen_of pass ≡ seen → pass ≡ Some was → (IsTrue learnt → IsPrefix was now) → (IsFalse learnt → now ≡ was)
-    → IsPrefix seen now
-learns_on seen pass was now learnt view is later same = subst (λ (list : List Entry). IsPrefix list now) (sym (ap seen_of is) ∙ view) (goes_on was now learnt later same)
+pub learns_on : (seen : List Entry) (pass : Option PassSeen) (was now : PassSeen) (learnt : Bool) → seen_of pass ≡ seen → pass ≡ Some was → (IsTrue learnt → IsPrefix was.seen now.seen) → (IsFalse learnt → now.seen ≡ was.seen)
+    → IsPrefix seen now.seen
+learns_on seen pass was now learnt view is later same = subst (λ (list : List Entry). IsPrefix list now.seen) (sym (ap seen_of is) ∙ view) (goes_on was.seen now.seen learnt later same)
 
 -- the next turn of a seat is nearer to the end
 pub turns_on : (count turn step next : ℕ) → turn < count → count < 2 ^ 64 → 0 < step → next ≡ min (turn + step) (2 ^ 64 - 1) → count - next < count - turn

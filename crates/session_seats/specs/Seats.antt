@@ -2,6 +2,7 @@
 use Rattle.std.specs.Prelude.{◌≡◌, ◌<◌, ◌≤◌, ℕ, List, [], length, get_or, Bool, Option, Some, None, All, IsTrue, IfSome, Result}
 use mathlib.Core.List.{IsPrefix}
 use Rattle.generation.specs.Basis.{Basis}
+use Rattle.published.specs.Pass.{PassSeen}
 use Rattle.update_spec.specs.Entries.{Entry}
 use Rattle.line_spec.specs.Line.{Command}
 use Rattle.line_spec.specs.declared.line_fault.LineFault.{LineFault}
@@ -10,9 +11,9 @@ use Rattle.session_rounds.specs.declared.read_line.ReadLine.{ReadLine}
 use Rattle.session_seats.specs.Said.{Said}
 
 -- what a pass has seen, where there is one
-abbrev pub seen_of : Option (List Entry) → List Entry
+abbrev pub seen_of : Option PassSeen → List Entry
 seen_of None = []
-seen_of (Some seen) = seen
+seen_of (Some pass) = pass.seen
 
 -- This is said to a line of this number, at this place, that asks for this: an answer after entries that begin what was
 -- seen.

@@ -277,8 +277,8 @@ fn answer_by<P: Pair, H: RegexHost>(
 ) -> Result<Option<Answered>, NoMemory>
     requires line { IsLine line.now }
     requires empty { string_bytes text ≡ [] }
-    ensures later { IsPrefix pass.old pass.new }
-    ensures says { IfOk result (λ found. IfSome found (SaysAt P.opening place line.now.number (read_seen line.now.read) pass.new)) }
+    ensures later { IsPrefix pass.old.seen pass.new.seen }
+    ensures says { IfOk result (λ found. IfSome found (SaysAt P.opening place line.now.number (read_seen line.now.read) pass.new.seen)) }
     ensures host { H.faults host.old ≤ H.faults host.new }
 {
     match &line.read {

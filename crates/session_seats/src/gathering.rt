@@ -30,8 +30,8 @@ pub fn decided<P: Pair, H: RegexHost>(
 ) -> Result<Option<Answered>, NoMemory>
     requires frames { length request.now.frames ≤ max_frames }
     requires empty { string_bytes text ≡ [] }
-    ensures later { IsPrefix pass.old pass.new }
-    ensures says { IfOk result (λ found. IfSome found (SaysAt P.opening place line (Ok (spec.request request.now)) pass.new)) }
+    ensures later { IsPrefix pass.old.seen pass.new.seen }
+    ensures says { IfOk result (λ found. IfSome found (SaysAt P.opening place line (Ok (spec.request request.now)) pass.new.seen)) }
     ensures host { H.faults host.old ≤ H.faults host.new }
 {
     // The count is a `u64`, so it has not fallen where it rose.
@@ -73,8 +73,8 @@ pub fn explained<P: Pair, H: RegexHost>(
 ) -> Result<Option<Answered>, NoMemory>
     requires frames { length request.now.frames ≤ max_frames }
     requires empty { string_bytes text ≡ [] }
-    ensures later { IsPrefix pass.old pass.new }
-    ensures says { IfOk result (λ found. IfSome found (SaysAt P.opening place line (Ok (spec.explain request.now)) pass.new)) }
+    ensures later { IsPrefix pass.old.seen pass.new.seen }
+    ensures says { IfOk result (λ found. IfSome found (SaysAt P.opening place line (Ok (spec.explain request.now)) pass.new.seen)) }
     ensures host { H.faults host.old ≤ H.faults host.new }
 {
     // The count is a `u64`, so it has not fallen where it rose.
@@ -111,11 +111,11 @@ fn verdict_by<P: Pair, H: RegexHost>(
     host: &mut H,
 ) -> Result<Answer, ReadRefusal>
     requires { length request.now.frames ≤ max_frames }
-    ensures later { IsPrefix pass.old pass.new }
-    ensures number { IfOk result (λ answer. answer.number ≡ length pass.new) }
+    ensures later { IsPrefix pass.old.seen pass.new.seen }
+    ensures number { IfOk result (λ answer. answer.number ≡ length pass.new.seen) }
     ensures verdict { IfOk result (λ answer. answer.verdict
-        ≡ scan P.opening.suffixes (replay P.opening.state pass.new) request.now) }
-    ensures ends { EndsAfter P.opening pass.new (H.faults host.old) (H.faults host.new) result }
+        ≡ scan P.opening.suffixes (replay P.opening.state pass.new.seen) request.now) }
+    ensures ends { EndsAfter P.opening pass.new.seen (H.faults host.old) (H.faults host.new) result }
 {
     verdict_over::<P, H, Brand>(alloc, pass, request, host, Blank::new(1))
 }
@@ -131,11 +131,11 @@ fn verdict_over<P: Pair, H: RegexHost, L: Ledger>(
     requires name { blank.name ≡ L.name }
     requires parts { blank.parts ≡ L.parts }
     requires one { blank.parts ≡ 1 }
-    ensures later { IsPrefix pass.old pass.new }
-    ensures number { IfOk result (λ answer. answer.number ≡ length pass.new) }
+    ensures later { IsPrefix pass.old.seen pass.new.seen }
+    ensures number { IfOk result (λ answer. answer.number ≡ length pass.new.seen) }
     ensures verdict { IfOk result (λ answer. answer.verdict
-        ≡ scan P.opening.suffixes (replay P.opening.state pass.new) request.now) }
-    ensures ends { EndsAfter P.opening pass.new (H.faults host.old) (H.faults host.new) result }
+        ≡ scan P.opening.suffixes (replay P.opening.state pass.new.seen) request.now) }
+    ensures ends { EndsAfter P.opening pass.new.seen (H.faults host.old) (H.faults host.new) result }
 {
     let mut steps = Steps::<L>::open(blank);
     pass.decide(alloc, request, host, &mut steps)
@@ -149,11 +149,11 @@ fn explanation_by<P: Pair, H: RegexHost>(
     host: &mut H,
 ) -> Result<Explained, ReadRefusal>
     requires { length request.now.frames ≤ max_frames }
-    ensures later { IsPrefix pass.old pass.new }
-    ensures number { IfOk result (λ answer. answer.number ≡ length pass.new) }
+    ensures later { IsPrefix pass.old.seen pass.new.seen }
+    ensures number { IfOk result (λ answer. answer.number ≡ length pass.new.seen) }
     ensures explanation { IfOk result (λ answer. answer.explanation
-        ≡ explanation_of P.opening.suffixes (replay P.opening.state pass.new) request.now) }
-    ensures ends { EndsAfter P.opening pass.new (H.faults host.old) (H.faults host.new) result }
+        ≡ explanation_of P.opening.suffixes (replay P.opening.state pass.new.seen) request.now) }
+    ensures ends { EndsAfter P.opening pass.new.seen (H.faults host.old) (H.faults host.new) result }
 {
     explanation_over::<P, H, Brand>(alloc, pass, request, host, Blank::new(1))
 }
@@ -169,11 +169,11 @@ fn explanation_over<P: Pair, H: RegexHost, L: Ledger>(
     requires name { blank.name ≡ L.name }
     requires parts { blank.parts ≡ L.parts }
     requires one { blank.parts ≡ 1 }
-    ensures later { IsPrefix pass.old pass.new }
-    ensures number { IfOk result (λ answer. answer.number ≡ length pass.new) }
+    ensures later { IsPrefix pass.old.seen pass.new.seen }
+    ensures number { IfOk result (λ answer. answer.number ≡ length pass.new.seen) }
     ensures explanation { IfOk result (λ answer. answer.explanation
-        ≡ explanation_of P.opening.suffixes (replay P.opening.state pass.new) request.now) }
-    ensures ends { EndsAfter P.opening pass.new (H.faults host.old) (H.faults host.new) result }
+        ≡ explanation_of P.opening.suffixes (replay P.opening.state pass.new.seen) request.now) }
+    ensures ends { EndsAfter P.opening pass.new.seen (H.faults host.old) (H.faults host.new) result }
 {
     let mut steps = Steps::<L>::open(blank);
     pass.explain(alloc, request, host, &mut steps)

@@ -5,11 +5,11 @@ use Rattle.session_seats.proofs.gathering.decided.Goals as goal
 
 pub returns-in_ok-write_verdict-in-Ok-clause-says : goal.returns-in_ok-write_verdict-in-Ok-clause-says
 returns-in_ok-write_verdict-in-Ok-clause-says g c =
-    verdict_said g.P.Pair.opening c.args.request.now c.verdict_by.new.pass c.args.place c.args.line c.in-Ok.answer.number c.in-Ok.answer.verdict _ refl refl refl c.in-Ok.ensures.number c.in-Ok.ensures.verdict
+    verdict_said g.P.Pair.opening c.args.request.now c.verdict_by.new.pass.seen c.args.place c.args.line c.in-Ok.answer.number c.in-Ok.answer.verdict _ refl refl refl c.in-Ok.ensures.number c.in-Ok.ensures.verdict
     (c.in_ok-write_verdict-in-Ok.ensures.appended ∙ ap (λ t. t ++ verdict_line c.args.line c.in-Ok.answer.number c.in-Ok.answer.verdict) c.requires.empty)
 
 pub returns-in_ok-write_fault-in-Err-HostFault-clause-says : goal.returns-in_ok-write_fault-in-Err-HostFault-clause-says
 returns-in_ok-write_fault-in-Err-HostFault-clause-says g c =
     let ends = rw c.in-Err-HostFault.field-0-is at c.in-Err-HostFault.ensures.ends in
-    (fault_said g.P.Pair.opening c.args.request.now c.verdict_by.new.pass c.args.place c.args.line c.in-Err-HostFault.number c.in-Err-HostFault.rule _ refl refl refl ends.0 ends.2
+    (fault_said g.P.Pair.opening c.args.request.now c.verdict_by.new.pass.seen c.args.place c.args.line c.in-Err-HostFault.number c.in-Err-HostFault.rule _ refl refl refl ends.0 ends.2
     (c.in_ok-write_fault-in-Err-HostFault.ensures.appended ∙ ap (λ t. t ++ fault_line c.args.line c.in-Err-HostFault.number c.in-Err-HostFault.rule) c.requires.empty)).0

@@ -13,7 +13,7 @@ returns-in_default-clause-answers g c = subst (λ (desk : DeskSeen). HasAnswered
 pub keep-requires-clause-answer : goal.keep-requires-clause-answer
 keep-requires-clause-answer g c =
     let says = rw c.in-Ok-Some.field-0-is at c.in-Ok-Some.ensures.says in
-    answers_line g.P.Pair.opening c.args.round.now.reads c.answer_by.new.pass c.args.place c.args.line.now c.in-Ok-Some.answered c.requires.there.0 c.requires.there.1 says
+    answers_line g.P.Pair.opening c.args.round.now.reads c.answer_by.new.pass.seen c.args.place c.args.line.now c.in-Ok-Some.answered c.requires.there.0 c.requires.there.1 says
 
 pub keep-requires-clause-so_far : goal.keep-requires-clause-so_far
 keep-requires-clause-so_far g c =
