@@ -1,0 +1,4 @@
+pub mod Held
+pub mod Asking
+pub mod Opening
+pub mod Decided
