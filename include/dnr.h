@@ -176,7 +176,7 @@ typedef struct dnr_span {
 /* A rule by where it stands. */
 typedef struct dnr_rule {
     dnr_span extension; /* its name, or that of the list; `local` for a rules file */
-    dnr_span ruleset;   /* the ruleset's id in the extension; `dynamic` and `session` for rules that updates added */
+    dnr_span ruleset;   /* the ruleset's id in the extension; `_dynamic` and `_session` for rules that updates added */
     uint32_t id;        /* the rule's id in the ruleset */
 } dnr_rule;
 

@@ -38,7 +38,7 @@ static const char rules[] = "[{\"id\":1,\"condition\":{\"urlFilter\":\"||ads.exa
 static const char asks[] = "{\"url\":\"https://t12.example/\",\"type\":\"script\"}";
 static const char adds[] = "{\"cmd\":\"dynamic\",\"extension\":\"local\",\"addRules\":[{\"id\":9,\"condition\":{},\"action\":{\"type\":\"allow\"},\"priority\":2}]}";
 static const char blocked[] = "{\"line\":1,\"generation\":0,\"verdict\":\"block\",\"rule\":[\"local\",\"rules\",2]}\n";
-static const char allowed[] = "{\"line\":1,\"generation\":1,\"verdict\":\"allow\",\"rule\":[\"local\",\"dynamic\",9]}\n";
+static const char allowed[] = "{\"line\":1,\"generation\":1,\"verdict\":\"allow\",\"rule\":[\"local\",\"_dynamic\",9]}\n";
 static uint8_t out[4096];
 static size_t length;
 
