@@ -1,0 +1,9 @@
+//! The rules that updates leave, one update after another, found by their ids alone. So many updates are made without an
+//! index for each, where only the rules that the last leaves are to be found by keys.
+#![tactic(auto)]
+
+mod live;
+mod slot;
+
+pub use dnr_base::NoMemory;
+pub use live::LiveRules;
