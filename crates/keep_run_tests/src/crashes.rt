@@ -1,5 +1,5 @@
 //! A stop behind each call of the disk.
-use crate::fixtures::{ADDS, KEPT, SCRIPT, TEXTS, TOLD, Ran, disk_of, file_of, joined, run};
+use crate::fixtures::{ADDS, KEPT, Ran, SCRIPT, TEXTS, TOLD, disk_of, file_of, joined, run};
 use dnr_io::Status;
 use keep_disk::MemoryDisk;
 use std::alloc::Global;
@@ -73,7 +73,11 @@ fn what_was_said_is_kept_wherever_the_disk_stops(rt: HostRuntime) -> Result<(), 
         let mut disk = MemoryDisk::new(alloc, b"", later(alloc, calls)?)?;
         let ran = run(alloc, &mut disk, SCRIPT)?;
         let said = said(alloc, &ran)?;
-        let ended = if calls == CALLS { Status::Done } else { Status::DiskFault };
+        let ended = if calls == CALLS {
+            Status::Done
+        } else {
+            Status::DiskFault
+        };
         assert!(rt; ran.status == ended, "{calls}");
         assert!(rt; (said == 3) == (calls == CALLS), "{calls}");
         for image in disk.images()? {

@@ -62,7 +62,9 @@ fn a_byte_that_is_turned_loses_no_earlier_record(rt: HostRuntime) -> Result<(), 
     let last = "{\"cmd\":\"dynamic\",\"extension\":\"a\"}";
     let file = file_of(alloc, &[TEXTS[0], TEXTS[1], last])?;
     let start = ends(alloc)?.get(1).copied().unwrap_or(0);
-    let refused = format!(in alloc; "{{\"file\":\"k\",\"refused\":\"bad-record\",\"offset\":{start}}}\n")?;
+    let refused = format!(in alloc;
+        "{{\"file\":\"k\",\"refused\":\"bad-record\",\"offset\":{start}}}\n"
+    )?;
     for place in start..file.len() {
         let mut bytes = file.as_slice().to_vec(alloc)?;
         bytes[place] = 255 - bytes[place];

@@ -21,7 +21,12 @@ pub const TEXTS: [&str; 3] = [
 ];
 
 /// What is written first where a file keeps none of the lines, the first, the first two, and all of them.
-pub const KEPT: [&str; 4] = ["{\"kept\":0}\n", "{\"kept\":1}\n", "{\"kept\":2}\n", "{\"kept\":3}\n"];
+pub const KEPT: [&str; 4] = [
+    "{\"kept\":0}\n",
+    "{\"kept\":1}\n",
+    "{\"kept\":2}\n",
+    "{\"kept\":3}\n",
+];
 
 /// What is written where the three lines are answered over an empty file: how many it keeps, and each answer.
 pub const TOLD: [&str; 4] = [

@@ -1,10 +1,9 @@
 -- The updates that the records of a file hold, made by the rules' ids alone.
-use Rattle.std.proofs.Common.{◌≡◌, ℕ, ◌+◌, ◌≤◌, Bool, true, false, cond, List, [], ◌∷◌, ◌++◌, length, drop, Option, Some, None, is_none, Result, Ok, Err, bytes_eq, refl, sym, ap, ◌∙◌, subst, append-nil}
+use Rattle.std.proofs.Common.{◌≡◌, ℕ, ◌+◌, Bool, true, false, cond, List, [], ◌∷◌, ◌++◌, length, drop, Some, None, is_none, Result, Ok, Err, bytes_eq, refl, sym, ap, ◌∙◌, subst, append-nil}
 use Rattle.std.proofs.lemmas.Slice.Eq.{bytes_eq-Decides}
 use Rattle.rule_spec.specs.Rule.{Rule}
 use Rattle.rule_spec.specs.State.{State}
 use Rattle.update_spec.specs.Update.{Update, name_in, dynamic, session, rulesets, static, install, uninstall}
-use Rattle.update_spec.specs.Judge.{judge_update}
 use Rattle.update_spec.specs.Entries.{one, after}
 use Rattle.line_spec.specs.declared.line_fault.LineFault.{LineFault}
 use Rattle.line_spec.specs.Line.{Command, blank, sync, request, explain, update, batch, command_of}
@@ -16,7 +15,7 @@ use Rattle.keep_spec.specs.Agrees.{AreRead}
 use Rattle.keep_laws.proofs.Accepted.{kept_is}
 use Rattle.live_rules.specs.Laws.{alone, MadeUpdatesAreAccepted, UpdatesReplaceRules}
 use Rattle.rule_keep.specs.Listed.{ReadNext, ReadSoFar, IsFound, list_of}
-use Rattle.rule_keep.specs.Replayed.{IsMadeBy, IsReplayed, ReplayedSoFar}
+use Rattle.rule_keep.specs.Replayed.{IsMadeBy, ReplayedSoFar}
 use Rattle.rule_keep.proofs.Reading.{read_start, read_more, end_read, end_place}
 
 -- ---- the extension of an update that is read
