@@ -13,5 +13,5 @@ mod record;
 pub use adding::append;
 pub use keep_disk::{Disk, Failed, NoMemory};
 pub use mend::mend_end;
-pub use read::{ReadRefusal, read_all};
+pub use read::{MAX_FILE, ReadRefusal, read_all};
 pub use record::{first_payload, record_behind_gate};

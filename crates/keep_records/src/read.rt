@@ -8,7 +8,8 @@ use dnr_base::{Failed, NoMemory};
 use keep_disk::Disk;
 use std::alloc::Global;
 
-const MAX_FILE: u64 = 67_108_864;
+/// The bytes that a file has at most.
+pub const MAX_FILE: u64 = 67_108_864;
 
 /// Why a file was not read.
 #[derive(Clone, Copy, Debug, PartialEq, Eq)]

@@ -1,8 +1,8 @@
 // What one line is told.
-ghost use Rattle.std.specs.Prelude.{◌≡◌, ◌≤◌, Some, None, Ok, Err, IfOk, OnOk, OnErr, IsTrue, IsFalse, string_bytes};
+ghost use Rattle.std.specs.Prelude.{◌≡◌, ◌≤◌, None, Ok, Err, IfOk, OnOk, OnErr, IsTrue, string_bytes};
 ghost use Rattle.dnr_base.specs.Faults.{HasCauseOf};
 ghost use Rattle.keep_spec.specs.Agrees.{Agrees, Sound};
-ghost use Rattle.keep_spec.specs.Kept.{dynamic_of, state_of};
+ghost use Rattle.keep_spec.specs.Kept.{state_of};
 ghost use Rattle.line_spec.specs.Line as spec;
 ghost use Rattle.ruleset_store.specs.Seen.{update_seen};
 ghost use Rattle.script_read.specs.Seen.{command_seen};
@@ -23,7 +23,7 @@ use keep_disk::Disk;
 use keep_laws::read_updates_may_be_kept;
 use line_spec::{CommandPath, LineFault};
 use regex_host::RegexHost;
-use rule_keep::{Keep, PutRefusal};
+use rule_keep::{Keep, PutRefusal, is_dynamic_of};
 use ruleset_store::Update;
 use script_read::{Command, Memo, read_line_with};
 use std::alloc::Global;
@@ -161,17 +161,6 @@ fn put<D: Disk>(
         Err(PutRefusal::KeepFull) => Ok(say_full(alloc, number)?),
         Err(PutRefusal::DiskFault) => Err(LineStop::DiskFault),
         Err(PutRefusal::NoMemory) => Err(LineStop::NoMemory),
-    }
-}
-
-// Whether it is a dynamic update of this extension.
-fn is_dynamic_of(update: &Update, name: &str) -> bool
-    ensures yes { IsTrue result → dynamic_of name.now (update_seen update.now) ≡ Some (update_seen update.now) }
-    ensures no { IsFalse result → dynamic_of name.now (update_seen update.now) ≡ None }
-{
-    match update {
-        Update::Dynamic { extension, .. } => extension.as_str() == name,
-        _ => false,
     }
 }
 

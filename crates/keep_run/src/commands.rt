@@ -16,7 +16,7 @@ use dnr_base::NoMemory;
 use dnr_io::{Shelf, Sink, Status, write_all};
 use keep_disk::Disk;
 use regex_host::RegexHost;
-use rule_keep::{Keep, OpenRefusal};
+use rule_keep::{Keep, OpenRefusal, UpdateCount};
 use std::alloc::Global;
 
 /// Keeps the dynamic rules of one extension in a file, which is the disk, as the words after the program's name say:
@@ -99,11 +99,11 @@ fn keep_rules<F: Shelf, O: Sink, H: RegexHost, D: Disk>(
     ensures write_fault { result ≡ Status.WriteFault → Rose (O.faults out.old) (O.faults out.new) }
     ensures disk_fault { result ≡ Status.DiskFault → Rose (D.faults disk.old) (D.faults disk.new) }
 {
-    match Keep::open(alloc, disk, keeping.extension, host) {
+    match Keep::open::<D, H, UpdateCount>(alloc, disk, keeping.extension, host) {
         Ok((keep, updates)) => ended(answer_script(
             alloc,
             keep,
-            updates.len(),
+            updates.count,
             keeping.extension,
             keeping.script,
             shelf,

@@ -1,11 +1,12 @@
 //! A stop behind each call of the disk.
-use crate::fixtures::{ADDS, run};
+use crate::fixtures::{ADDS, KEPT, Ran, SCRIPT, TEXTS, TOLD, disk_of, file_of, joined, run};
 use dnr_io::Status;
 use keep_disk::MemoryDisk;
 use std::alloc::Global;
 use std::test::Fail;
 
-const CALLS: u64 = 40;
+// Five calls open an empty file; of each of three lines two write the record and two open its gate.
+const CALLS: u64 = 17;
 
 // The numbers of all calls behind so many.
 fn later(alloc: Global, calls: u64) -> Result<Vec<u64>, Fail> {
@@ -16,10 +17,41 @@ fn later(alloc: Global, calls: u64) -> Result<Vec<u64>, Fail> {
     Ok(failing)
 }
 
+// How many of the lines a run over an empty file said to be accepted, if it wrote nothing else.
+fn said(alloc: Global, ran: &Ran) -> Result<usize, Fail> {
+    if ran.written.is_empty() {
+        return Ok(0);
+    }
+    for count in 0..4 {
+        if ran.written.as_slice() == joined(alloc, &TOLD[..count + 1])?.as_slice() {
+            return Ok(count);
+        }
+    }
+    Err("another text is written".into())
+}
+
+// How many of the lines a file keeps.
+fn kept(alloc: Global, disk: &mut MemoryDisk) -> Result<usize, Fail> {
+    let ran = run(alloc, disk, "")?;
+    for count in 0..4 {
+        if ran.status == Status::Done && ran.written.as_slice() == KEPT[count].as_bytes() {
+            return Ok(count);
+        }
+    }
+    Err("a file is refused".into())
+}
+
+// Whether the script leaves the file of all its lines, which has some of them.
+fn goes_on(alloc: Global, disk: &mut MemoryDisk) -> Result<bool, Fail> {
+    let ran = run(alloc, disk, SCRIPT)?;
+    let whole = file_of(alloc, &TEXTS)?;
+    Ok(ran.status == Status::Done && disk.bytes() == whole.as_slice())
+}
+
 #[test]
 fn an_update_is_there_in_the_next_run(rt: HostRuntime) -> Result<(), Fail> {
     let alloc = rt.alloc();
-    let mut disk = MemoryDisk::new(alloc, b"", Vec::new(alloc))?;
+    let mut disk = disk_of(alloc, b"")?;
     let first = run(alloc, &mut disk, ADDS)?;
     assert!(rt; first.status == Status::Done);
     assert!(rt;
@@ -37,25 +69,38 @@ fn an_update_is_there_in_the_next_run(rt: HostRuntime) -> Result<(), Fail> {
 #[test]
 fn what_was_said_is_kept_wherever_the_disk_stops(rt: HostRuntime) -> Result<(), Fail> {
     let alloc = rt.alloc();
-    for calls in 0..CALLS {
+    for calls in 0..CALLS + 1 {
         let mut disk = MemoryDisk::new(alloc, b"", later(alloc, calls)?)?;
-        let ran = run(alloc, &mut disk, ADDS)?;
-        let accepted = ran.written.as_slice()
-            == b"{\"kept\":0}\n{\"line\":1,\"accepted\":1}\n".as_slice();
-        assert!(rt; accepted == (ran.status == Status::Done), "{calls}");
-        assert!(rt; accepted || ran.status == Status::DiskFault, "{calls}");
+        let ran = run(alloc, &mut disk, SCRIPT)?;
+        let said = said(alloc, &ran)?;
+        let ended = if calls == CALLS {
+            Status::Done
+        } else {
+            Status::DiskFault
+        };
+        assert!(rt; ran.status == ended, "{calls}");
+        assert!(rt; (said == 3) == (calls == CALLS), "{calls}");
         for image in disk.images()? {
             let mut image = image;
-            let again = run(alloc, &mut image, "")?;
-            let one = again.written.as_slice() == b"{\"kept\":1}\n".as_slice();
-            let none = again.written.as_slice() == b"{\"kept\":0}\n".as_slice();
-            assert!(rt; one || none && !accepted, "{calls}");
-        }
-        if accepted {
-            // Five calls open the file, two write the record and two open its gate.
-            assert_eq!(rt; calls, 9);
-            return Ok(());
+            let kept = kept(alloc, &mut image)?;
+            assert!(rt; said <= kept && kept - said <= 1, "{calls}");
+            assert!(rt; goes_on(alloc, &mut image)?, "{calls}");
         }
     }
-    Err("no run ends".into())
+    Ok(())
+}
+
+#[test]
+fn a_call_that_fails_once_loses_nothing(rt: HostRuntime) -> Result<(), Fail> {
+    let alloc = rt.alloc();
+    for call in 1..CALLS + 1 {
+        let mut disk = MemoryDisk::new(alloc, b"", vec![in alloc; call]?)?;
+        let ran = run(alloc, &mut disk, SCRIPT)?;
+        assert!(rt; ran.status == Status::DiskFault, "{call}");
+        let said = said(alloc, &ran)?;
+        let kept = kept(alloc, &mut disk)?;
+        assert!(rt; said <= kept && kept - said <= 1, "{call}");
+        assert!(rt; goes_on(alloc, &mut disk)?, "{call}");
+    }
+    Ok(())
 }

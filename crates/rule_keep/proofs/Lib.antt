@@ -4,3 +4,4 @@ pub mod Started
 pub mod Reading
 pub mod Opens
 pub mod Puts
+pub mod Replays

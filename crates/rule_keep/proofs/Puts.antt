@@ -1,5 +1,5 @@
 -- What a crash leaves while an update is added.
-use Rattle.std.proofs.Common.{◌≡◌, inl, inr, ⊎_elim, ℕ, ◌<◌, ◌≤◌, true, false, List, [], ◌∷◌, ◌++◌, map, filter_map, length, Some, None, is_none, Result, Ok, Err, is_err, OnOk, sym, ◌∙◌, ap, arith, refl, subst}
+use Rattle.std.proofs.Common.{◌≡◌, inl, inr, ⊎_elim, ℕ, ◌<◌, ◌≤◌, true, false, List, [], ◌∷◌, ◌++◌, map, filter_map, length, Some, None, is_none, Result, Ok, Err, is_err, OnOk, sym, ◌∙◌, ap, arith, refl, subst, append_assoc}
 use Rattle.std.proofs.lemmas.Bool.{and_parts, and_from}
 use Rattle.std.proofs.lemmas.List.{map-append}
 use Rattle.std.proofs.lemmas.List.Elements.{filter_map-append}
@@ -141,6 +141,12 @@ pub seen_push : (list new : List held.Update) (copy update : held.Update) → ne
     → updates_seen new ≡ updates_seen list ++ update_seen update ∷ []
 seen_push list new copy update is same =
     ap updates_seen is ∙ map-append update_seen list (copy ∷ []) ∙ ap (λ (u : Update). updates_seen list ++ u ∷ []) same
+
+-- the same behind what a file held
+pub added_push : (before : List Update) (list new : List held.Update) (copy update : held.Update) → new ≡ list ++ copy ∷ [] → update_seen copy ≡ update_seen update
+    → before ++ updates_seen new ≡ (before ++ updates_seen list) ++ update_seen update ∷ []
+added_push before list new copy update is same =
+    ap (λ (l : List Update). before ++ l) (seen_push list new copy update is same) ∙ sym (append_assoc before (updates_seen list) (update_seen update ∷ []))
 
 dynamic_push : (list : List Update) (update : Update) → AreDynamic list → is_dynamic update ≡ true → AreDynamic (list ++ update ∷ [])
 dynamic_push [] update are is = and_from (is_dynamic update) true is refl

@@ -6,7 +6,7 @@ ghost use Rattle.keep_disk.specs.Images.{AddsNone};
 ghost use Rattle.keep_disk.specs.Moments.{LeavesOnly};
 ghost use Rattle.update_spec.specs.Entries as entries;
 ghost use Rattle.update_spec.specs.Judge.{judge_update};
-ghost use Rattle.ruleset_store.specs.Seen.{update_seen, updates_seen};
+ghost use Rattle.ruleset_store.specs.Seen.{update_seen};
 ghost use Rattle.keep_records.specs.Records.{payloads, end_of};
 ghost use Rattle.keep_records.specs.Ends.{max_file, AllHave, HadPayloads};
 ghost use Rattle.keep_spec.specs.Kept as spec;
@@ -14,20 +14,19 @@ ghost use Rattle.keep_spec.specs.Agrees.{Agrees, AreRead, HadList, HasBeforeOrAf
 ghost use Rattle.keep_spec.specs.Agrees.{IsFirstRefused, Sound, normal_update};
 ghost use Rattle.keep_spec.specs.Written.{MayBeKept, text_of};
 
-use crate::listed::{again, name_of, read_list};
+use crate::handed::Updates;
+use crate::listed::{name_of, read_updates};
 use crate::opening::bytes_of;
 use crate::payload::payload_of;
 use crate::refusals::{OpenRefusal, PutRefusal};
 use dnr_base::{NoMemory, Text};
 use keep_disk::Disk;
 use keep_laws::alike_updates_are_judged_alike;
-use keep_records::{append, mend_end, record_behind_gate};
+use keep_records::{MAX_FILE, append, mend_end, record_behind_gate};
 use regex_host::RegexHost;
 use ruleset_store::{Store, Update};
 use std::alloc::Global;
 use std::marker::Model;
-
-const MAX_FILE: u64 = 67_108_864;
 
 /// The dynamic updates of one extension that a file keeps. A clause sees the extension's name, the list of updates, the
 /// place where their records end, and whether it may be added to.
@@ -35,7 +34,9 @@ const MAX_FILE: u64 = 67_108_864;
 pub struct Keep {
     alloc: Global,
     name: Text,
-    list: Vec<Update>,
+    // What the file held when it was opened, and what was added since then.
+    base: Vec<u8>,
+    added: Vec<Update>,
     store: Store,
     place: u64,
     live: bool,
@@ -43,21 +44,22 @@ pub struct Keep {
 
 impl Model for Keep {
     ghost use Rattle.std.specs.Prelude.{◌≡◌};
-    ghost use Rattle.ruleset_store.specs.Seen.{updates_seen};
     ghost use Rattle.keep_spec.specs.Kept.{Kept, state_of};
     ghost use Rattle.keep_laws.specs.Laws.{AreDynamic};
+    ghost use Rattle.rule_keep.specs.Listed.{list_of};
 
     ghost Value = { Kept };
 
     ghost view = { λ keep. record {
       name = keep.name;
-      list = updates_seen keep.list.items;
+      list = list_of keep.name keep.base.items keep.added.items;
       place = keep.place;
       live = keep.live;
     } };
 
-    ghost invariant = { λ keep. (keep.store ≡ state_of keep.name (updates_seen keep.list.items))
-        × AreDynamic (updates_seen keep.list.items) };
+    ghost invariant = { λ keep.
+        (keep.store ≡ state_of keep.name (list_of keep.name keep.base.items keep.added.items))
+        × AreDynamic (list_of keep.name keep.base.items keep.added.items) };
 }
 
 impl Keep {
@@ -75,8 +77,8 @@ impl Keep {
         &self.store
     }
 
-    /// Reads the updates of a file, and mends its end. They are handed out beside the `Keep`, and share their rules
-    /// with it. A crash within leaves only lists that a crash before could have left.
+    /// Reads the updates of a file, and mends its end. What is asked for of them is handed out beside the `Keep`. A
+    /// crash within leaves only lists that a crash before could have left.
     ///
     /// # Errors
     ///
@@ -90,12 +92,12 @@ impl Keep {
     /// - `NoMemory`: memory ran out.
     ///
     /// But for the first, nothing was cut or written.
-    pub fn open<D: Disk, H: RegexHost>(
+    pub fn open<D: Disk, H: RegexHost, U: Updates>(
         alloc: Global,
         disk: &mut D,
         name: &str,
         host: &mut H,
-    ) -> Result<(Keep, Vec<Update>), OpenRefusal>
+    ) -> Result<(Keep, U), OpenRefusal>
         ensures name { IfOk result (λ opened. opened.0.name ≡ name.now) }
         ensures list { IfOk result (λ opened. IsTrue (D.tells disk.old) →
             opened.0.list ≡ spec.kept name.now (D.seen disk.old)) }
@@ -103,7 +105,7 @@ impl Keep {
             AreRead name.now (payloads (D.seen disk.old)) opened.0.list) }
         ensures place { IfOk result (λ opened. IsTrue (D.tells disk.old) →
             opened.0.place ≡ end_of (D.seen disk.old)) }
-        ensures updates { IfOk result (λ opened. updates_seen opened.1.items ≡ opened.0.list) }
+        ensures updates { IfOk result (λ opened. U.stands opened.1 opened.0.list) }
         ensures agrees { IfOk result (λ opened. IsTrue (D.tells disk.old) →
             Agrees (D.images disk.new) opened.0) }
         ensures live { IfOk result (λ opened. IsTrue opened.0.live) }
@@ -149,18 +151,18 @@ impl Keep {
     }
 
     // The same as `open`, by the payloads of the records and without what follows from its clauses.
-    fn open_list<D: Disk, H: RegexHost>(
+    fn open_list<D: Disk, H: RegexHost, U: Updates>(
         alloc: Global,
         disk: &mut D,
         name: &str,
         host: &mut H,
-    ) -> Result<(Keep, Vec<Update>), OpenRefusal>
+    ) -> Result<(Keep, U), OpenRefusal>
         ensures name { IfOk result (λ opened. opened.0.name ≡ name.now) }
         ensures read { IfOk result (λ opened. IsTrue (D.tells disk.old) →
             AreRead name.now (payloads (D.seen disk.old)) opened.0.list) }
         ensures place { IfOk result (λ opened. IsTrue (D.tells disk.old) →
             opened.0.place ≡ end_of (D.seen disk.old)) }
-        ensures updates { IfOk result (λ opened. updates_seen opened.1.items ≡ opened.0.list) }
+        ensures updates { IfOk result (λ opened. U.stands opened.1 opened.0.list) }
         ensures has { IfOk result (λ opened. IsTrue (D.tells disk.old) →
             AllHave (D.images disk.new) (payloads (D.seen disk.old)) opened.0.place) }
         ensures live { IfOk result (λ opened. IsTrue opened.0.live) }
@@ -190,19 +192,19 @@ impl Keep {
             H.faults host.new ≡ H.faults host.old }
     {
         let bytes = bytes_of(alloc, disk)?;
-        let read = read_list(alloc, name, &bytes, host)?;
-        let copies = again(alloc, &read.list)?;
+        let found = read_updates(alloc, name, &bytes, host)?;
         let named = name_of(alloc, name)?;
-        mend_end(disk, &bytes, read.place)?;
+        mend_end(disk, &bytes, found.place)?;
         let keep = Keep {
             alloc,
             name: named,
-            list: read.list,
-            store: read.store,
-            place: read.place,
+            base: bytes,
+            added: Vec::new(alloc),
+            store: found.store,
+            place: found.place,
             live: true,
         };
-        Ok((keep, copies))
+        Ok((keep, found.updates))
     }
 
     /// Adds an update. At `Ok` each crash from then on leaves it; a crash within leaves the list from before, or that
@@ -258,7 +260,7 @@ impl Keep {
         let bytes = record_behind_gate(self.alloc, &payload)?;
         let next = self.after(update)?;
         let copy = update.copy(self.alloc)?;
-        self.list.push(copy)?;
+        self.added.push(copy)?;
         self.store = next;
         if append(disk, self.place, &payload, &bytes).is_err() {
             self.live = false;

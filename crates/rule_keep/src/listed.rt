@@ -7,9 +7,11 @@ ghost use Rattle.keep_records.specs.Records.{stands, payloads, end_of};
 ghost use Rattle.keep_records.specs.Ends.{max_file};
 ghost use Rattle.keep_spec.specs.Kept as spec;
 ghost use Rattle.keep_spec.specs.Agrees.{AreRead, IsFirstRefused};
-ghost use Rattle.rule_keep.specs.Listed.{ReadNext};
+ghost use Rattle.rule_keep.specs.Listed.{ReadNext, IsFound};
 
+use crate::handed::Updates;
 use crate::refusals::{OpenRefusal, refusal_of};
+use crate::replayed::read_quickly;
 use crate::take::take;
 use dnr_base::{NoMemory, Text};
 use keep_records::first_payload;
@@ -18,16 +20,71 @@ use ruleset_store::{Extension, Store, Update};
 use script_read::Memo;
 use std::alloc::Global;
 
-// What the records of a file hold: the updates, the place where the records end, and the state that is left.
+// What the records of a file hold: what is handed out of the updates, the place where the records end, and the state that
+// is left.
 #[derive(Drop)]
-pub(crate) struct Listed {
+pub(crate) struct Found<U> {
+    pub updates: U,
+    pub place: u64,
+    pub store: Store,
+}
+
+// What the records of a file hold, unless one of its payloads is none of the extension or is refused.
+pub(crate) fn read_updates<U: Updates, H: RegexHost>(
+    alloc: Global,
+    name: &str,
+    bytes: &[u8],
+    host: &mut H,
+) -> Result<Found<U>, OpenRefusal>
+    requires { length bytes.now ≤ max_file }
+    ensures found { IfOk result (λ found.
+        IsFound name.now bytes.now found.place found.store) }
+    ensures updates { IfOk result (λ found.
+        U.stands found.updates (spec.kept name.now bytes.now)) }
+    ensures bad { (offset : ℕ) → IsErrOf result (OpenRefusal.BadRecord offset) →
+        IsFirstRefused name.now (payloads bytes.now) offset }
+    ensures no_fault { IsErrOf result OpenRefusal.DiskFault → ⊥ }
+    ensures not_long { IsErrOf result OpenRefusal.KeepTooLong → ⊥ }
+    ensures fault { IsErrOf result OpenRefusal.HostFault →
+        Rose (H.faults host.old) (H.faults host.new) }
+    ensures calm { (IsErrOf result OpenRefusal.HostFault → ⊥) →
+        H.faults host.new ≡ H.faults host.old }
+    ensures later { H.faults host.old ≤ H.faults host.new }
+{
+    match read_quickly(alloc, name, bytes, host)? {
+        Some(found) => Ok(found),
+        None => Ok(found_of(alloc, read_list(alloc, name, bytes, host)?)?),
+    }
+}
+
+// What is handed out of a list.
+fn found_of<U: Updates>(alloc: Global, listed: Listed) -> Result<Found<U>, NoMemory>
+    ensures updates { IfOk result (λ found.
+        U.stands found.updates (updates_seen listed.list.items)) }
+    ensures place { IfOk result (λ found. found.place ≡ listed.place) }
+    ensures store { IfOk result (λ found. found.store ≡ listed.store) }
+{
+    let mut updates = U::none(alloc);
+    for update in listed.list {
+        updates.add(update)?;
+    }
+    Ok(Found {
+        updates,
+        place: listed.place,
+        store: listed.store,
+    })
+}
+
+// The updates of a file, the place where the records end, and the state that is left.
+#[derive(Drop)]
+struct Listed {
     pub list: Vec<Update>,
     pub place: u64,
     pub store: Store,
 }
 
-// The updates of a file, unless one of its payloads is none of the extension or is refused.
-pub(crate) fn read_list<H: RegexHost>(
+// The same, of which each update is made on a store. So it is told which is the first that is refused.
+fn read_list<H: RegexHost>(
     alloc: Global,
     name: &str,
     bytes: &[u8],
@@ -73,7 +130,7 @@ pub(crate) fn read_list<H: RegexHost>(
 }
 
 // The payload of the record that stands at a place, if one does.
-fn next_payload(bytes: &[u8], at: usize) -> Option<&[u8]>
+pub(crate) fn next_payload(bytes: &[u8], at: usize) -> Option<&[u8]>
     requires { at ≤ length bytes.now }
     ensures { MatchOption result (stands (drop at bytes.now) ≡ false)
         (λ payload. ReadNext bytes.now at payload.now) }
@@ -82,7 +139,7 @@ fn next_payload(bytes: &[u8], at: usize) -> Option<&[u8]>
 }
 
 // The state in which the extension is installed, with no rules. It is refused for want of memory alone.
-fn started(alloc: Global, name: &str) -> Result<Store, NoMemory>
+pub(crate) fn started(alloc: Global, name: &str) -> Result<Store, NoMemory>
     ensures { IfOk result (λ store. store ≡ spec.start name.now) }
 {
     let extension = empty_extension(alloc, name)?;
@@ -103,15 +160,4 @@ pub(crate) fn name_of(alloc: Global, name: &str) -> Result<Text, NoMemory>
     ensures { IfOk result (λ text. text ≡ name.now) }
 {
     Ok(Text::build(String::from_str(alloc, name)?))
-}
-
-// The updates once more, which share their rules.
-pub(crate) fn again(alloc: Global, list: &[Update]) -> Result<Vec<Update>, NoMemory>
-    ensures { IfOk result (λ copies. updates_seen copies.items ≡ updates_seen list.now) }
-{
-    let mut copies = Vec::with_capacity(alloc, list.len())?;
-    for update in list {
-        copies.push(update.copy(alloc)?)?;
-    }
-    Ok(copies)
 }

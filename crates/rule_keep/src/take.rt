@@ -1,6 +1,6 @@
 // One payload of a file: how it is read, and whether its update is accepted.
 ghost use Rattle.std.specs.Prelude.{◌≡◌, ◌≤◌, true, false, Some, None, Ok};
-ghost use Rattle.std.specs.Prelude.{IfOk, IsErrOf, option_map, if◌then◌else◌};
+ghost use Rattle.std.specs.Prelude.{IfOk, IsErrOf, IsTrue, IsFalse};
 ghost use Rattle.dnr_base.specs.Faults.{Rose};
 ghost use Rattle.update_spec.specs.Entries as entries;
 ghost use Rattle.ruleset_store.specs.Seen.{update_seen};
@@ -54,7 +54,7 @@ pub(crate) fn take<H: RegexHost>(
 }
 
 // The dynamic update of the extension that a payload reads as.
-fn read_payload<H: RegexHost>(
+pub(crate) fn read_payload<H: RegexHost>(
     alloc: Global,
     name: &str,
     payload: &[u8],
@@ -86,7 +86,7 @@ fn dynamic_in(name: &str, command: Command) -> Result<Update, Stop>
 {
     match command {
         Command::Update(update) => {
-            if is_dynamic_of(name, &update) {
+            if is_dynamic_of(&update, name) {
                 return Ok(update);
             }
             Err(Stop::Refused)
@@ -95,9 +95,11 @@ fn dynamic_in(name: &str, command: Command) -> Result<Update, Stop>
     }
 }
 
-fn is_dynamic_of(name: &str, update: &Update) -> bool
-    ensures { spec.dynamic_of name.now (update_seen update.now)
-        ≡ (if result then Some (update_seen update.now) else None) }
+/// Whether it is a dynamic update of this extension. It takes no memory.
+pub fn is_dynamic_of(update: &Update, name: &str) -> bool
+    ensures yes { IsTrue result →
+        spec.dynamic_of name.now (update_seen update.now) ≡ Some (update_seen update.now) }
+    ensures no { IsFalse result → spec.dynamic_of name.now (update_seen update.now) ≡ None }
 {
     match update {
         Update::Dynamic { extension, .. } => extension.as_str() == name,

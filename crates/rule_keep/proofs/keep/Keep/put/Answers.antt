@@ -1,28 +1,29 @@
 use Rattle.std.proofs.Common.{◌≡◌, ℕ, ◌+◌, [], ◌∷◌, ◌++◌, length, sym, ◌∙◌, ap, subst, arith}
 use Rattle.update_spec.specs.Entries.{one, after}
-use Rattle.ruleset_store.specs.Seen.{update_seen, updates_seen}
-use Rattle.keep_spec.specs.Kept.{Kept, update_at, state_of}
+use Rattle.ruleset_store.specs.Seen.{update_seen}
+use Rattle.keep_spec.specs.Kept.{Kept, update_at, kept, state_of}
 use Rattle.keep_records.specs.Ends.{AllEnd, Adds}
 use Rattle.keep_laws.specs.Laws.{AreDynamic}
-use Rattle.rule_keep.proofs.Puts.{at_ok, all_end, text_is_some, seen_push, kept_push, may_be_dynamic, leaves, afterwards, stays_sound, agrees_after}
+use Rattle.rule_keep.specs.Listed.{list_of}
+use Rattle.rule_keep.proofs.Puts.{at_ok, all_end, text_is_some, added_push, kept_push, may_be_dynamic, leaves, afterwards, stays_sound, agrees_after}
 use Rattle.rule_keep.proofs.keep.Keep.put.Goals as goal
 
 pub invariant_of-self-then-is_err : goal.invariant_of-self-then-is_err
 invariant_of-self-then-is_err g c =
     let name_is : c.self.inside.name ≡ c.args.self.now.name = ap (λ (k : Kept). k.name) c.self.view_is in
-    let list_is : updates_seen c.self.inside.list.items ≡ c.args.self.now.list = ap (λ (k : Kept). k.list) c.self.view_is in
-    let new_is = seen_push c.self.inside.list.items c.push.new.self.items c.in_ok-copy.copy c.args.update.now c.in_ok-push.ensures.items c.in_ok-copy.ensures in
+    let list_is : list_of c.self.inside.name c.self.inside.base.items c.self.inside.added.items ≡ c.args.self.now.list = ap (λ (k : Kept). k.list) c.self.view_is in
+    let new_is = added_push (kept c.self.inside.name c.self.inside.base.items) c.self.inside.added.items c.push.new.self.items c.in_ok-copy.copy c.args.update.now c.in_ok-push.ensures.items c.in_ok-copy.ensures in
     let store_is = c.in_ok-next.ensures ∙ (λ i. after (state_of (sym name_is i) (sym list_is i)) (one (update_seen c.args.update.now))) in
-    kept_push c.self.inside.name (updates_seen c.self.inside.list.items) (updates_seen c.push.new.self.items) (update_seen c.args.update.now) c.in_ok-next.next
+    kept_push c.self.inside.name (list_of c.self.inside.name c.self.inside.base.items c.self.inside.added.items) (list_of c.self.inside.name c.self.inside.base.items c.push.new.self.items) (update_seen c.args.update.now) c.in_ok-next.next
     new_is store_is c.self.invariant.1 (may_be_dynamic c.args.self.now.name (update_seen c.args.update.now) c.requires.update)
 
 pub invariant_of-self-2 : goal.invariant_of-self-2
 invariant_of-self-2 g c =
     let name_is : c.self.inside.name ≡ c.args.self.now.name = ap (λ (k : Kept). k.name) c.self.view_is in
-    let list_is : updates_seen c.self.inside.list.items ≡ c.args.self.now.list = ap (λ (k : Kept). k.list) c.self.view_is in
-    let new_is = seen_push c.self.inside.list.items c.push.new.self.items c.in_ok-copy.copy c.args.update.now c.in_ok-push.ensures.items c.in_ok-copy.ensures in
+    let list_is : list_of c.self.inside.name c.self.inside.base.items c.self.inside.added.items ≡ c.args.self.now.list = ap (λ (k : Kept). k.list) c.self.view_is in
+    let new_is = added_push (kept c.self.inside.name c.self.inside.base.items) c.self.inside.added.items c.push.new.self.items c.in_ok-copy.copy c.args.update.now c.in_ok-push.ensures.items c.in_ok-copy.ensures in
     let store_is = c.in_ok-next.ensures ∙ (λ i. after (state_of (sym name_is i) (sym list_is i)) (one (update_seen c.args.update.now))) in
-    kept_push c.self.inside.name (updates_seen c.self.inside.list.items) (updates_seen c.push.new.self.items) (update_seen c.args.update.now) c.in_ok-next.next
+    kept_push c.self.inside.name (list_of c.self.inside.name c.self.inside.base.items c.self.inside.added.items) (list_of c.self.inside.name c.self.inside.base.items c.push.new.self.items) (update_seen c.args.update.now) c.in_ok-next.next
     new_is store_is c.self.invariant.1 (may_be_dynamic c.args.self.now.name (update_seen c.args.update.now) c.requires.update)
 
 pub append-requires-clause-ends : goal.append-requires-clause-ends
@@ -86,13 +87,13 @@ returns-clause-agrees g c = λ told.
     let payload = c.deref-2.result.now in
     let place = c.self.inside.place + (c.len-2.result + 5) in
     let name_is : c.self.inside.name ≡ c.args.self.now.name = ap (λ (k : Kept). k.name) c.self.view_is in
-    let new_is = seen_push c.self.inside.list.items c.push.new.self.items c.in_ok-copy.copy c.args.update.now c.in_ok-push.ensures.items c.in_ok-copy.ensures in
+    let new_is = added_push (kept c.self.inside.name c.self.inside.base.items) c.self.inside.added.items c.push.new.self.items c.in_ok-copy.copy c.args.update.now c.in_ok-push.ensures.items c.in_ok-copy.ensures in
     let list_is = new_is ∙ ap (λ (k : Kept). k.list ++ update_seen c.args.update.now ∷ []) c.self.view_is in
     let count : c.self.inside.place + 5 + length payload ≡ place = omega (arith, c.len-2.ensures, c.deref-2.ensures.len) in
     let added = at_ok c.append.result _ (sym c.is_err.ensures.value ∙ c.if-is_err.false) c.append.ensures.added told in
     agrees_after (g.D.Disk.images c.args.disk.now) (g.D.Disk.images c.append.new.disk) c.args.self.now (update_seen c.args.update.now) payload
     c.alike_updates_are_judged_alike.ensures.stays (ap (update_at c.args.self.now.name) c.deref-2.ensures.value ∙ c.in_ok-payload.ensures.read)
-    (c.requires.agrees told) c.self.inside.name (updates_seen c.push.new.self.items) place name_is list_is
+    (c.requires.agrees told) c.self.inside.name (list_of c.self.inside.name c.self.inside.base.items c.push.new.self.items) place name_is list_is
     (λ image left. subst (λ (n : ℕ). Adds (g.D.Disk.images c.args.disk.now) n payload image) count (added image left))
 
 pub append-requires-clause-fits : goal.append-requires-clause-fits

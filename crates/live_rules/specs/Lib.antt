@@ -1,0 +1,3 @@
+pub mod Slots
+pub mod Live
+pub mod Laws
