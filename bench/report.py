@@ -1,4 +1,7 @@
-"""Writes docs/MEASURED.md, its picture, and the table of README.md, of the files that bench/all wrote of one day."""
+"""Writes docs/MEASURED.md, its picture, and the table of README.md, of the files that bench/all wrote of one day, and of
+what bench/library wrote last.
+"""
+import csv
 import hashlib
 import sys
 from importlib.machinery import SourceFileLoader
@@ -167,6 +170,39 @@ What `bench/broker` measured, by the clock.
     return head + table(list(rows[0]), [list(it.values()) for it in rows])
 
 
+def library_part(results):
+    """What bench/library wrote, if it has written anything."""
+    file = results / "library.csv"
+    if not file.is_file():
+        return ""
+    with open(file, newline="") as it:
+        rows = list(csv.DictReader(it))
+    mine = rows[0]
+    head = f"""
+## Decisions through the library for C
+
+The {int(mine["rules"]):,} filters and the requests of the lists once more, by `bench/library`, of commit `{mine["commit"]}` on {mine["day"]}; {mine["load"]} processes wanted a processor, before and behind.
+`dnr_ask` reads the lines that `dnr match` reads and writes the same bytes. `dnr_decide` gets each request by its parts, and gives the verdict by its parts. Opening the engine is not in these figures, and for `dnr_decide` neither is what reads requests.
+A ratio is the figure of a row by that of `dnr match`.
+
+"""
+
+    def ratio(row, column):
+        return f"{float(row[column]) / float(mine[column]):.2f}" if row is not mine and row[column] else ""
+
+    told = [
+        [
+            row["program"],
+            number(row["request_us"], ".2f", " µs"),
+            ratio(row, "request_us"),
+            number(row["request_instructions"], ",.0f"),
+            ratio(row, "request_instructions"),
+        ]
+        for row in rows
+    ]
+    return head + table(["program", "a request", "ratio", "instructions", "ratio"], told)
+
+
 PARTS = {
     "requests": requests_part,
     "filters": filters_part,
@@ -181,7 +217,7 @@ def document(results, day):
     """The text of docs/MEASURED.md, with a part for each file of that day."""
     of = {it["what"]: it["is"] for it in plot.rows_of(results, day, "machine")}
     rows = {name: plot.rows_of(results, day, name) for name in PARTS}
-    return machine_part(of, day) + "".join(part(rows[name], of) for name, part in PARTS.items() if rows[name])
+    return machine_part(of, day) + "".join(part(rows[name], of) for name, part in PARTS.items() if rows[name]) + library_part(results)
 
 
 def short_table(results, day):
