@@ -17,6 +17,7 @@ use crate::block::Block;
 use crate::hits::{Hit, find, no_hits};
 use crate::kept::Kept;
 use crate::live::Live;
+use crate::long_frames::long_frames;
 use crate::targets::may_act;
 use dnr_base::{NoMemory, Rank, Request, Steps};
 use dnr_rules::Rule;
@@ -36,12 +37,14 @@ pub(crate) struct Scan<'r> {
     pub request: &'r Request,
     prepared: PreparedRequest<'r>,
     own: ListedPart<'r>,
+    long: Vec<Option<ListedPart<'r>>>,
 }
 
 impl<'r> Model for Scan<'r> {
     ghost use Rattle.std.specs.Prelude.{◌≡◌, ◌≤◌, length};
     ghost use Rattle.dnr_base.specs.Request.{max_frames, own_part};
     ghost use Rattle.rule_match.specs.Prepared.{PreparedRequest};
+    ghost use Rattle.generation.specs.LongFrames.{AreLong};
 
     ghost Value = { PreparedRequest };
 
@@ -49,7 +52,8 @@ impl<'r> Model for Scan<'r> {
 
     ghost invariant = { λ s. (s.prepared.request ≡ s.request.now)
         × (length s.request.now.frames ≤ max_frames)
-        × (s.own ≡ own_part s.request.now) };
+        × (s.own ≡ own_part s.request.now)
+        × AreLong s.long.items s.request.now };
 }
 
 // The number, if it fits.
@@ -112,6 +116,7 @@ impl<'r> Scan<'r> {
             request,
             prepared: PreparedRequest::new(request, list),
             own: ListedPart::new(alloc, request.own_part())?,
+            long: long_frames(alloc, request)?,
         })
     }
 
@@ -224,7 +229,7 @@ impl<'r> Scan<'r> {
         ensures bound { steps.new ≤ steps.old + pairs_by (lives_in block.now) self.now.request }
         ensures ends { Ends (IsPattern kept.entry.name (lives_in block.now)) (H.faults host.old) (H.faults host.new) result }
     {
-        match find(hits, block.rules, self.request, &self.own) {
+        match find(hits, block.rules, self.request, &self.own, &self.long) {
             Ok(()) => self.take_hits(kept, block, hits.as_slice(), host, steps),
             Err(_) => Err(DecideRefusal::NoMemory),
         }

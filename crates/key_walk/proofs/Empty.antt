@@ -6,7 +6,7 @@ use Rattle.index_spec.specs.Keys.{domains_over}
 use Rattle.key_walk.specs.Met.{near_text, places_behind}
 use Rattle.key_walk.specs.Over.{near_each}
 
-none_each : (pairs : List Pair) (shown : Option ℕ) (texts : List (List ℕ)) → length pairs ≡ 0 → near_each pairs shown texts ≡ []
+pub none_each : (pairs : List Pair) (shown : Option ℕ) (texts : List (List ℕ)) → length pairs ≡ 0 → near_each pairs shown texts ≡ []
 none_each [] shown [] none = refl
 none_each [] shown (text ∷ texts) none = none_each [] shown texts none
 none_each (pair ∷ pairs) shown texts none = absurd (omega arith)
@@ -18,7 +18,7 @@ same_any : {X : Type 0} (b : Bool) (x : X) → cond b x x ≡ x
 same_any true x = refl
 same_any false x = refl
 
-none_behind : (pairs : List Pair) (shown : Option ℕ) (before words : List (List ℕ)) → length pairs ≡ 0 → places_behind pairs shown before words ≡ []
+pub none_behind : (pairs : List Pair) (shown : Option ℕ) (before words : List (List ℕ)) → length pairs ≡ 0 → places_behind pairs shown before words ≡ []
 none_behind [] shown before [] none = refl
 none_behind [] shown before (word ∷ words) none =
     ap (λ l. l ++ places_behind [] shown (before ++ word ∷ []) words) (same_any {X = List ℕ} (has_word before word) []) ∙ none_behind [] shown (before ++ word ∷ []) words none

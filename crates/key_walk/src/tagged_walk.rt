@@ -1,4 +1,4 @@
-ghost use Rattle.std.specs.Prelude.{◌≡◌, [], Some};
+ghost use Rattle.std.specs.Prelude.{◌≡◌, []};
 ghost use Rattle.std.specs.Iterator.{YieldsFirst, item_count};
 ghost use Rattle.key_walk.specs.Met.{places_behind};
 
@@ -31,16 +31,20 @@ impl<'a> Model for TaggedWalk<'a> {
 }
 
 impl<'a> TaggedWalk<'a> {
-    /// The places that share one of the words and need no more than is shown.
-    pub fn near(table: &'a Table, words: &'a ListedWords<'a>, shown: u128) -> TaggedWalk<'a>
-        ensures { result ≡ places_behind table.now (Some shown) [] words.now }
+    /// The places that share one of the words or, where it is told what is shown, those of them that need no more.
+    pub fn asked(
+        table: &'a Table,
+        words: &'a ListedWords<'a>,
+        shown: Option<u128>,
+    ) -> TaggedWalk<'a>
+        ensures { result ≡ places_behind table.now shown [] words.now }
     {
         // Whose count a place has room for.
         let _words = words.words();
         TaggedWalk {
             table,
             words,
-            shown: Some(shown),
+            shown,
             passed: 0,
             places: table.no_places(),
         }

@@ -7,3 +7,4 @@ pub mod Weighed
 pub mod Counted
 pub mod Found
 pub mod KeysOnce
+pub mod Nothing

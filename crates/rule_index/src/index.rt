@@ -1,4 +1,5 @@
-ghost use Rattle.std.specs.Prelude.{◌≡◌, Some, IfOk};
+ghost use Rattle.std.specs.Prelude.{◌≡◌, [], Some, IfOk, IsTrue};
+ghost use Rattle.dnr_base.specs.Request.{Part};
 ghost use Rattle.rule_index.specs.Index as spec;
 ghost use Rattle.rule_index.specs.Lists.{placed};
 ghost use Rattle.rule_index.specs.Needs.{shown_by};
@@ -78,12 +79,37 @@ impl Index {
     pub fn near_listed<'a>(&'a self, own: &'a ListedPart<'a>) -> Walk<'a>
         ensures { result ≡ spec.near self.now (Some (shown_by own.now)) own.now }
     {
+        self.walk_listed(own, Some(own.shown()))
+    }
+
+    /// The candidates for a part whose words are listed.
+    pub fn candidates_listed<'a>(&'a self, part: &'a ListedPart<'a>) -> Walk<'a>
+        ensures { result ≡ spec.candidates self.now part.now }
+    {
+        self.walk_listed(part, None)
+    }
+
+    /// Whether there are no rules.
+    #[tactic(auto, using(crate::proofs::Nothing::none_found))]
+    pub fn is_empty(&self) -> bool
+        ensures { IsTrue result → (part : Part) → spec.candidates self.now part ≡ [] }
+    {
+        self.others.is_empty()
+            && self.hosts.is_empty()
+            && self.words.is_empty()
+            && self.initiators.is_empty()
+    }
+
+    fn walk_listed<'a>(&'a self, part: &'a ListedPart<'a>, shown: Option<u128>) -> Walk<'a>
+        ensures { result ≡ spec.near self.now shown part.now }
+    {
         Walk::listed(
             &self.others,
             &self.hosts,
             &self.words,
             &self.initiators,
-            own,
+            part,
+            shown,
         )
     }
 

@@ -1,4 +1,5 @@
-ghost use Rattle.std.specs.Prelude.{◌≡◌, map, Some, IfOk};
+ghost use Rattle.std.specs.Prelude.{◌≡◌, [], map, Some, IfOk, IsTrue};
+ghost use Rattle.dnr_base.specs.Request.{Part};
 ghost use Rattle.rule_spec.specs.Rule as rule;
 ghost use Rattle.rule_index.specs.Index.{candidates, near};
 ghost use Rattle.rule_index.specs.Lists as spec;
@@ -90,6 +91,20 @@ impl ListIndex {
         ensures { result ≡ near self.now.whole (Some (shown_by own.now)) own.now }
     {
         self.whole.near_listed(own)
+    }
+
+    /// Whether no rule reaches a request through its frames.
+    pub fn frames_nothing(&self) -> bool
+        ensures { IsTrue result → (frame : Part) → candidates self.now.framing frame ≡ [] }
+    {
+        self.framing.is_empty()
+    }
+
+    /// The places of the candidates that reach a request through its frames, of a frame whose words are listed.
+    pub fn framing_listed<'a>(&'a self, frame: &'a ListedPart<'a>) -> Walk<'a>
+        ensures { result ≡ candidates self.now.framing frame.now }
+    {
+        self.framing.candidates_listed(frame)
     }
 
     /// The places of the candidates that reach a request through its frames.

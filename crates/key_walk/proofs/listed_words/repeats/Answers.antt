@@ -14,10 +14,10 @@ loop-word-preserved c =
     let met = c.loop-word.invariant.met in
     record {
       repeats = c.in_ok-push.ensures.items
-        ∙ pushed words place word c.loop-word.repeats.items c.in_ok-is_new.is_new inside c.word-item.is c.loop-word.invariant.repeats
+          ∙ pushed words place word c.loop-word.repeats.items c.in_ok-is_new.is_new inside c.word-item.is c.loop-word.invariant.repeats
           (c.in_ok-is_new.ensures.new (take place words) met ∙ ap (λ w. not (has_word (take place words) w)) c.text.ensures);
       met = subst (HasMet c.meet.new.met) (ap (λ w. take place words ++ w ∷ []) c.text.ensures ∙ sym (word_more words place word inside c.word-item.is))
-        (c.in_ok-is_new.ensures.met (take place words) met);
+          (c.in_ok-is_new.ensures.met (take place words) met);
     }
 
 pub returns : goal.returns
