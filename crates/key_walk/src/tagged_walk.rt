@@ -69,7 +69,7 @@ impl<'a> Iterator for TaggedWalk<'a> {
                 continue;
             }
             let asked = Asked::in_lower_case(word.text());
-            let mut places = self.table.tagged(asked, word.tag(), self.shown);
+            let mut places = self.table.in_bucket(asked, word.tag(), self.shown);
             if let Some(place) = places.next() {
                 if !self.words.is_repeated(passed) {
                     self.places = places;
