@@ -1,6 +1,6 @@
 use Rattle.std.proofs.Common.{◌≡◌, ◌≤◌, ◌-◌, ◌++◌, length, take, drop}
 use Rattle.index_spec.specs.Words as spec
-use Rattle.rule_index.proofs.token.word_at.Given as goal
+use Rattle.rule_index.proofs.filter_words.word_end.Given as goal
 
 abbrev pub invariant-loop-end : goal.invariant-loop-end
 invariant-loop-end l = record {

@@ -2,7 +2,7 @@ use Rattle.std.proofs.Common.{◌≡◌, length}
 use Rattle.dnr_base.specs.Kind.{all_kinds}
 use Rattle.dnr_base.specs.KindSet.{kinds_of}
 use Rattle.rule_index.specs.Needs as spec
-use Rattle.rule_index.proofs.needs.with_others.Given as goal
+use Rattle.rule_index.proofs.needs.with_each_other.Given as goal
 
 abbrev pub invariant-loop-kind : goal.invariant-loop-kind
 invariant-loop-kind l =
