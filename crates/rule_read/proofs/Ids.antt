@@ -143,4 +143,12 @@ rising_more rising greatest id rises up less i j order inside =
 
 pub found_by_halves : (ids : List ℕ) (id : ℕ) (found_at : Result ℕ ℕ) → IsBinarySearchResult (λ other. nat_cmp other id) ids found_at → IsRising ids → is_ok found_at ≡ is_taken ids id
 found_by_halves ids id (Ok i) h rises = let at = searched ids id (Ok i) h rises in sym (found ids id i at.0 at.1)
-found_by_halves ids id (Err i) h rises = let at = searched ids id (Err i) h rises in sym (found_nowhere ids id i at.1.0 at.1.1)
+found_by_halves ids id (Err i) h rises = let at = searched ids id (Err i) h rises in sym (found_nowhere ids id i at.1 at.2)
+
+-- above all, or sought by halves
+pub risen_is : (ids : List ℕ) (greatest id : ℕ) → AreUpTo greatest ids → greatest < id → false ≡ is_taken ids id
+risen_is ids greatest id up less = sym (above_all ids greatest id up less)
+
+pub in_either : (rising : List ℕ) (others : BTreeSet ℕ) (id : ℕ) (risen other : Bool) → risen ≡ is_taken rising id → other ≡ contains nat_cmp others id → (risen || other) ≡ is_taken (rising ++ others.keys) id
+in_either rising others id risen other r o =
+    ap (λ b. b || other) r ∙ ap (λ b. is_taken rising id || b) (o ∙ contains_is others id) ∙ sym (in_both rising others.keys id)

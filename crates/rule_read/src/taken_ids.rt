@@ -1,7 +1,7 @@
 // The ids of the rules of a list that were read so far.
 ghost use Rattle.std.specs.Prelude.{◌≡◌, ◌||◌, ◌==◌, ℕ, [], OnOk, OnErr};
 ghost use Rattle.rule_read.specs.Reading.{is_taken};
-ghost use Rattle.rule_read.specs.Ids.{IsRising};
+ghost use Rattle.rule_read.specs.Ids.{IsRising, AreUpTo};
 
 use dnr_base::NoMemory;
 use std::alloc::Global;
@@ -37,6 +37,19 @@ fn is_among(rising: &[u32], id: u32) -> bool
     rising.binary_search(&id).is_ok()
 }
 
+// Whether the id is one of those that rose.
+#[tactic(auto, using(crate::proofs::Ids::risen_is))]
+fn has_risen(rising: &[u32], greatest: u32, id: u32) -> bool
+    requires rising { IsRising rising.now }
+    requires up { AreUpTo greatest rising.now }
+    ensures { result ≡ is_taken rising.now id }
+{
+    if id > greatest {
+        return false;
+    }
+    is_among(rising, id)
+}
+
 impl TakenIds {
     /// None. It takes no memory.
     pub fn new(alloc: Global) -> TakenIds
@@ -50,15 +63,17 @@ impl TakenIds {
     }
 
     /// Whether the id is taken.
+    #[tactic(auto, using(crate::proofs::Ids::in_either))]
     pub fn has(&self, id: u32) -> bool
         ensures { result ≡ is_taken self.now id }
     {
-        (id <= self.greatest && is_among(&self.rising, id)) || self.others.contains(&id)
+        has_risen(&self.rising, self.greatest, id) || self.others.contains(&id)
     }
 
     /// Takes an id.
     ///
     /// `NoMemory`: no memory is left for it. The ids are then as before.
+    #[tactic(auto, using(crate::proofs::Ids::one_rises, crate::proofs::Ids::one_more))]
     pub fn insert(&mut self, id: u32) -> Result<(), NoMemory>
         ensures taken { OnOk result ((other : ℕ) → is_taken self.new other ≡ (is_taken self.old other || id == other)) }
         ensures same { OnErr result (self.new ≡ self.old) }
