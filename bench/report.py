@@ -181,7 +181,7 @@ def library_part(results):
     head = f"""
 ## Decisions through the library for C
 
-The {int(mine["rules"]):,} filters and the requests of the lists once more, by `bench/library`, of commit `{mine["commit"]}` on {mine["day"]}; {mine["load"]} processes wanted a processor, before and behind.
+The {int(mine["rules"]):,} filters and the requests of the lists once more, by `bench/library`, of commit `{mine["commit"]}` on {mine["day"]}, on {mine["processor"]}; {mine["load"]} processes wanted a processor, before and behind. It may be another machine than the one above.
 `dnr_ask` reads the lines that `dnr match` reads and writes the same bytes. `dnr_decide` gets each request by its parts, and gives the verdict by its parts. Opening the engine is not in these figures, and for `dnr_decide` neither is what reads requests.
 A ratio is the figure of a row by that of `dnr match`.
 
