@@ -1,6 +1,8 @@
 """What measures share: a run of a program, its time and its memory, and the rules of a list."""
 import json
 import os
+import platform
+import re
 import resource
 import shutil
 import subprocess
@@ -47,6 +49,20 @@ def run(words, output, folder=None):
         subprocess.run([*meter, *words], stdout=out, cwd=folder, check=True)
         seconds = seconds_of_children() - begun
     return seconds, int(peak.read_text()) / 1024 if meter else 0.0
+
+
+def instructions(words):
+    """How many instructions a program takes, by valgrind."""
+    meter = ["valgrind", "--tool=cachegrind", "--cache-sim=no", "--cachegrind-out-file=/dev/null"]
+    said = subprocess.run([*meter, *words], stdout=subprocess.DEVNULL, stderr=subprocess.PIPE, text=True, check=True).stderr
+    found = re.search(r"I +refs: +([\d,]+)", said)
+    return int(found[1].replace(",", "")) if found else None
+
+
+def processor():
+    """The model of the processor."""
+    model = re.search(r"model name\s*: (.*)", Path("/proc/cpuinfo").read_text())
+    return model[1] if model else platform.machine()
 
 
 def best(words, output, folder=None):
