@@ -22,3 +22,4 @@ mod Pieces
 mod PlainHits
 mod Levels
 mod PlainScanned
+pub mod LongFrames

@@ -1,5 +1,5 @@
 -- How many hits there are: no more than keys that rules in force share with the request.
-use Rattle.std.proofs.Common.{◌≡◌, ℕ, suc, ◌+◌, ◌<◌, ◌≤◌, List, [], ◌∷◌, ◌++◌, length, drop, get_or, map, filter, Bool, true, false, not, cond, option_to_list, Option, Some, None, refl, sym, ap, ◌∙◌, subst, arith}
+use Rattle.std.proofs.Common.{◌≡◌, ℕ, suc, ◌+◌, ◌<◌, ◌≤◌, List, [], ◌∷◌, ◌++◌, length, drop, get_or, map, filter, Bool, true, false, cond, option_to_list, Option, Some, None, refl, sym, ap, ◌∙◌, subst, arith}
 use Rattle.std.specs.Prelude.{option_and_then, slice_get}
 use Rattle.std.specs.List.{cons_option, flat_map, sum_by}
 use Rattle.std.proofs.lemmas.List.{drop_more, map-append}
@@ -16,11 +16,13 @@ use Rattle.rule_index.specs.Lists.{IsListIndexOf, ListIndex, for_frames, placed,
 use Rattle.rule_index.specs.Needs.{needs_of}
 use Rattle.rule_index.proofs.Counted.{candidates_are_counted, near_are_counted}
 use Rattle.rule_spec.specs.Rule.{Rule}
-use Rattle.rule_spec.specs.State.{Extension, Live, has_number, live_rules}
-use Rattle.update_spec.specs.Update.{without_ids}
+use Rattle.rule_spec.specs.State.{Extension, Live, live_rules}
 use Rattle.generation.specs.declared.block.Block.{Block}
-use Rattle.generation.specs.Block.{live_in, live_there, lives_at, lives_in}
+use Rattle.generation.specs.Block.{listed_in, live_in, live_there, lives_from, lives_in}
 use Rattle.generation.specs.Hits.{AreHits, frame_hits, hits_by, hits_on, live_count, pairs_by, pairs_in, weight_of, weight_on, weight_on_frames, weight_on_some}
+use Rattle.generation.specs.Plain.{rules_by}
+use Rattle.generation.proofs.Blocks.{Test}
+use Rattle.generation.proofs.Served.{rule_is}
 
 -- ---- of what an index gives
 
@@ -83,40 +85,44 @@ each_weighs (key ∷ keys) n is =
     let b = each_weighs keys n is in
     omega (arith, a, b, is)
 
-module _ (weight : ℕ → ℕ) (part : Part) (pick : Rule → Bool) (off : List ℕ) where
+module _ (weight : ℕ → ℕ) (part : Part) (pick : Rule → Bool) (test : Test) (own : (place : ℕ) (rule : Rule) (live : Live) → test place rule ≡ Some live → live.rule ≡ rule) where
   abbrev weigh : ℕ × Rule → ℕ
   weigh one = sum_by (λ key. weight one.0) (shared one.1 part)
 
   abbrev pairs : Rule → ℕ
   pairs rule = length (shared rule part)
 
-  one_case : (chosen gone : Bool) (place : ℕ) (rule : Rule) (rest : List (ℕ × Rule)) (rules : List Rule) → pick rule ≡ chosen → weight place ≡ cond gone 0 1
-      → sum_by weigh rest ≡ sum_by pairs (filter pick rules)
-      → sum_by weigh (cond chosen ((place, rule) ∷ rest) rest) ≡ sum_by pairs (filter pick (cond (not gone) (rule ∷ rules) rules))
-  one_case true true place rule rest rules is heavy same =
+  one_case : (chosen : Bool) (o : Option Live) (place : ℕ) (rule : Rule) (rest : List (ℕ × Rule)) (lives : List Live) → pick rule ≡ chosen
+      → ((live : Live) → o ≡ Some live → live.rule ≡ rule) → weight place ≡ length (option_to_list o)
+      → sum_by weigh rest ≡ sum_by pairs (filter pick (rules_by lives))
+      → sum_by weigh (cond chosen ((place, rule) ∷ rest) rest) ≡ sum_by pairs (filter pick (rules_by (cons_option o lives)))
+  one_case true None place rule rest lives is same heavy all =
       let a = sum_by-cons weigh (place, rule) rest in
       let b = none_weighs (shared rule part) (weight place) heavy in
-      omega (arith, a, b, same)
-  one_case false true place rule rest rules is heavy same = same
-  one_case true false place rule rest rules is heavy same =
+      omega (arith, a, b, all)
+  one_case false None place rule rest lives is same heavy all = all
+  one_case true (Some live) place rule rest lives is same heavy all =
       let a = sum_by-cons weigh (place, rule) rest in
       let b = each_weighs (shared rule part) (weight place) heavy in
-      let d = sum_by-cons pairs rule (filter pick rules) in
-      let e : sum_by pairs (filter pick (rule ∷ rules)) ≡ sum_by pairs (rule ∷ filter pick rules) =
-      ap (λ b. sum_by pairs (cond b (rule ∷ filter pick rules) (filter pick rules))) is in
-      omega (arith, a, b, d, e, same)
-  one_case false false place rule rest rules is heavy same =
-      same ∙ sym (ap (λ b. sum_by pairs (cond b (rule ∷ filter pick rules) (filter pick rules))) is)
+      let d = sum_by-cons pairs rule (filter pick (rules_by lives)) in
+      let e : sum_by pairs (filter pick (live.rule ∷ rules_by lives)) ≡ sum_by pairs (rule ∷ filter pick (rules_by lives)) =
+      ap (λ r. sum_by pairs (filter pick (r ∷ rules_by lives))) (same live refl)
+      ∙ ap (λ b. sum_by pairs (cond b (rule ∷ filter pick (rules_by lives)) (filter pick (rules_by lives)))) is in
+      omega (arith, a, b, d, e, all)
+  one_case false (Some live) place rule rest lives is same heavy all =
+      all ∙ sym (ap (λ b. sum_by pairs (cond b (rule ∷ filter pick (rules_by lives)) (filter pick (rules_by lives)))) is)
+      ∙ sym (ap (λ r. sum_by pairs (filter pick (r ∷ rules_by lives))) (same live refl))
 
-  placed_weigh : (rules : List Rule) (first : ℕ) → ((k : ℕ) (rule : Rule) → slice_get rules k ≡ Some rule → weight (first + k) ≡ cond (has_number off rule.id) 0 1)
-      → sum_by weigh (filter (λ one. pick one.1) (placed_from first rules)) ≡ sum_by pairs (filter pick (without_ids off rules))
+  placed_weigh : (rules : List Rule) (first : ℕ) → ((k : ℕ) (rule : Rule) → slice_get rules k ≡ Some rule → weight (first + k) ≡ length (option_to_list (test (first + k) rule)))
+      → sum_by weigh (filter (λ one. pick one.1) (placed_from first rules)) ≡ sum_by pairs (filter pick (rules_by (lives_from test first rules)))
   placed_weigh [] first heavy = refl
   placed_weigh (rule ∷ rules) first heavy =
       let e : first + 0 ≡ first = omega arith in
       let next : (k : ℕ) → first + suc k ≡ (first + 1) + k = λ k. omega arith in
-      one_case (pick rule) (has_number off rule.id) first rule (filter (λ one. pick one.1) (placed_from (first + 1) rules)) (without_ids off rules) refl
-      (subst (λ (n : ℕ). weight n ≡ cond (has_number off rule.id) 0 1) e (heavy 0 rule refl))
-      (placed_weigh rules (first + 1) (λ k other is. subst (λ (n : ℕ). weight n ≡ cond (has_number off other.id) 0 1) (next k) (heavy (suc k) other is)))
+      one_case (pick rule) (test first rule) first rule (filter (λ one. pick one.1) (placed_from (first + 1) rules)) (lives_from test (first + 1) rules) refl
+      (λ live is. own first rule live is)
+      (subst (λ (n : ℕ). weight n ≡ length (option_to_list (test n rule))) e (heavy 0 rule refl))
+      (placed_weigh rules (first + 1) (λ k other is. subst (λ (n : ℕ). weight n ≡ length (option_to_list (test n other))) (next k) (heavy (suc k) other is)))
 
 all_stay : {X : Type 0} (xs : List X) → filter (λ x. true) xs ≡ xs
 all_stay [] = refl
@@ -126,59 +132,44 @@ module _ (block : Block) where
   abbrev heavy : ℕ → ℕ
   heavy place = length (option_to_list (live_there block place))
 
-  count_case : (gone : Bool) (live : Live) → length (option_to_list (cond gone None (Some live))) ≡ cond gone 0 1
-  count_case true live = refl
-  count_case false live = refl
+  abbrev in_force : List Rule
+  in_force = rules_by (lives_in block)
 
-  heavy_is : (k : ℕ) (rule : Rule) → slice_get block.rules.now k ≡ Some rule → heavy (0 + k) ≡ cond (has_number block.off.now rule.id) 0 1
+  heavy_is : (k : ℕ) (rule : Rule) → slice_get (listed_in block) k ≡ Some rule → heavy (0 + k) ≡ length (option_to_list (live_in block (0 + k) rule))
   heavy_is k rule is =
       let e : 0 + k ≡ k = omega arith in
-      ap heavy e ∙ ap (λ o. length (option_to_list (option_and_then (live_in block k) o))) is
-      ∙ count_case (has_number block.off.now rule.id) _
+      ap (λ n. length (option_to_list (option_and_then (live_in block (0 + k)) (slice_get (listed_in block) n)))) e
+      ∙ ap (λ o. length (option_to_list (option_and_then (live_in block (0 + k)) o))) is
 
-  own_weigh : (part : Part) → weight_on heavy (placed block.rules.now) part ≡ pairs_on (without_ids block.off.now block.rules.now) part
+  own_weigh : (part : Part) → weight_on heavy (placed (listed_in block)) part ≡ pairs_on in_force part
   own_weigh part =
-      sym (ap (λ rules. weight_on heavy rules part) (all_stay (placed block.rules.now)))
-      ∙ placed_weigh heavy part (λ rule. true) block.off.now block.rules.now 0 heavy_is
-      ∙ ap (λ rules. pairs_on rules part) (all_stay (without_ids block.off.now block.rules.now))
+      sym (ap (λ rules. weight_on heavy rules part) (all_stay (placed (listed_in block))))
+      ∙ placed_weigh heavy part (λ rule. true) (live_in block) (rule_is block) (listed_in block) 0 heavy_is
+      ∙ ap (λ rules. pairs_on rules part) (all_stay in_force)
 
-  framing_weigh : (part : Part) → weight_on heavy (for_frames (placed block.rules.now)) part ≡ pairs_on (rules_for_frames (without_ids block.off.now block.rules.now)) part
-  framing_weigh part = placed_weigh heavy part (λ rule. is_for_frames rule.action) block.off.now block.rules.now 0 heavy_is
+  framing_weigh : (part : Part) → weight_on heavy (for_frames (placed (listed_in block))) part ≡ pairs_on (rules_for_frames in_force) part
+  framing_weigh part = placed_weigh heavy part (λ rule. is_for_frames rule.action) (live_in block) (rule_is block) (listed_in block) 0 heavy_is
 
-  some_framing : (o : Option Part) → weight_on_some heavy (for_frames (placed block.rules.now)) o ≡ pairs_on_some (rules_for_frames (without_ids block.off.now block.rules.now)) o
+  some_framing : (o : Option Part) → weight_on_some heavy (for_frames (placed (listed_in block))) o ≡ pairs_on_some (rules_for_frames in_force) o
   some_framing None = refl
   some_framing (Some part) = framing_weigh part
 
   all_framing : (request : Request) (place : ℕ) (frames : List Frame)
-      → weight_on_frames heavy (for_frames (placed block.rules.now)) request place frames ≡ pairs_on_frames (rules_for_frames (without_ids block.off.now block.rules.now)) request place frames
+      → weight_on_frames heavy (for_frames (placed (listed_in block))) request place frames ≡ pairs_on_frames (rules_for_frames in_force) request place frames
   all_framing request place [] = refl
   all_framing request place (frame ∷ frames) =
       let a = some_framing (frame_part_of request place frame) in
       let b = all_framing request (place + 1) frames in
       omega (arith, a, b)
 
-  -- the rules of those that are in force
-  rules_case : (gone : Bool) (live : Live) (lives : List Live) (rules : List Rule) → map (λ l. l.rule) lives ≡ rules
-      → map (λ l. l.rule) (cons_option (cond gone None (Some live)) lives) ≡ cond (not gone) (live.rule ∷ rules) rules
-  rules_case true live lives rules same = same
-  rules_case false live lives rules same = ap (λ l. live.rule ∷ l) same
-
-  rules_in_force : (rules : List Rule) (origins : List (List ℕ)) → map (λ l. l.rule) (lives_at block.rank block.set.now block.off.now rules origins) ≡ without_ids block.off.now rules
-  rules_in_force [] origins = refl
-  rules_in_force (rule ∷ rules) [] =
-      rules_case (has_number block.off.now rule.id) (record { rank = block.rank; set = block.set.now; rule = rule; lines = [] }) (lives_at block.rank block.set.now block.off.now rules []) (without_ids block.off.now rules) (rules_in_force rules [])
-  rules_in_force (rule ∷ rules) (lines ∷ origins) =
-      rules_case (has_number block.off.now rule.id) (record { rank = block.rank; set = block.set.now; rule = rule; lines = lines }) (lives_at block.rank block.set.now block.off.now rules origins) (without_ids block.off.now rules) (rules_in_force rules origins)
-
-  pub found_few : (request : Request) (hits : List (ℕ × ℕ)) → ((weight : ℕ → ℕ) → sum_by (λ hit. weight hit.0) hits ≤ weight_of weight block.rules.now request) → sum_by (live_count block) hits ≤ pairs_by (lives_in block) request
+  pub found_few : (request : Request) (hits : List (ℕ × ℕ)) → ((weight : ℕ → ℕ) → sum_by (λ hit. weight hit.0) hits ≤ weight_of weight (listed_in block) request) → sum_by (live_count block) hits ≤ pairs_by (lives_in block) request
   found_few request hits few =
       let a = few heavy in
       let b = own_weigh (own_part request) in
       let d = all_framing request 0 request.frames in
-      let e : pairs_by (lives_in block) request ≡ pairs_of_rules (without_ids block.off.now block.rules.now) request = ap (λ rules. pairs_of_rules rules request) (rules_in_force block.rules.now block.origins.now) in
-      omega (arith, a, b, d, e)
+      omega (arith, a, b, d)
 
-  pub hits_few : (request : Request) (hits : List (ℕ × ℕ)) → AreHits block.rules.now request hits → sum_by (live_count block) hits ≤ pairs_by (lives_in block) request
+  pub hits_few : (request : Request) (hits : List (ℕ × ℕ)) → AreHits (listed_in block) request hits → sum_by (live_count block) hits ≤ pairs_by (lives_in block) request
   hits_few request hits are = found_few request hits are.few
 
 -- ---- added up

@@ -23,7 +23,7 @@ use Rattle.rule_spec.specs.Rule.{Action, Rule, verb_of}
 use Rattle.rule_spec.specs.Rule as action
 use Rattle.rule_spec.specs.State.{Live}
 use Rattle.generation.specs.declared.block.Block.{Block}
-use Rattle.generation.specs.Block.{live_at, live_in, live_there, lives_in}
+use Rattle.generation.specs.Block.{listed_in, live_in, live_there, lives_in}
 use Rattle.generation.specs.Hits.{frame_hits, hits_by, hits_on, live_count, pairs_by, part_at}
 use Rattle.generation.specs.Plain.{are_plain, greatest, hit_level, hits_level, is_plain_rule, level, level_at, level_by, level_if, level_of, level_there, may_decide, rules_by}
 use Rattle.generation.proofs.Blocks.{block_end, block_step}
@@ -31,7 +31,7 @@ use Rattle.generation.proofs.Gathered.{all_there, frames_step}
 use Rattle.generation.proofs.Pairs.{all_weigh, found_few}
 use Rattle.generation.proofs.Parts.{by_part, on_frame, reached, reaches_there}
 use Rattle.generation.proofs.PlainRules.{plain_there}
-use Rattle.generation.proofs.Served.{behind, found, in_force_at}
+use Rattle.generation.proofs.Served.{behind, block_has, found}
 
 -- ---- how a rule that reaches does it
 
@@ -123,7 +123,7 @@ rule_of (own ∷ lives) live (suc k, within, is) =
 -- the rule in force at a place is one of the block's
 rule_there : (block : Block) (place : ℕ) (live : Live) → live_there block place ≡ Some live → Contains (rules_by (lives_in block)) live.rule
 rule_there block place live is =
-    rule_of (lives_in block) live (in_force_at (live_at block.rank block.set.now block.off.now) block.rules.now block.origins.now place live is)
+    rule_of (lives_in block) live (block_has block place live is)
 
 pub live_is_plain : (block : Block) (place : ℕ) (live : Live) → are_plain (rules_by (lives_in block)) ≡ true → live_there block place ≡ Some live → is_plain_rule live.rule ≡ true
 live_is_plain block place live plain is = plain_there (rules_by (lives_in block)) live.rule plain (rule_there block place live is)
@@ -152,14 +152,14 @@ module _ (suffixes : List SuffixRule) (request : Request) (block : Block) (n : �
   cons_below None lives own more = more
   cons_below (Some live) lives own more = let first = own live refl in omega (arith, first, more)
 
-  behind_below : (left place : ℕ) → place + left ≡ length block.rules.now → greatest suffixes request (rules_by (behind suffixes request block place)) ≤ n
+  behind_below : (left place : ℕ) → place + left ≡ length (listed_in block) → greatest suffixes request (rules_by (behind suffixes request block place)) ≤ n
   behind_below zero place all =
-      let none = ap (λ lives. greatest suffixes request (rules_by lives)) (block_end (live_at block.rank block.set.now block.off.now) block.rules.now block.origins.now place (omega (arith, all))) in
+      let none = ap (λ lives. greatest suffixes request (rules_by lives)) (block_end (live_in block) (listed_in block) place (omega (arith, all))) in
       omega (arith, none)
   behind_below (suc left) place all =
-      elim (slice_get_cases block.rules.now place).1 [
+      elim (slice_get_cases (listed_in block) place).1 [
         | inl here ↦
-            let step = ap (λ lives. greatest suffixes request (rules_by lives)) (block_step (live_at block.rank block.set.now block.off.now) block.rules.now block.origins.now place here.0 here.1 (sym here.3)) in
+            let step = ap (λ lives. greatest suffixes request (rules_by lives)) (block_step (live_in block) (listed_in block) place here.0 here.1 (sym here.3)) in
             let more = cons_below (live_in block place here.0) (behind suffixes request block (place + 1))
             (λ live is. each place live (ap (option_and_then (live_in block place)) here.2 ∙ is))
             (behind_below left (place + 1) (omega (arith, all))) in
@@ -168,7 +168,7 @@ module _ (suffixes : List SuffixRule) (request : Request) (block : Block) (n : �
       ]
 
 level_case : (suffixes : List SuffixRule) (request : Request) (block : Block) (hits : List (ℕ × ℕ))
-    → ((place part : ℕ) (rule : Rule) → slice_get block.rules.now place ≡ Some rule → reaches_by suffixes rule request (part_at part) ≡ true → Contains hits (place, part))
+    → ((place part : ℕ) (rule : Rule) → slice_get (listed_in block) place ≡ Some rule → reaches_by suffixes rule request (part_at part) ≡ true → Contains hits (place, part))
     → (place : ℕ) (live : Live) → live_there block place ≡ Some live → level suffixes request live.rule ≤ hits_level suffixes request block hits
 level_case suffixes request block hits all place live is =
     elim (cases_Bool (is_some (reach_of suffixes live.rule request))) [
@@ -184,15 +184,15 @@ level_case suffixes request block hits all place live is =
     ]
 
 pub block_level : (suffixes : List SuffixRule) (request : Request) (block : Block) (index : ListIndex)
-    → IsListIndexOf block.rules.now index → IsView request.view → ((n : ℕ) → n < length request.frames → IfSome (frame_part request n) (λ p. IsView p.view))
+    → IsListIndexOf (listed_in block) index → IsView request.view → ((n : ℕ) → n < length request.frames → IfSome (frame_part request n) (λ p. IsView p.view))
     → hits_level suffixes request block (hits_by (near index.whole (Some (shown_by (own_part request))) (own_part request)) 0 ++ frame_hits index.framing request 0 request.frames)
     ≡ greatest suffixes request (rules_by (lives_in block))
 block_level suffixes request block index is_index view views =
     let hits = hits_by (near index.whole (Some (shown_by (own_part request))) (own_part request)) 0 ++ frame_hits index.framing request 0 request.frames in
     let below = hits_below suffixes request block hits in
     let above = behind_below suffixes request block (hits_level suffixes request block hits)
-    (level_case suffixes request block hits (λ place part rule there reaches. all_there block.rules.now index request suffixes place part rule is_index view views there reaches))
-    (length block.rules.now) 0 (omega arith) in
+    (level_case suffixes request block hits (λ place part rule there reaches. all_there (listed_in block) index request suffixes place part rule is_index view views there reaches))
+    (length (listed_in block)) 0 (omega arith) in
     omega (arith, below, above)
 
 -- ---- one rule
@@ -258,7 +258,7 @@ module _ (suffixes : List SuffixRule) (request : Request) (block : Block) where
       omega (arith, cut, add, told, so_far)
 
   pub both_levels : (index : ListIndex) (best own new : ℕ)
-      → IsListIndexOf block.rules.now index → IsView request.view → ((n : ℕ) → n < length request.frames → IfSome (frame_part request n) (λ p. IsView p.view))
+      → IsListIndexOf (listed_in block) index → IsView request.view → ((n : ℕ) → n < length request.frames → IfSome (frame_part request n) (λ p. IsView p.view))
       → own ≡ max best (hits_level suffixes request block (hits_by (near index.whole (Some (shown_by (own_part request))) (own_part request)) 0))
       → new ≡ max own (hits_level suffixes request block (frame_hits index.framing request 0 request.frames))
       → new ≡ max best (greatest suffixes request (rules_by (lives_in block)))
@@ -286,7 +286,7 @@ module _ (suffixes : List SuffixRule) (request : Request) (block : Block) where
       let add = sum_by-append (live_count block) (hits_on index.framing (place + 1) (frame_part request place)) (frame_hits index.framing request (place + 1) (drop (place + 1) request.frames)) in
       omega (arith, cut, add, told, so_far)
 
-  pub both_counts : (index : ListIndex) (steps own new : ℕ) → IsListIndexOf block.rules.now index
+  pub both_counts : (index : ListIndex) (steps own new : ℕ) → IsListIndexOf (listed_in block) index
       → own ≤ steps + sum_by (live_count block) (hits_by (near index.whole (Some (shown_by (own_part request))) (own_part request)) 0)
       → new ≤ own + sum_by (live_count block) (frame_hits index.framing request 0 request.frames)
       → new ≤ steps + pairs_by (lives_in block) request
@@ -294,5 +294,5 @@ module _ (suffixes : List SuffixRule) (request : Request) (block : Block) where
       let hits = hits_by (near index.whole (Some (shown_by (own_part request))) (own_part request)) 0 in
       let frames = frame_hits index.framing request 0 request.frames in
       let add = sum_by-append (live_count block) hits frames in
-      let few = found_few block request (hits ++ frames) (λ weight. all_weigh weight (Some (shown_by (own_part request))) block.rules.now index request is_index) in
+      let few = found_few block request (hits ++ frames) (λ weight. all_weigh weight (Some (shown_by (own_part request))) (listed_in block) index request is_index) in
       omega (arith, add, few, first, second)

@@ -83,13 +83,10 @@ enabled_case : (enabled : Bool) (lives : List Live) (rules : List Rule) → rule
 enabled_case true lives rules same = same
 enabled_case false lives rules same = refl
 
-pub of_set_rules : (place : ℕ) (set : RuleSet) → rules_by (live_of place set) ≡ rules_of_set set
+of_set_rules : (place : ℕ) (set : RuleSet) → rules_by (live_of place set) ≡ rules_of_set set
 of_set_rules place set = enabled_case set.enabled (filter_map (live_in_set place set) (with_lines set.rules set.origins)) (without_ids set.disabled set.rules) (set_rules place set set.rules set.origins)
 
-pub disabled_rules : (set : RuleSet) → set.enabled ≡ false → rules_of_set set ≡ []
-disabled_rules set off = ap (λ b. cond b (without_ids set.disabled set.rules) []) off
-
-sets_rules : (place : ℕ) (sets : List RuleSet) → rules_by (live_from place sets) ≡ flat_map rules_of_set sets
+pub sets_rules : (place : ℕ) (sets : List RuleSet) → rules_by (live_from place sets) ≡ flat_map rules_of_set sets
 sets_rules place [] = refl
 sets_rules place (set ∷ sets) =
     map-append (λ (live : Live). live.rule) (live_of place set) (live_from (place + 1) sets)

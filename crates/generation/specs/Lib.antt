@@ -8,3 +8,4 @@ pub mod Hits
 pub mod Plain
 pub mod Choice
 pub mod Explained
+pub mod LongFrames

@@ -6,11 +6,14 @@ ghost use Rattle.dnr_base.specs.Request.{frame_part, max_frames, own_part};
 ghost use Rattle.dnr_base.specs.View.{IsView};
 ghost use Rattle.rule_index.specs.Index.{near};
 ghost use Rattle.rule_index.specs.Needs as needs;
+ghost use Rattle.generation.specs.Block.{listed_in};
 ghost use Rattle.generation.specs.Hits as spec;
+ghost use Rattle.generation.specs.LongFrames.{AreLong};
 
+use crate::block::Block;
+use crate::long_frames::long_at;
 use dnr_base::{NoMemory, Request};
 use rule_index::{ListIndex, ListedPart, Walk, shown_by};
-use ruleset_store::IndexedRules;
 use std::alloc::Global;
 
 // The place of a rule in its list, and the part by which it may reach the request: 0 for the request itself, and one more
@@ -43,9 +46,11 @@ fn push_frame(
     hits: &mut Vec<Hit>,
     index: &ListIndex,
     request: &Request,
+    long: &[Option<ListedPart<'_>>],
     place: usize,
 ) -> Result<(), NoMemory>
-    requires { place < max_frames }
+    requires place { place < max_frames }
+    requires long { AreLong long.now request.now }
     ensures hits { OnOk result (hits.new.items
         ≡ hits.old.items ++ spec.hits_on index.now.framing (place + 1) (frame_part request.now place)) }
     ensures view { IfSome (frame_part request.now place) (λ part. IsView part.view) }
@@ -54,19 +59,29 @@ fn push_frame(
         return Ok(());
     };
     let _text = part.view.text();
-    push_all(hits, index.framing_candidates(&part), place as u32 + 1)
+    let number = place as u32 + 1;
+    match long_at(long, request, place) {
+        Some(listed) => push_all(hits, index.framing_listed(listed), number),
+        None => push_all(hits, index.framing_candidates(&part), number),
+    }
 }
 
 // Puts the hits of the frames behind the others.
-fn push_frames(hits: &mut Vec<Hit>, index: &ListIndex, request: &Request) -> Result<(), NoMemory>
-    requires { length request.now.frames ≤ max_frames }
+fn push_frames(
+    hits: &mut Vec<Hit>,
+    index: &ListIndex,
+    request: &Request,
+    long: &[Option<ListedPart<'_>>],
+) -> Result<(), NoMemory>
+    requires frames { length request.now.frames ≤ max_frames }
+    requires long { AreLong long.now request.now }
     ensures hits { OnOk result (hits.new.items
         ≡ hits.old.items ++ spec.frame_hits index.now.framing request.now 0 request.now.frames) }
     ensures views { OnOk result ((place : ℕ) → place < length request.now.frames
         → IfSome (frame_part request.now place) (λ part. IsView part.view)) }
 {
     for place in 0..request.frames.as_slice().len() {
-        push_frame(hits, index, request, place)?;
+        push_frame(hits, index, request, long, place)?;
     }
     Ok(())
 }
@@ -97,21 +112,24 @@ fn sort_once(hits: &mut Vec<Hit>)
     hits.dedup();
 }
 
-// The rules that may reach the request, of which this is the own part, in place of what was there.
+// The rules of the block that may reach the request, of which these are the own part and the long
+// frames, in place of what was there.
 pub(crate) fn find(
     hits: &mut Vec<Hit>,
-    rules: &IndexedRules,
+    block: &Block<'_>,
     request: &Request,
     own: &ListedPart<'_>,
+    long: &[Option<ListedPart<'_>>],
 ) -> Result<(), NoMemory>
     requires frames { length request.now.frames ≤ max_frames }
+    requires long { AreLong long.now request.now }
     requires own { own.now ≡ own_part request.now }
-    ensures { OnOk result (spec.AreHits rules.now request.now hits.new.items) }
+    ensures { OnOk result (spec.AreHits (listed_in block.now) request.now hits.new.items) }
 {
-    let index = rules.index();
+    let index = block.index();
     hits.clear();
     push_own(hits, index, request, own)?;
-    push_frames(hits, index, request)?;
+    push_frames(hits, index, request, long)?;
     sort_once(hits);
     Ok(())
 }

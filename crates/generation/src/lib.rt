@@ -13,6 +13,7 @@ mod generation;
 mod hits;
 mod kept;
 mod live;
+mod long_frames;
 mod offer;
 mod offers;
 mod operations;

@@ -23,7 +23,7 @@ use dnr_rules::Action;
 use precedence::beats;
 use rule_index::{ListIndex, Walk};
 use rule_match::{PreparedRequest, Reach};
-use ruleset_store::{InstalledExtension, InstalledSet, Segment};
+use ruleset_store::{InstalledExtension, Segment};
 use std::marker::Model;
 use std::sync::ledger::Ledger;
 use suffix_list::SuffixList;
@@ -82,13 +82,12 @@ fn of_segment(segment: &Segment) -> Block<'_>
     Block::of_segment(Rank::Session, "", segment)
 }
 
-// The rules of an enabled ruleset. Nor does its place decide anything.
-#[tactic(auto, using(crate::proofs::PlainRules::of_set_rules))]
-fn of_set(set: &InstalledSet) -> Block<'_>
-    requires { set.now.enabled ≡ true }
-    ensures { rules_by (lives_in result) ≡ spec.rules_of_set set.now }
+// The rules of the rulesets that are enabled. Nor do their places decide anything.
+#[tactic(auto, using(crate::proofs::PlainRules::sets_rules))]
+fn of_sets(extension: &InstalledExtension) -> Block<'_>
+    ensures { rules_by (lives_in result) ≡ flat_map spec.rules_of_set extension.now.sets }
 {
-    Block::of_set(0, set)
+    Block::of_sets(extension)
 }
 
 fn blocks_by(best: &Option<Candidate>) -> bool
@@ -285,7 +284,7 @@ impl<'r> PlainScan<'r> {
             ≡ max (level_in best) (greatest self.now.suffixes self.now.request (rules_by (lives_in block.now))) }
         ensures bound { steps.new ≤ steps.old + pairs_by (lives_in block.now) self.now.request }
     {
-        let index = block.rules.index();
+        let index = block.index();
         let own = self.with_own(best, block, index, steps);
         self.with_frames(own, block, index, steps)
     }
@@ -310,45 +309,6 @@ impl<'r> PlainScan<'r> {
         best
     }
 
-    // The same of the rules of a static ruleset, if it is enabled.
-    #[tactic(auto, using(crate::proofs::PlainRules::disabled_rules))]
-    fn with_set<L: Ledger>(
-        &self,
-        best: Option<Candidate>,
-        set: &InstalledSet,
-        steps: &mut Steps<L>,
-    ) -> Option<Candidate>
-        requires { are_plain (spec.rules_of_set set.now) ≡ true }
-        ensures level { level_in result
-            ≡ max (level_in best) (greatest self.now.suffixes self.now.request (spec.rules_of_set set.now)) }
-        ensures bound { steps.new ≤ steps.old + pairs_of_rules (spec.rules_of_set set.now) self.now.request }
-    {
-        if !set.is_enabled() {
-            return best;
-        }
-        let block = of_set(set);
-        self.with_block(best, &block, steps)
-    }
-
-    // The same of the rules of static rulesets.
-    fn with_sets<L: Ledger>(
-        &self,
-        best: Option<Candidate>,
-        sets: &[InstalledSet],
-        steps: &mut Steps<L>,
-    ) -> Option<Candidate>
-        requires { are_plain (flat_map spec.rules_of_set sets.now) ≡ true }
-        ensures level { level_in result
-            ≡ max (level_in best) (greatest self.now.suffixes self.now.request (flat_map spec.rules_of_set sets.now)) }
-        ensures bound { steps.new ≤ steps.old + pairs_of_rules (flat_map spec.rules_of_set sets.now) self.now.request }
-    {
-        let mut best = best;
-        for set in sets {
-            best = self.with_set(best, set, steps);
-        }
-        best
-    }
-
     // The strongest candidate of an extension.
     fn strongest<L: Ledger>(
         &self,
@@ -361,7 +321,7 @@ impl<'r> PlainScan<'r> {
     {
         let session = self.with_segments(None, extension.session().segments(), steps);
         let added = self.with_segments(session, extension.dynamic().segments(), steps);
-        self.with_sets(added, extension.sets(), steps)
+        self.with_block(added, &of_sets(extension), steps)
     }
 
     // Whether the rule that decides inside an extension blocks.

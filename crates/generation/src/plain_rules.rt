@@ -46,7 +46,7 @@ fn live_are_plain(rules: &[SharedRule], off: &OffIds) -> bool
 fn segment_is_plain(segment: &Segment) -> bool
     ensures { result ≡ are_plain (live_in segment.now) }
 {
-    live_are_plain(segment.rules().shared(), segment.removed())
+    live_are_plain(segment.rules().rules().shared(), segment.removed())
 }
 
 fn added_are_plain(segments: &[Segment]) -> bool

@@ -4,7 +4,7 @@ ghost use Rattle.dnr_base.specs.Faults.{HasCauseOf};
 ghost use Rattle.rule_match.specs.Answers.{IsCalm};
 ghost use Rattle.explain_spec.specs.Explanation.{frame_of};
 ghost use Rattle.rule_segments.specs.Segments.{live_among};
-ghost use Rattle.rule_spec.specs.State.{live_from, live_of, live_rules, live_with};
+ghost use Rattle.rule_spec.specs.State.{live_rules, live_with};
 ghost use Rattle.generation.specs.Block.{added_to, live_there, lives_in};
 ghost use Rattle.generation.specs.Hits.{acts_by, live_count, pairs_by, pairs_in, part_at, with_hit, with_part};
 ghost use Rattle.generation.specs.Kept as spec;
@@ -17,13 +17,14 @@ use crate::block::Block;
 use crate::hits::{Hit, find, no_hits};
 use crate::kept::Kept;
 use crate::live::Live;
+use crate::long_frames::long_frames;
 use crate::targets::may_act;
 use dnr_base::{NoMemory, Rank, Request, Steps};
 use dnr_rules::Rule;
 use regex_host::RegexHost;
 use rule_index::ListedPart;
 use rule_match::{MatchRefusal, PreparedRequest, Reach};
-use ruleset_store::{InstalledExtension, InstalledSet, Segment};
+use ruleset_store::{InstalledExtension, Segment};
 use std::alloc::Global;
 use std::marker::Model;
 use std::sync::ledger::Ledger;
@@ -36,12 +37,14 @@ pub(crate) struct Scan<'r> {
     pub request: &'r Request,
     prepared: PreparedRequest<'r>,
     own: ListedPart<'r>,
+    long: Vec<Option<ListedPart<'r>>>,
 }
 
 impl<'r> Model for Scan<'r> {
     ghost use Rattle.std.specs.Prelude.{◌≡◌, ◌≤◌, length};
     ghost use Rattle.dnr_base.specs.Request.{max_frames, own_part};
     ghost use Rattle.rule_match.specs.Prepared.{PreparedRequest};
+    ghost use Rattle.generation.specs.LongFrames.{AreLong};
 
     ghost Value = { PreparedRequest };
 
@@ -49,7 +52,8 @@ impl<'r> Model for Scan<'r> {
 
     ghost invariant = { λ s. (s.prepared.request ≡ s.request.now)
         × (length s.request.now.frames ≤ max_frames)
-        × (s.own ≡ own_part s.request.now) };
+        × (s.own ≡ own_part s.request.now)
+        × AreLong s.long.items s.request.now };
 }
 
 // The number, if it fits.
@@ -112,6 +116,7 @@ impl<'r> Scan<'r> {
             request,
             prepared: PreparedRequest::new(request, list),
             own: ListedPart::new(alloc, request.own_part())?,
+            long: long_frames(alloc, request)?,
         })
     }
 
@@ -224,7 +229,7 @@ impl<'r> Scan<'r> {
         ensures bound { steps.new ≤ steps.old + pairs_by (lives_in block.now) self.now.request }
         ensures ends { Ends (IsPattern kept.entry.name (lives_in block.now)) (H.faults host.old) (H.faults host.new) result }
     {
-        match find(hits, block.rules, self.request, &self.own) {
+        match find(hits, block, self.request, &self.own, &self.long) {
             Ok(()) => self.take_hits(kept, block, hits.as_slice(), host, steps),
             Err(_) => Err(DecideRefusal::NoMemory),
         }
@@ -249,53 +254,6 @@ impl<'r> Scan<'r> {
         for segment in segments {
             let block = Block::of_segment(rank, set, segment);
             match self.take_block(kept, &block, hits, host, steps) {
-                Ok(more) => kept = more,
-                Err(refusal) => return Err(refusal),
-            }
-        }
-        Ok(kept)
-    }
-
-    // Takes the rules of the static ruleset at this place in, if it is enabled.
-    fn take_set<'a, H: RegexHost, L: Ledger>(
-        &self,
-        kept: Kept<'a>,
-        place: usize,
-        set: &'a InstalledSet,
-        hits: &mut Vec<Hit>,
-        host: &mut H,
-        steps: &mut Steps<L>,
-    ) -> Result<Kept<'a>, DecideRefusal>
-        ensures kept { IfOk result (λ new. new ≡ spec.with_lives self.now.suffixes self.now.request kept.entry (live_of place set.now)) }
-        ensures bound { steps.new ≤ steps.old + pairs_by (live_of place set.now) self.now.request }
-        ensures ends { Ends (IsPattern kept.entry.name (live_of place set.now)) (H.faults host.old) (H.faults host.new) result }
-    {
-        if !set.is_enabled() {
-            return Ok(kept);
-        }
-        // A place past the end of its type is a want of room like another.
-        let Some(place) = narrow(place) else {
-            return Err(DecideRefusal::NoMemory);
-        };
-        self.take_block(kept, &Block::of_set(place, set), hits, host, steps)
-    }
-
-    // Takes the rules of the static rulesets in.
-    fn take_sets<'a, H: RegexHost, L: Ledger>(
-        &self,
-        kept: Kept<'a>,
-        sets: &'a [InstalledSet],
-        hits: &mut Vec<Hit>,
-        host: &mut H,
-        steps: &mut Steps<L>,
-    ) -> Result<Kept<'a>, DecideRefusal>
-        ensures kept { IfOk result (λ new. new ≡ spec.with_lives self.now.suffixes self.now.request kept.entry (live_from 0 sets.now)) }
-        ensures bound { steps.new ≤ steps.old + pairs_by (live_from 0 sets.now) self.now.request }
-        ensures ends { Ends (IsPattern kept.entry.name (live_from 0 sets.now)) (H.faults host.old) (H.faults host.new) result }
-    {
-        let mut kept = kept;
-        for (place, set) in sets.iter().enumerate() {
-            match self.take_set(kept, place, set, hits, host, steps) {
                 Ok(more) => kept = more,
                 Err(refusal) => return Err(refusal),
             }
@@ -346,7 +304,7 @@ impl<'r> Scan<'r> {
         let access = has_access(extension.access(), self.request);
         let kept = Kept::new(self.alloc, extension, age, access);
         match self.take_added(kept, extension, hits, host, steps) {
-            Ok(kept) => self.take_sets(kept, extension.sets(), hits, host, steps),
+            Ok(kept) => self.take_block(kept, &Block::of_sets(extension), hits, host, steps),
             Err(refusal) => Err(refusal),
         }
     }

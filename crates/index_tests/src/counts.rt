@@ -4,7 +4,7 @@ use crate::plain::PlainRules;
 use dnr_base::{Part, Request};
 use rand_pcg::Lcg64Xsh32;
 use rule_index::{ListedPart, Walk, shown_by};
-use rule_segments::{IndexedRules, Rule, RuleList, Segment};
+use rule_segments::{Rule, RuleList, Segment, SharedRule};
 use std::alloc::Global;
 use std::process::Abort;
 use std::test::Fail;
@@ -43,7 +43,7 @@ impl State {
             self.plain.add(alloc, rule)?;
         }
         let kept = self.list.without(alloc, remove)?;
-        self.list = kept.with(alloc, &IndexedRules::of(alloc, add)?)?;
+        self.list = kept.with(alloc, &SharedRule::all_of(alloc, add)?)?;
         Ok(())
     }
 
@@ -84,6 +84,7 @@ struct Counts {
 
 fn is_live(segment: &Segment, place: u32) -> bool {
     segment
+        .rules()
         .rules()
         .get(place as usize)
         .is_some_and(|rule| !segment.removed().has(rule.id()))

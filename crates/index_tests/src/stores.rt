@@ -6,7 +6,7 @@ ghost use Rattle.dnr_rules.specs.Seen.{condition_seen};
 use dnr_base::KindSet;
 use dnr_rules::{Action, ConditionParts, RuleParts};
 use ruleset_store::{
-    Extension, IndexedRules, InstalledExtension, Items, Refusal, Rule, RuleSet, Store, Text, Update,
+    Extension, InstalledExtension, Items, Refusal, Rule, RuleSet, SharedRule, Store, Text, Update,
 };
 use std::alloc::Global;
 use std::sync::Arc;
@@ -99,7 +99,7 @@ fn replacing(alloc: Global, remove: &[u32], add: Vec<Rule>) -> Option<Update> {
     Some(Update::Dynamic {
         extension: text(alloc, "a")?,
         remove: Items::build(Vec::from_slice(alloc, remove).ok()?),
-        add: IndexedRules::of(alloc, add).ok()?,
+        add: Items::build(SharedRule::all_of(alloc, add).ok()?),
     })
 }
 
@@ -113,7 +113,7 @@ fn adds(alloc: Global) -> Option<Update> {
     Some(Update::Session {
         extension: text(alloc, "a")?,
         remove: Items::build(Vec::new(alloc)),
-        add: IndexedRules::of(alloc, vec![in alloc; block(1)].ok()?).ok()?,
+        add: Items::build(SharedRule::all_of(alloc, vec![in alloc; block(1)].ok()?).ok()?),
     })
 }
 
@@ -200,7 +200,8 @@ fn segments_of(alloc: Global, store: &Store) -> Option<Vec<(usize, usize)>> {
     let mut sizes = Vec::new(alloc);
     for segment in store.extensions().first()?.dynamic().segments() {
         let removed = segment.removed().ids().len();
-        sizes.push((segment.rules().len(), removed)).ok()?;
+        let rules = segment.rules().rules().len();
+        sizes.push((rules, removed)).ok()?;
     }
     Some(sizes)
 }

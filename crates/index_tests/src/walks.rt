@@ -1,6 +1,6 @@
 //! Which places share a word with a text, and which have a domain over a host.
 use key_table::{Draft, Table};
-use key_walk::{DomainWalk, TaggedWalk, WordWalk, Words, tagged_words};
+use key_walk::{DomainWalk, ListedWords, TaggedWalk, WordWalk, Words};
 use std::alloc::{AllocError, Global};
 use std::test::Fail;
 
@@ -53,16 +53,42 @@ fn a_host_lies_in_its_rests(rt: HostRuntime) -> Result<(), Fail> {
     Ok(())
 }
 
+// The places that share one of the words.
+fn places_of(
+    alloc: Global,
+    table: &Table,
+    words: &ListedWords<'_>,
+    shown: Option<u128>,
+) -> Result<Vec<u32>, AllocError> {
+    let mut places = Vec::new(alloc);
+    for place in TaggedWalk::asked(table, words, shown) {
+        places.push(place)?;
+    }
+    Ok(places)
+}
+
 #[test]
 fn a_listed_word_is_asked_once(rt: HostRuntime) -> Result<(), Fail> {
     let table = table_of(rt.alloc(), [("ads", 1), ("x1", 2), ("track", 4)].as_slice())?;
-    let words = tagged_words(rt.alloc(), b"http://ads.com/Ads/x1?ADS=xx1")?;
-    let mut walk = TaggedWalk::near(&table, &words, 7);
-    assert!(rt; walk.next() == Some(1));
-    assert!(rt; walk.next() == Some(2));
-    assert!(rt; walk.next() == None);
-    let mut walk = TaggedWalk::near(&table, &words, 6);
-    assert!(rt; walk.next() == Some(2));
-    assert!(rt; walk.next() == None);
+    let words = ListedWords::of_text(rt.alloc(), b"http://ads.com/Ads/x1?ADS=xx1")?;
+    let all = places_of(rt.alloc(), &table, &words, Some(7))?;
+    assert!(rt; all.as_slice() == [1, 2].as_slice());
+    let near = places_of(rt.alloc(), &table, &words, Some(6))?;
+    assert!(rt; near.as_slice() == [2].as_slice());
+    Ok(())
+}
+
+#[test]
+fn of_many_listed_words_each_is_asked_once(rt: HostRuntime) -> Result<(), Fail> {
+    let table = table_of(rt.alloc(), [("ads", 1), ("x1", 2), ("track", 4)].as_slice())?;
+    let mut text = Vec::new(rt.alloc());
+    text.extend_from_slice(b"http://x1.com/")?;
+    for _ in 0..200 {
+        text.extend_from_slice(b"Ads/aDS/")?;
+    }
+    let words = ListedWords::of_text(rt.alloc(), &text)?;
+    assert!(rt; words.words().len() == 403);
+    let all = places_of(rt.alloc(), &table, &words, None)?;
+    assert!(rt; all.as_slice() == [2, 1].as_slice());
     Ok(())
 }

@@ -112,6 +112,16 @@ impl Table {
         Places::new(&self.texts, bucket, asked, tag, shown)
     }
 
+    /// The same without a look at the marks, for a tag that `may_have` was asked about. It takes
+    /// no memory.
+    pub fn in_bucket<'a>(&'a self, asked: Asked<'a>, tag: u32, shown: Option<u128>) -> Places<'a>
+        requires { tag ≡ tag_of asked }
+        ensures { result ≡ near_of asked.entry shown self.now }
+    {
+        let bucket = find_bucket(&self.texts, &self.entries, &self.starts, tag, &asked);
+        Places::new(&self.texts, bucket, asked, tag, shown)
+    }
+
     /// Whether a key of this tag may have places. Of most tags of keys that have none it is told that they have not. It takes
     /// no memory.
     pub fn may_have(&self, tag: u32) -> bool

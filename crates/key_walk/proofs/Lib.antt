@@ -1,3 +1,4 @@
 pub mod Runs
 pub mod Passed
 pub mod Empty
+pub mod Repeats

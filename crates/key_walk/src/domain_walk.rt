@@ -74,7 +74,7 @@ impl<'a> Iterator for DomainWalk<'a> {
             if !self.table.may_have(tag) {
                 continue;
             }
-            let mut places = self.table.tagged(asked, tag, self.shown);
+            let mut places = self.table.in_bucket(asked, tag, self.shown);
             if let Some(place) = places.next() {
                 self.places = places;
                 return Some(place);

@@ -4,6 +4,7 @@
 
 mod domain_walk;
 mod domains;
+mod listed_words;
 mod tagged_walk;
 mod tagged_word;
 mod word_walk;
@@ -11,7 +12,8 @@ mod words;
 
 pub use domain_walk::DomainWalk;
 pub use domains::Domains;
+pub use listed_words::ListedWords;
 pub use tagged_walk::TaggedWalk;
-pub use tagged_word::{TaggedWord, tagged_words};
+pub use tagged_word::TaggedWord;
 pub use word_walk::WordWalk;
 pub use words::Words;

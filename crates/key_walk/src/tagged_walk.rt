@@ -1,9 +1,8 @@
-ghost use Rattle.std.specs.Prelude.{◌≡◌, [], Some};
+ghost use Rattle.std.specs.Prelude.{◌≡◌, []};
 ghost use Rattle.std.specs.Iterator.{YieldsFirst, item_count};
-ghost use Rattle.index_spec.specs.Words.{has_word};
 ghost use Rattle.key_walk.specs.Met.{places_behind};
 
-use crate::tagged_word::TaggedWord;
+use crate::listed_words::ListedWords;
 use key_table::{Asked, Places, Table};
 use std::marker::Model;
 
@@ -12,7 +11,7 @@ use std::marker::Model;
 #[derive(Debug, Drop)]
 pub struct TaggedWalk<'a> {
     table: &'a Table,
-    words: &'a [TaggedWord<'a>],
+    words: &'a ListedWords<'a>,
     shown: Option<u128>,
     // How many of the words were asked.
     passed: usize,
@@ -31,24 +30,22 @@ impl<'a> Model for TaggedWalk<'a> {
     ghost invariant = { λ w. length w.words.now < 2 ^ 63 };
 }
 
-// Whether the word is one of these, in whatever case. Few words are asked, those that have places.
-fn is_met(words: &[TaggedWord<'_>], word: &[u8]) -> bool
-    ensures { result ≡ has_word words.now word.now }
-{
-    words
-        .iter()
-        .any(|other| other.text().eq_ignore_ascii_case(word))
-}
-
 impl<'a> TaggedWalk<'a> {
-    /// The places that share one of the words and need no more than is shown.
-    pub fn near(table: &'a Table, words: &'a [TaggedWord<'a>], shown: u128) -> TaggedWalk<'a>
-        ensures { result ≡ places_behind table.now (Some shown) [] words.now }
+    /// The places that share one of the words or, where it is told what is shown, those of them
+    /// that need no more.
+    pub fn asked(
+        table: &'a Table,
+        words: &'a ListedWords<'a>,
+        shown: Option<u128>,
+    ) -> TaggedWalk<'a>
+        ensures { result ≡ places_behind table.now shown [] words.now }
     {
+        // Whose count a place has room for.
+        let _words = words.words();
         TaggedWalk {
             table,
             words,
-            shown: Some(shown),
+            shown,
             passed: 0,
             places: table.no_places(),
         }
@@ -66,18 +63,16 @@ impl<'a> Iterator for TaggedWalk<'a> {
         if let Some(place) = self.places.next() {
             return Some(place);
         }
-        while let Some(word) = self.words.get(self.passed) {
+        while let Some(word) = self.words.words().get(self.passed) {
             let passed = self.passed;
             self.passed += 1;
             if !self.table.may_have(word.tag()) {
                 continue;
             }
-            let text = word.text();
-            let mut places = self
-                .table
-                .tagged(Asked::in_lower_case(text), word.tag(), self.shown);
+            let asked = Asked::in_lower_case(word.text());
+            let mut places = self.table.in_bucket(asked, word.tag(), self.shown);
             if let Some(place) = places.next() {
-                if !is_met(&self.words[..passed], text) {
+                if !self.words.is_repeated(passed) {
                     self.places = places;
                     return Some(place);
                 }

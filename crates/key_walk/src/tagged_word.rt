@@ -1,5 +1,6 @@
 ghost use Rattle.std.specs.Prelude.{◌≡◌, ◌≤◌, ◌<◌, ℕ, length, take, slice_index, true, false, ◌==◌, if◌then◌else◌, IfOk};
 ghost use Rattle.std.specs.Char.{to_ascii_lowercase};
+ghost use Rattle.std.specs.Str.{bytes_eq};
 ghost use Rattle.index_spec.specs.Words.{ends_word, words_of};
 ghost use Rattle.key_table.specs.Hash.{tag_of};
 ghost use Rattle.key_table.specs.Pairs.{lower_case};
@@ -78,13 +79,21 @@ impl<'a> TaggedWord<'a> {
     {
         self.tag
     }
+
+    // Whether the words are the same, in whatever case.
+    #[tactic(auto, using(crate::proofs::Repeats::other_tags))]
+    pub(crate) fn is_same(&self, other: &TaggedWord<'_>) -> bool
+        ensures { result ≡ bytes_eq (lower_case self.now) (lower_case other.now) }
+    {
+        self.tag == other.tag && self.text.eq_ignore_ascii_case(other.text)
+    }
 }
 
 /// The words of a text, in order.
 ///
 /// `AllocError`: no memory is left for them.
 #[tactic(auto, using(crate::proofs::Runs::listed_more))]
-pub fn tagged_words(alloc: Global, text: &[u8]) -> Result<Vec<TaggedWord<'_>>, AllocError>
+pub(crate) fn tagged_words(alloc: Global, text: &[u8]) -> Result<Vec<TaggedWord<'_>>, AllocError>
     ensures { IfOk result (λ words. words.items ≡ words_of text.now) }
 {
     let mut tagged = Vec::with_capacity(alloc, ROOM)?;

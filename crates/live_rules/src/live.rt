@@ -8,7 +8,6 @@ ghost use Rattle.live_rules.specs.Live.{AreFew, IsMade};
 
 use crate::slot::Slot;
 use dnr_base::NoMemory;
-use dnr_rules::Rule;
 use rule_ids::Counts;
 use rule_segments::SharedRule;
 use std::alloc::Global;
@@ -74,7 +73,7 @@ impl LiveRules {
     /// The rules.
     ///
     /// `NoMemory`: no memory is left for them.
-    pub fn into_rules(self) -> Result<Vec<Rule>, NoMemory>
+    pub fn into_rules(self) -> Result<Vec<SharedRule>, NoMemory>
         ensures { IfOk result (λ rules. rules.items ≡ self) }
     {
         listed_rules(self.alloc, self.slots)
@@ -103,25 +102,26 @@ impl LiveRules {
             All (λ rule. has_id self.old rule.id ≡ false) rules.now) }
     {
         for shared in rules {
-            if !self.add(shared.rule())? {
+            if !self.add(shared)? {
                 return Ok(false);
             }
         }
         Ok(true)
     }
 
-    fn add(&mut self, rule: &Rule) -> Result<bool, NoMemory>
+    fn add(&mut self, rule: &SharedRule) -> Result<bool, NoMemory>
         ensures rules { IfOk result (λ added. IsTrue added →
             self.new ≡ self.old ++ rule.now ∷ []) }
         ensures other { IfOk result (λ added. IsTrue added →
             has_id self.old rule.now.id ≡ false) }
     {
-        if self.places.contains_key(&rule.id()) {
+        let id = rule.rule().id();
+        if self.places.contains_key(&id) {
             return Ok(false);
         }
-        let slot = Slot::of(self.alloc, rule)?;
+        let slot = Slot::of(rule)?;
         let counts = self.counts.and(slot.counts())?;
-        self.places.insert(rule.id(), self.slots.len())?;
+        self.places.insert(id, self.slots.len())?;
         self.slots.push(slot)?;
         self.counts = counts;
         Ok(true)
@@ -149,7 +149,7 @@ fn clear(slots: &mut [Slot], place: usize, id: u32) -> Counts
 }
 
 // The rules that are there.
-fn listed_rules(alloc: Global, slots: Vec<Slot>) -> Result<Vec<Rule>, NoMemory>
+fn listed_rules(alloc: Global, slots: Vec<Slot>) -> Result<Vec<SharedRule>, NoMemory>
     ensures { IfOk result (λ rules. rules.items ≡ there slots.items) }
 {
     let mut rules = Vec::new(alloc);

@@ -4,34 +4,32 @@ ghost use Rattle.rule_ids.specs.Counted.{counts_of};
 ghost use Rattle.live_rules.specs.Slots.{listed, is_of, cleared_one, gone_one};
 
 use dnr_base::NoMemory;
-use dnr_rules::Rule;
 use rule_ids::Counts;
-use std::alloc::Global;
+use rule_segments::SharedRule;
 use std::marker::Model;
 
 // A rule, or the place of one that is gone. A clause sees the rule, if it is there.
 #[derive(Drop)]
 pub(crate) struct Slot {
-    rule: Option<Box<Rule>>,
+    rule: Option<SharedRule>,
 }
 
 impl Model for Slot {
-    ghost use Rattle.std.specs.Prelude.{Option, option_map};
+    ghost use Rattle.std.specs.Prelude.{Option};
     ghost use Rattle.rule_spec.specs.Rule as spec;
 
     ghost Value = { Option spec.Rule };
 
-    ghost view = { λ slot. option_map (λ rule. rule.value) slot.rule };
+    ghost view = { λ slot. slot.rule };
 }
 
 impl Slot {
-    // A copy of the rule.
-    pub(crate) fn of(alloc: Global, rule: &Rule) -> Result<Slot, NoMemory>
+    // The rule, which is shared. It takes no memory.
+    pub(crate) fn of(rule: &SharedRule) -> Result<Slot, NoMemory>
         ensures { IfOk result (λ slot. slot ≡ Some rule.now) }
     {
-        let copy = rule.copy(alloc)?;
         Ok(Slot {
-            rule: Some(Box::new(alloc, copy)?),
+            rule: Some(rule.again()?),
         })
     }
 
@@ -53,7 +51,7 @@ impl Slot {
         ensures { result ≡ is_of id self.now }
     {
         match &self.rule {
-            Some(rule) => rule.id() == id,
+            Some(shared) => shared.rule().id() == id,
             None => false,
         }
     }
@@ -63,22 +61,19 @@ impl Slot {
         ensures { result ≡ counts_of (listed self.now) }
     {
         match &self.rule {
-            Some(rule) => Counts {
+            Some(shared) => Counts {
                 rules: 1,
-                patterns: rule.uses_regex() as usize,
-                unsafe_rules: rule.is_unsafe() as usize,
+                patterns: shared.rule().uses_regex() as usize,
+                unsafe_rules: shared.rule().is_unsafe() as usize,
             },
             None => Counts::none(),
         }
     }
 
     // The rule, if it is there.
-    pub(crate) fn into_rule(self) -> Option<Rule>
+    pub(crate) fn into_rule(self) -> Option<SharedRule>
         ensures { result ≡ self }
     {
-        match self.rule {
-            Some(rule) => Some(Box::into_inner(rule)),
-            None => None,
-        }
+        self.rule
     }
 }

@@ -1,4 +1,5 @@
 pub mod Tokens
+pub mod FirmWords
 pub mod Once
 pub mod Lists
 pub mod Bits

@@ -1,9 +1,9 @@
 ghost use Rattle.std.specs.Prelude.{◌≡◌, ◌++◌, IfOk, OnOk};
 ghost use Rattle.rule_index.specs.Index.{empty_index, with_rule, pairs_for, IsReordered};
 
+use crate::filter_words::words_in;
 use crate::index::Index;
-use crate::needs::needs_of;
-use crate::token::token_in;
+use crate::needs::needs_with;
 use dnr_base::{NoMemory, Text};
 use dnr_rules::Rule;
 use key_table::Draft;
@@ -70,11 +70,12 @@ impl IndexDraft {
         ensures { OnOk result (self.new ≡ with_rule self.old rule.now place) }
     {
         let condition = rule.condition();
-        let needed = needs_of(condition);
+        let words = words_in(condition);
+        let needed = needs_with(words.bits, condition);
         if let Some(domains) = condition.hosts() {
             return add_each(alloc, &mut self.hosts, domains.entries(), place, needed);
         }
-        if let Some(token) = token_in(condition) {
+        if let Some(token) = words.token {
             let token = token.to_ascii_lowercase(alloc)?;
             self.words.add(&token, place, needed)?;
             return Ok(());

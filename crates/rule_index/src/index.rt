@@ -78,12 +78,26 @@ impl Index {
     pub fn near_listed<'a>(&'a self, own: &'a ListedPart<'a>) -> Walk<'a>
         ensures { result ≡ spec.near self.now (Some (shown_by own.now)) own.now }
     {
+        self.walk_listed(own, Some(own.shown()))
+    }
+
+    /// The candidates for a part whose words are listed.
+    pub fn candidates_listed<'a>(&'a self, part: &'a ListedPart<'a>) -> Walk<'a>
+        ensures { result ≡ spec.candidates self.now part.now }
+    {
+        self.walk_listed(part, None)
+    }
+
+    fn walk_listed<'a>(&'a self, part: &'a ListedPart<'a>, shown: Option<u128>) -> Walk<'a>
+        ensures { result ≡ spec.near self.now shown part.now }
+    {
         Walk::listed(
             &self.others,
             &self.hosts,
             &self.words,
             &self.initiators,
-            own,
+            part,
+            shown,
         )
     }
 

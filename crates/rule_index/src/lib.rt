@@ -5,6 +5,7 @@
 #![tactic(auto)]
 
 mod drafts;
+mod filter_words;
 mod index;
 mod keys;
 mod laws;

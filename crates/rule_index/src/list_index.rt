@@ -105,4 +105,11 @@ impl ListIndex {
     {
         self.framing.near(frame, shown)
     }
+
+    /// What `framing_candidates` gives, of a frame whose words are listed.
+    pub fn framing_listed<'a>(&'a self, frame: &'a ListedPart<'a>) -> Walk<'a>
+        ensures { result ≡ candidates self.now.framing frame.now }
+    {
+        self.framing.candidates_listed(frame)
+    }
 }

@@ -1,13 +1,11 @@
 //! What rules need and parts show, as bits.
-ghost use Rattle.std.specs.Prelude.{◌≡◌, ◌<◌, [], ◌∷◌, fold, if◌then◌else◌, ◌&&◌};
-ghost use Rattle.dnr_base.specs.Kind.{all_kinds};
+ghost use Rattle.std.specs.Prelude.{◌≡◌, ◌<◌, [], ◌∷◌, true};
+ghost use Rattle.dnr_base.specs.Kind.{all_kinds, default_kinds};
 ghost use Rattle.dnr_base.specs.KindSet.{kinds_of};
 ghost use Rattle.dnr_base.specs.View.{text_of};
 ghost use Rattle.index_spec.specs.Words as words;
 ghost use Rattle.rule_index.specs.Needs as spec;
 
-use crate::pieces::pieces_of;
-use crate::token::{ends_firmly, is_firm, word_at};
 use dnr_base::{Kind, KindSet, Part};
 use dnr_rules::Condition;
 use key_table::{Asked, bucket_of};
@@ -23,9 +21,9 @@ fn with_bit(bits: u128, place: u32) -> u128
     bits | (1 << place)
 }
 
-// With both bits of a word that has this tag.
+/// With both bits of a word that has this tag.
 #[tactic(auto, unfolding(crate::specs::Needs::low_half))]
-fn with_tag(bits: u128, tag: u32) -> u128
+pub(crate) fn with_tag(bits: u128, tag: u32) -> u128
     ensures { result ≡ spec.with_bits bits (spec.places_of_tag tag) }
 {
     let first = bucket_of(WORDS, tag) as u32;
@@ -33,35 +31,25 @@ fn with_tag(bits: u128, tag: u32) -> u128
     with_bit(with_bit(bits, first), second)
 }
 
-// With the bit of the word that begins here, if both its ends are firm.
-fn with_word_here(bits: u128, left: bool, ends: bool, rest: &[u8]) -> u128
-    ensures { result ≡ spec.with_bits bits (spec.places_of_words
-        (if left && words.is_word_here ends rest.now then words.word_at rest.now ∷ [] else [])) }
-{
-    if left && !word_at(rest).is_empty() && ends_firmly(ends, rest) {
-        with_tag(bits, Asked::in_lower_case(word_at(rest)).tag())
-    } else {
-        bits
-    }
-}
-
-// With the bits of the firm words of a body.
-fn with_firm_words(bits: u128, anchored: bool, ends: bool, body: &[u8]) -> u128
-    ensures { result ≡ spec.with_bits bits (spec.places_of_words (words.firm_words anchored ends body.now)) }
-{
-    let mut bits = bits;
-    let mut left = anchored;
-    let mut rest = body;
-    while let Some((c, behind)) = rest.split_first() {
-        bits = with_word_here(bits, left, ends, rest);
-        left = is_firm(*c);
-        rest = behind;
-    }
-    bits
-}
-
-// With the bits of the types that are not in the set.
+// With the bits of the types that are not in the set. Most rules hold on all but one.
 fn with_others(bits: u128, kinds: KindSet) -> u128
+    ensures { result ≡ spec.with_bits bits (spec.places_of_others (kinds_of kinds) all_kinds) }
+{
+    if is_default(kinds) {
+        with_bit(bits, WORDS + Kind::MainFrame.place())
+    } else {
+        with_each_other(bits, kinds)
+    }
+}
+
+// Whether these are the types of a rule that names none.
+fn is_default(kinds: KindSet) -> bool
+    ensures { result ≡ true → kinds_of kinds ≡ default_kinds }
+{
+    kinds == KindSet::all_but_main_frame()
+}
+
+fn with_each_other(bits: u128, kinds: KindSet) -> u128
     ensures { result ≡ spec.with_bits bits (spec.places_of_others (kinds_of kinds) all_kinds) }
 {
     let mut bits = bits;
@@ -98,19 +86,6 @@ fn tagged_shown(words: &[TaggedWord<'_>]) -> u128
     bits
 }
 
-// The bits of the words that a condition's filter needs.
-fn words_needed(condition: &Condition) -> u128
-    ensures { result ≡ spec.with_bits 0 (spec.places_of_words (spec.words_needed condition.now.url_filter)) }
-{
-    match condition.url_filter() {
-        Some(filter) => {
-            let pieces = pieces_of(filter.text().as_bytes());
-            with_firm_words(0, pieces.anchored, pieces.ends, pieces.body)
-        }
-        None => 0,
-    }
-}
-
 // With the bits of the types that are not this one.
 fn with_others_than(bits: u128, kind: Kind) -> u128
     ensures { result ≡ spec.with_bits bits (spec.places_of_others (kind ∷ []) all_kinds) }
@@ -120,12 +95,14 @@ fn with_others_than(bits: u128, kind: Kind) -> u128
     with_others(bits, own)
 }
 
-/// What a condition needs of a part, as bits.
+/// What a condition needs of a part, as bits. Those of its words are given.
 #[tactic(auto, unfolding(crate::specs::Needs::needs_of))]
-pub(crate) fn needs_of(condition: &Condition) -> u128
+pub(crate) fn needs_with(words: u128, condition: &Condition) -> u128
+    requires { words
+        ≡ spec.with_bits 0 (spec.places_of_words (spec.words_needed condition.now.url_filter)) }
     ensures { result ≡ spec.needs_of condition.now }
 {
-    with_others(words_needed(condition), condition.kinds())
+    with_others(words, condition.kinds())
 }
 
 /// What a part shows of what rules need, as bits: a rule that needs a bit which is not shown does not hold.

@@ -1,4 +1,4 @@
-ghost use Rattle.std.specs.Prelude.{◌≡◌, ◌++◌, [], Some};
+ghost use Rattle.std.specs.Prelude.{◌≡◌, ◌++◌, []};
 ghost use Rattle.std.specs.Option.{option_copied};
 ghost use Rattle.std.specs.Iterator.{YieldsFirst, item_count};
 ghost use Rattle.dnr_base.specs.View.{text_of, host_of};
@@ -6,7 +6,6 @@ ghost use Rattle.key_table.specs.Pairs.{near_of};
 ghost use Rattle.key_walk.specs.Met.{near_text};
 ghost use Rattle.key_walk.specs.Over.{near_host};
 ghost use Rattle.rule_index.specs.Index.{near_initiator};
-ghost use Rattle.rule_index.specs.Needs.{shown_by};
 ghost use Rattle.rule_index.specs.Walk.{places_left};
 
 use crate::listed_part::ListedPart;
@@ -21,7 +20,7 @@ pub struct Walk<'a> {
     // What has come to its end is let go of, so that it is not asked again for each place that follows.
     others: Option<Places<'a>>,
     hosts: Option<DomainWalk<'a>>,
-    // One of these two: the words of a part may be listed.
+    // One of these two: those of a part whose words are listed are asked by their tags.
     words: Option<WordWalk<'a>>,
     tagged: Option<TaggedWalk<'a>>,
     initiators: Option<DomainWalk<'a>>,
@@ -70,30 +69,27 @@ impl<'a> Walk<'a> {
         }
     }
 
-    // Those of a part whose words may be listed, which need no more than it shows.
+    // The same of a part whose words are listed.
     pub(crate) fn listed(
         others: &'a Table,
         hosts: &'a Table,
         words: &'a Table,
         initiators: &'a Table,
-        own: &'a ListedPart<'a>,
+        listed: &'a ListedPart<'a>,
+        shown: Option<u128>,
     ) -> Walk<'a>
-        ensures { result ≡ near_of [] (Some (shown_by own.now)) others.now
-            ++ near_host hosts.now (Some (shown_by own.now)) (host_of own.now.view)
-            ++ near_text words.now (Some (shown_by own.now)) (text_of own.now.view)
-            ++ near_initiator initiators.now (Some (shown_by own.now)) own.now.initiator }
+        ensures { result ≡ near_of [] shown others.now
+            ++ near_host hosts.now shown (host_of listed.now.view)
+            ++ near_text words.now shown (text_of listed.now.view)
+            ++ near_initiator initiators.now shown listed.now.initiator }
     {
-        let part = own.part();
-        let shown = own.shown();
-        let Some(listed) = own.words() else {
-            return Walk::new(others, hosts, words, initiators, part, Some(shown));
-        };
+        let part = listed.part();
         Walk {
-            others: Some(others.asked(Asked::exactly(&[]), Some(shown))),
-            hosts: Some(DomainWalk::asked(hosts, part.view.host(), Some(shown))),
+            others: Some(others.asked(Asked::exactly(&[]), shown)),
+            hosts: Some(DomainWalk::asked(hosts, part.view.host(), shown)),
             words: None,
-            tagged: Some(TaggedWalk::near(words, listed, shown)),
-            initiators: from_initiator(initiators, part.initiator, Some(shown)),
+            tagged: Some(TaggedWalk::asked(words, listed.words(), shown)),
+            initiators: from_initiator(initiators, part.initiator, shown),
         }
     }
 }

@@ -282,7 +282,12 @@ impl Keep {
                 extension,
                 remove,
                 add,
-            } => payload_of(self.alloc, extension.as_str(), remove.as_slice(), add),
+            } => payload_of(
+                self.alloc,
+                extension.as_str(),
+                remove.as_slice(),
+                add.as_slice(),
+            ),
             _ => Err(NoMemory),
         }
     }

@@ -13,7 +13,7 @@ ghost use Rattle.keep_spec.specs.Written.{id_written, update_written, payload_te
 use dnr_base::NoMemory;
 use keep_laws::written_updates_are_read;
 use rule_write::rule_value;
-use ruleset_store::{IndexedRules, SharedRule};
+use ruleset_store::SharedRule;
 use serde_json::{Map, Value};
 use std::alloc::Global;
 
@@ -22,7 +22,7 @@ pub(crate) fn payload_of(
     alloc: Global,
     name: &str,
     remove: &[u32],
-    add: &IndexedRules,
+    add: &[SharedRule],
 ) -> Result<Vec<u8>, NoMemory>
     requires ids { IsTrue (list_all is_number remove.now) }
     requires differ { IdsDiffer add.now }
@@ -31,9 +31,9 @@ pub(crate) fn payload_of(
     ensures read { IfOk result (λ text. update_at name.now text.items
         ≡ Some (dynamic name.now remove.now (map normal add.now))) }
 {
-    are_rules(add.shared());
+    are_rules(add);
     written_updates_are_read();
-    let value = update_value(alloc, name, remove, add.shared())?;
+    let value = update_value(alloc, name, remove, add)?;
     Ok(value.to_vec(alloc)?)
 }
 

@@ -15,10 +15,9 @@ use crate::listed::{Found, name_of, next_payload, started};
 use crate::refusals::{OpenRefusal, Stop};
 use crate::take::read_payload;
 use dnr_base::{Items, NoMemory};
-use dnr_rules::Rule;
 use live_rules::{LiveRules, made_updates_are_accepted};
 use regex_host::RegexHost;
-use ruleset_store::{IndexedRules, Store, Update};
+use ruleset_store::{SharedRule, Store, Update};
 use script_read::Memo;
 use std::alloc::Global;
 
@@ -127,7 +126,7 @@ fn make(live: &mut LiveRules, count: u32, update: &Update) -> Result<bool, NoMem
 {
     match update {
         Update::Dynamic { remove, add, .. } if count < MAX_UPDATES => {
-            live.make(remove.as_slice(), add.shared())
+            live.make(remove.as_slice(), add.as_slice())
         }
         _ => Ok(false),
     }
@@ -138,7 +137,7 @@ fn make(live: &mut LiveRules, count: u32, update: &Update) -> Result<bool, NoMem
 fn store_of(
     alloc: Global,
     name: &str,
-    rules: Vec<Rule>,
+    rules: Vec<SharedRule>,
     count: u32,
 ) -> Result<Option<Store>, NoMemory>
     ensures { IfOk result (λ some. IfSome some (λ store.
@@ -179,12 +178,12 @@ fn store_after(alloc: Global, name: &str, count: u32) -> Result<Option<Store>, N
 }
 
 // The update that adds these rules.
-fn adding(alloc: Global, name: &str, rules: Vec<Rule>) -> Result<Update, NoMemory>
+fn adding(alloc: Global, name: &str, rules: Vec<SharedRule>) -> Result<Update, NoMemory>
     ensures { IfOk result (λ update. update_seen update ≡ spec.dynamic name.now [] rules.items) }
 {
     Ok(Update::Dynamic {
         extension: name_of(alloc, name)?,
         remove: Items::build(Vec::new(alloc)),
-        add: IndexedRules::of(alloc, rules)?,
+        add: Items::build(rules),
     })
 }

@@ -1,17 +1,17 @@
 -- Segments that taper: they are few, and how one more comes before them.
-use Rattle.std.proofs.Common.{◌≡◌, ℕ, ◌+◌, ◌*◌, ◌<◌, ◌≤◌, List, [], ◌∷◌, ◌++◌, refl, sym, ap, ◌∙◌, subst, length, map, cond, take, drop, get_or, ◌||◌, Bool, arith, append-nil, length-append, length-take}
+use Rattle.std.proofs.Common.{◌≡◌, ℕ, ◌+◌, ◌<◌, ◌≤◌, List, [], ◌∷◌, ◌++◌, refl, sym, ap, ◌∙◌, subst, length, map, cond, take, drop, get_or, ◌||◌, Bool, arith, append-nil, length-append, length-take}
 use Rattle.std.specs.Prelude.{◌==◌}
 use Rattle.std.specs.List.{list_any}
 use Rattle.std.proofs.lemmas.List.Folds.{list_any-append}
 use Rattle.std.proofs.lemmas.Grind.{common_steps, flat_map-append}
-use Rattle.std.proofs.lemmas.List.{length-map, take-append-drop, drop-append-le, get_or-take, append_assoc, take_more}
+use Rattle.std.proofs.lemmas.List.{length-map, take-append-drop, drop-append-le, get_or-take, get_or_append_left, append_assoc, take_more}
 use Rattle.std.proofs.lemmas.List.Sums.{sum_by-cons, sum_by-append}
 use Rattle.rule_spec.specs.Rule.{Rule, is_unsafe}
 use Rattle.update_spec.specs.Judge.{has_id, uses_regex}
 use Rattle.index_laws.specs.Segments as law
 use Rattle.index_laws.proofs.Few.{segments_are_few}
 use Rattle.rule_ids.specs.Counted.{counts_of, sum_of}
-use Rattle.rule_segments.specs.Segments.{Segment, live_in, live_among, weight, AreFew, AreHalfLive, AreTapered, IsAbove, IsHalfLive, LastIsAbove}
+use Rattle.rule_segments.specs.Segments.{Segment, live_in, live_among, weight, IsAboveFrom, AreFew, AreHalfLive, AreTapered, IsAbove, IsHalfLive, LastIsAbove}
 
 -- ---- they are few
 
@@ -53,17 +53,14 @@ pub live_push : (segments : List Segment) (one : Segment) → live_among (segmen
 live_push segments one = flat_map-append live_in segments (one ∷ []) ∙ ap (λ (rules : List Rule). live_among segments ++ rules) (append-nil (live_in one))
 
 -- what is known while segments are joined from the newest on
-pub record Tapers (segments left next : List Segment) : Type 0 where
-  pub same : live_among left ++ live_among next ≡ live_among segments
+pub record Tapers (all : List Rule) (left next : List Segment) : Type 0 where
+  pub same : live_among left ++ live_among next ≡ all
   pub taper : AreTapered next
   pub half : AreHalfLive next
   pub above : LastIsAbove left next
 
-pub tapers_first : (segments : List Segment) → Tapers segments segments []
-tapers_first segments = record { same = append-nil (live_among segments); taper = tt; half = tt; above = λ k last e. tt }
-
-pub tapers_last : (segments left next : List Segment) → left ≡ [] → Tapers segments left next → (live_among next ≡ live_among segments) × AreTapered next × AreHalfLive next
-tapers_last segments left next none is = (subst (λ (left : List Segment). live_among left ++ live_among next ≡ live_among segments) none is.same, is.taper, is.half)
+pub tapers_last : (all : List Rule) (left next : List Segment) → left ≡ [] → Tapers all left next → (live_among next ≡ all) × AreTapered next × AreHalfLive next
+tapers_last all left next none is = (subst (λ (left : List Segment). live_among left ++ live_among next ≡ all) none is.same, is.taper, is.half)
 
 last_at : (left older : List Segment) (last : Segment) → left ≡ older ++ last ∷ [] → (k : ℕ) (d : Segment) → k + 1 ≡ length left → get_or left k d ≡ last
 last_at left older last is k d e =
@@ -72,8 +69,8 @@ last_at left older last is k d e =
     grind (arith, common_steps, is, at)
 
 -- the newest that is left has no live rules
-pub tapers_skip : (segments left next older : List Segment) (last : Segment) → left ≡ older ++ last ∷ [] → length (live_in last) ≡ 0 → Tapers segments left next → Tapers segments older next
-tapers_skip segments left next older last is none tapers =
+pub tapers_skip : (all : List Rule) (left next older : List Segment) (last : Segment) → left ≡ older ++ last ∷ [] → length (live_in last) ≡ 0 → Tapers all left next → Tapers all older next
+tapers_skip all left next older last is none tapers =
     let long : length left ≡ length older + 1 = ap length is ∙ length-append older (last ∷ []) in
     let first : IsAbove (length (live_in last)) next =
     subst (λ (s : Segment). IsAbove (length (live_in s)) next) (last_at left older last is (length older) last (sym long)) (tapers.above (length older) last (sym long)) in
@@ -87,24 +84,28 @@ tapers_skip segments left next older last is none tapers =
       above = λ k d e. above_none (length (live_in (get_or older k d))) next nothing;
     }
 
-last_within : (left older : List Segment) (last : Segment) (start : ℕ) → left ≡ older ++ last ∷ [] → start < length left → length (live_in last) ≤ length (live_among (drop start left))
-last_within left older last start is lt =
-    let long : length left ≡ length older + 1 = ap length is ∙ length-append older (last ∷ []) in
-    let cut : drop start left ≡ drop start older ++ last ∷ [] = ap (drop start) is ∙ drop-append-le start older (last ∷ []) (omega arith) in
-    let live = ap (λ (segments : List Segment). length (live_among segments)) cut ∙ ap length (live_push (drop start older) last) ∙ length-append (live_among (drop start older)) (live_in last) in
-    omega arith
+-- from the start on, the last among them
+last_within : (left older : List Segment) (last : Segment) (start : ℕ) → left ≡ older ++ last ∷ [] → start ≤ length older
+    → length (live_among (drop start left)) ≡ length (live_among (drop start older)) + length (live_in last)
+last_within left older last start is le =
+    let cut : drop start left ≡ drop start older ++ last ∷ [] = ap (drop start) is ∙ drop-append-le start older (last ∷ []) le in
+    ap (λ (segments : List Segment). length (live_among segments)) cut ∙ ap length (live_push (drop start older) last) ∙ length-append (live_among (drop start older)) (live_in last)
+
+older_at : (left older : List Segment) (last : Segment) → left ≡ older ++ last ∷ [] → (k : ℕ) (d : Segment) → k < length older → get_or left k d ≡ get_or older k d
+older_at left older last is k d lt = ap (λ (segments : List Segment). get_or segments k d) is ∙ get_or_append_left older (last ∷ []) d k lt
 
 -- the newest that are left are joined
-pub tapers_more : (segments left next older : List Segment) (last one : Segment) (start : ℕ) → left ≡ older ++ last ∷ [] → 0 < length (live_in last) → start < length left
+pub tapers_more : (all : List Rule) (left next older : List Segment) (last one : Segment) (start : ℕ) → left ≡ older ++ last ∷ [] → 0 < length (live_in last) → start ≤ length older
     → live_in one ≡ live_among (drop start left)
     → IsHalfLive one
-    → ((k : ℕ) (d : Segment) → k + 1 ≡ start → 2 * length (live_among (drop start left)) < length (live_in (get_or left k d)))
-    → Tapers segments left next → Tapers segments (take start left) (one ∷ next)
-tapers_more segments left next older last one start is some lt live half_live apart tapers =
+    → IsAboveFrom older start (length (live_in last))
+    → Tapers all left next → Tapers all (take start left) (one ∷ next)
+tapers_more all left next older last one start is some le live half_live apart tapers =
     let long : length left ≡ length older + 1 = ap length is ∙ length-append older (last ∷ []) in
     let first : IsAbove (length (live_in last)) next =
     subst (λ (s : Segment). IsAbove (length (live_in s)) next) (last_at left older last is (length older) last (sym long)) (tapers.above (length older) last (sym long)) in
-    let more : length (live_in last) ≤ length (live_in one) = (let w = last_within left older last start is lt in let e = ap length live in omega arith) in
+    let within = last_within left older last start is le in
+    let more : length (live_in last) ≤ length (live_in one) = (let e = ap length live in omega arith) in
     let split : live_among (take start left) ++ live_among (drop start left) ≡ live_among left =
     sym (flat_map-append live_in (take start left) (drop start left)) ∙ ap live_among (take-append-drop start left) in
     let cut : length (take start left) ≡ start = omega (arith, length-take start left) in
@@ -117,11 +118,36 @@ tapers_more segments left next older last one start is some lt live half_live ap
       above = λ k d e.
           let below : k < start = omega arith in
           let at : get_or (take start left) k d ≡ get_or left k d = get_or-take start left k d below in
+          let there = ap (λ (s : Segment). length (live_in s)) (at ∙ older_at left older last is k d (omega arith)) in
           let far = apart k d (omega arith) in
           let same = ap length live in
-          let there = ap (λ (s : Segment). length (live_in s)) at in
           omega arith;
     }
+
+-- newer rules are joined with the newest segments
+pub newest_tapers : (segments : List Segment) (newer : List Rule) (one : Segment) (start : ℕ) → start ≤ length segments → 0 < length newer
+    → live_in one ≡ live_among (drop start segments) ++ newer
+    → IsHalfLive one
+    → IsAboveFrom segments start (length newer)
+    → (live_among (take start segments) ++ live_among (one ∷ []) ≡ live_among segments ++ newer) × AreTapered (one ∷ []) × AreHalfLive (one ∷ [])
+    × LastIsAbove (take start segments) (one ∷ [])
+newest_tapers segments newer one start le some live half_live apart =
+    let split : live_among (take start segments) ++ live_among (drop start segments) ≡ live_among segments =
+    sym (flat_map-append live_in (take start segments) (drop start segments)) ∙ ap live_among (take-append-drop start segments) in
+    let alone : live_among (one ∷ []) ≡ live_among (drop start segments) ++ newer = append-nil (live_in one) ∙ live in
+    let count : length (live_in one) ≡ length (live_among (drop start segments)) + length newer = ap length live ∙ length-append (live_among (drop start segments)) newer in
+    let cut : length (take start segments) ≡ start = omega (arith, length-take start segments) in (
+      ap (λ (rules : List Rule). live_among (take start segments) ++ rules) alone
+          ∙ sym (append_assoc (live_among (take start segments)) (live_among (drop start segments)) newer)
+          ∙ ap (λ (rules : List Rule). rules ++ newer) split,
+      half one (omega arith),
+      (half_live, tt),
+      λ k d e.
+          let below : k < start = omega arith in
+          let there = ap (λ (s : Segment). length (live_in s)) (get_or-take start segments k d below) in
+          let far = apart k d (omega arith) in
+          omega arith,
+    )
 
 -- ---- what they count for
 

@@ -1,5 +1,5 @@
 -- Rules that stand in segments, oldest first, of which some are removed.
-use Rattle.std.specs.Prelude.{◌≡◌, ℕ, ◌+◌, ◌*◌, ◌^◌, ◌<◌, ◌≤◌, ◌==◌, List, [], ◌∷◌, filter, flat_map, length, map, slice_index_or}
+use Rattle.std.specs.Prelude.{◌≡◌, ℕ, ◌+◌, ◌*◌, ◌^◌, ◌<◌, ◌≤◌, ◌==◌, List, [], ◌∷◌, drop, filter, flat_map, length, map, slice_index_or}
 use Rattle.std.specs.List.{AllByRecursion}
 use Rattle.rule_spec.specs.Rule.{Rule}
 use Rattle.update_spec.specs.Update.{without_ids}
@@ -45,6 +45,12 @@ AreTapered segments = law.AreTapered (map weight segments)
 abbrev pub IsAbove : ℕ → List Segment → Type 0
 IsAbove count [] = Unit {0}
 IsAbove count (first ∷ segments) = 2 * length (live_in first) < count
+
+-- the segment before this place has more than twice as many live rules as those from it on and so many newer ones together
+abbrev pub IsAboveFrom : List Segment → ℕ → ℕ → Type 0
+IsAboveFrom segments start newer =
+    (k : ℕ) (older : Segment) → k + 1 ≡ start
+    → 2 * (length (live_among (drop start segments)) + newer) < length (live_in (slice_index_or segments k older))
 
 -- the last of the segments on the left is above those on the right
 abbrev pub LastIsAbove : List Segment → List Segment → Type 0

@@ -1,82 +1,33 @@
-ghost use Rattle.std.specs.Prelude.{◌≡◌, length, count_by, map, pos, slice_get, IfOk, option_copied};
-ghost use Rattle.std.specs.List.{list_any};
-ghost use Rattle.std.specs.List.Sorted.{IsPermutation};
-ghost use Rattle.std.specs.Ordering.{int_eq};
-ghost use Rattle.update_spec.specs.Judge.{uses_regex, count_unsafe, has_id};
+ghost use Rattle.std.specs.Prelude.{◌≡◌, IfOk};
 ghost use Rattle.rule_index.specs.Lists.{IsListIndexOf};
-ghost use Rattle.rule_ids.specs.Counted as spec;
-ghost use Rattle.rule_segments.specs.Segments.{of_id};
 
+use crate::known_rules::KnownRules;
 use crate::shared_rule::SharedRule;
 use dnr_base::NoMemory;
-use dnr_rules::Rule;
-use rule_ids::{Counts, KnownDraft, KnownIds};
 use rule_index::ListIndex;
 use std::alloc::Global;
 use std::marker::Model;
 use std::sync::Arc;
 
-/// Rules in their order, each of which other lists may share, with the index by which they are found. Who takes them
-/// once more shares them. A clause sees the rules.
+/// Rules in their order with the index by which they are found. Who takes them once more shares both. A clause sees the
+/// rules.
 #[derive(Debug, Drop)]
 pub struct IndexedRules {
-    held: Arc<HeldRules>,
+    rules: KnownRules,
+    index: Arc<ListIndex>,
 }
 
 impl Model for IndexedRules {
     ghost use Rattle.std.specs.Prelude.{List};
     ghost use Rattle.std.specs.Arc.{arc_value};
     ghost use Rattle.rule_spec.specs.Rule as spec;
+    ghost use Rattle.rule_index.specs.Lists.{IsListIndexOf};
 
     ghost Value = { List spec.Rule };
 
-    ghost view = { λ r. arc_value r.held };
-}
+    ghost view = { λ r. r.rules };
 
-// The rules themselves, their index, what is known of them by their ids, and what they count for. A clause sees the rules.
-#[derive(Debug, Drop)]
-struct HeldRules {
-    rules: Vec<SharedRule>,
-    index: ListIndex,
-    known: KnownIds,
-    counts: Counts,
-}
-
-impl Model for HeldRules {
-    ghost use Rattle.std.specs.Prelude.{List};
-    ghost use Rattle.rule_spec.specs.Rule as spec;
-    ghost use Rattle.rule_segments.specs.Counts.{AreHeld};
-
-    ghost Value = { List spec.Rule };
-
-    ghost view = { λ h. h.rules.items };
-
-    ghost invariant = { λ h. AreHeld h.rules.items h.index h.known h.counts };
-}
-
-// How many of the rules have a `regexFilter`.
-fn count_patterns(rules: &[SharedRule]) -> usize
-    ensures { result ≡ count_by uses_regex rules.now }
-{
-    rules.iter().filter(|rule| rule.rule().uses_regex()).count()
-}
-
-// How many of the rules are unsafe.
-fn count_unsafe(rules: &[SharedRule]) -> usize
-    ensures { result ≡ count_unsafe rules.now }
-{
-    rules.iter().filter(|rule| rule.rule().is_unsafe()).count()
-}
-
-// What is known of the rules by their ids.
-fn known_of(alloc: Global, rules: &[SharedRule]) -> Result<KnownIds, NoMemory>
-    ensures { IfOk result (λ known. IsPermutation (map spec.known_of rules.now) known) }
-{
-    let mut known = KnownDraft::new(alloc);
-    for rule in rules {
-        known.add(rule.rule())?;
-    }
-    known.finish()
+    ghost invariant = { λ r. IsListIndexOf r.rules (arc_value r.index) };
 }
 
 // The index of the rules.
@@ -86,71 +37,7 @@ fn index_of(alloc: Global, rules: &[SharedRule]) -> Result<ListIndex, NoMemory>
     ListIndex::build(alloc, rules)
 }
 
-// The rules, behind a handle each.
-fn handles_of(alloc: Global, rules: Vec<Rule>) -> Result<Vec<SharedRule>, NoMemory>
-    ensures { IfOk result (λ shared. shared.items ≡ rules.items) }
-{
-    let mut shared = Vec::with_capacity(alloc, rules.len())?;
-    for rule in rules {
-        shared.push(SharedRule::new(alloc, rule)?)?;
-    }
-    Ok(shared)
-}
-
-impl HeldRules {
-    fn of(alloc: Global, rules: Vec<SharedRule>) -> Result<HeldRules, NoMemory>
-        ensures { IfOk result (λ held. held ≡ rules.items) }
-    {
-        let index = index_of(alloc, rules.as_slice())?;
-        let known = known_of(alloc, rules.as_slice())?;
-        let counts = Counts {
-            rules: rules.len(),
-            patterns: count_patterns(rules.as_slice()),
-            unsafe_rules: count_unsafe(rules.as_slice()),
-        };
-        Ok(HeldRules {
-            rules,
-            index,
-            known,
-            counts,
-        })
-    }
-
-    fn shared(&self) -> &[SharedRule]
-        ensures { result.now ≡ self.now }
-    {
-        self.rules.as_slice()
-    }
-
-    fn index(&self) -> &ListIndex
-        ensures { IsListIndexOf self.now result.now }
-    {
-        &self.index
-    }
-
-    fn known(&self) -> &KnownIds
-        ensures { IsPermutation (map spec.known_of self.now) result.now }
-    {
-        &self.known
-    }
-
-    fn counts(&self) -> Counts
-        ensures { result ≡ spec.counts_of self.now }
-    {
-        self.counts
-    }
-}
-
 impl IndexedRules {
-    /// These rules.
-    ///
-    /// `NoMemory`: no memory is left for them and their index.
-    pub fn of(alloc: Global, rules: Vec<Rule>) -> Result<IndexedRules, NoMemory>
-        ensures { IfOk result (λ indexed. indexed ≡ rules.items) }
-    {
-        IndexedRules::of_handles(alloc, handles_of(alloc, rules)?)
-    }
-
     // The rules of these handles.
     pub(crate) fn of_handles(
         alloc: Global,
@@ -158,55 +45,25 @@ impl IndexedRules {
     ) -> Result<IndexedRules, NoMemory>
         ensures { IfOk result (λ indexed. indexed ≡ rules.items) }
     {
-        let held = HeldRules::of(alloc, rules)?;
+        let index = index_of(alloc, rules.as_slice())?;
         Ok(IndexedRules {
-            held: Arc::new(alloc, held)?,
+            rules: KnownRules::of_handles(alloc, rules)?,
+            index: Arc::new(alloc, index)?,
         })
     }
 
-    /// The rules, each behind its handle.
-    pub fn shared(&self) -> &[SharedRule]
+    /// The rules.
+    pub fn rules(&self) -> &KnownRules
         ensures { result.now ≡ self.now }
     {
-        self.held.shared()
+        &self.rules
     }
 
     /// The index of the rules, each at its place among them.
     pub fn index(&self) -> &ListIndex
         ensures { IsListIndexOf self.now result.now }
     {
-        self.held.index()
-    }
-
-    /// How many rules there are.
-    pub fn len(&self) -> usize
-        ensures { result ≡ length self.now }
-    {
-        self.shared().len()
-    }
-
-    /// The rule at a place, if there is one.
-    pub fn get(&self, place: usize) -> Option<&Rule>
-        ensures { option_copied result ≡ slice_get self.now place }
-    {
-        match self.shared().get(place) {
-            Some(shared) => Some(shared.rule()),
-            None => None,
-        }
-    }
-
-    /// How many there are, and how many of them count for a limit.
-    pub fn counts(&self) -> Counts
-        ensures { result ≡ spec.counts_of self.now }
-    {
-        self.held.counts()
-    }
-
-    /// How many of them have a `regexFilter`.
-    pub fn patterns(&self) -> usize
-        ensures { result ≡ count_by uses_regex self.now }
-    {
-        self.counts().patterns
+        &self.index
     }
 
     /// The same rules once more, of which none is copied. It takes no memory.
@@ -216,30 +73,8 @@ impl IndexedRules {
         ensures { IfOk result (λ again. again ≡ self.now) }
     {
         Ok(IndexedRules {
-            held: Arc::try_clone(&self.held)?,
+            rules: self.rules.again()?,
+            index: Arc::try_clone(&self.index)?,
         })
-    }
-
-    /// Whether one of the rules has this id. It is asked in the time of a search.
-    #[tactic(auto, using(crate::proofs::Known::has_known))]
-    pub fn has_id(&self, id: u32) -> bool
-        ensures { result ≡ has_id self.now id }
-    {
-        self.held.known().has(id)
-    }
-
-    /// Whether one of the rules has this whole number as its id.
-    pub fn has_whole(&self, id: &i128) -> bool
-        ensures { result ≡ list_any (λ rule. int_eq id.now (pos rule.id)) self.now }
-    {
-        self.held.known().has_whole(id)
-    }
-
-    // What the rules of this id count for.
-    #[tactic(auto, using(crate::proofs::Known::counts_known))]
-    pub(crate) fn counts_of_id(&self, id: u32) -> Counts
-        ensures { result ≡ spec.counts_of (of_id id self.now) }
-    {
-        self.held.known().counts(id)
     }
 }

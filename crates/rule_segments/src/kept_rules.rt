@@ -3,9 +3,9 @@ ghost use Rattle.std.specs.List.{list_any};
 ghost use Rattle.update_spec.specs.Judge.{has_id};
 ghost use Rattle.rule_segments.specs.Segments.{live_among, live_in};
 
-use crate::indexed_rules::IndexedRules;
 use crate::rule_list::RuleList;
 use crate::segment::Segment;
+use crate::shared_rule::SharedRule;
 use dnr_base::NoMemory;
 use std::alloc::Global;
 use std::marker::Model;
@@ -52,11 +52,9 @@ impl KeptRules {
     /// The rules and these behind them, which are a segment of their own or part of one.
     ///
     /// `NoMemory`: no memory is left for what changes.
-    pub fn with(self, alloc: Global, add: &IndexedRules) -> Result<RuleList, NoMemory>
+    pub fn with(self, alloc: Global, add: &[SharedRule]) -> Result<RuleList, NoMemory>
         ensures { IfOk result (λ next. next ≡ self ++ add.now) }
     {
-        let mut segments = self.segments;
-        segments.push(Segment::of(alloc, add.again()?)?)?;
-        RuleList::of(alloc, segments.as_slice())
+        RuleList::of(alloc, self.segments.as_slice(), add)
     }
 }

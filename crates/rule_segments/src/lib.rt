@@ -7,6 +7,7 @@
 mod indexed_rules;
 mod joining;
 mod kept_rules;
+mod known_rules;
 mod rule_list;
 mod segment;
 mod shared_rule;
@@ -15,6 +16,7 @@ pub use dnr_base::NoMemory;
 pub use dnr_rules::Rule;
 pub use indexed_rules::IndexedRules;
 pub use kept_rules::KeptRules;
+pub use known_rules::KnownRules;
 pub use rule_ids::OffIds;
 pub use rule_index::ListIndex;
 pub use rule_list::RuleList;

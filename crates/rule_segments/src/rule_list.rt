@@ -1,4 +1,4 @@
-ghost use Rattle.std.specs.Prelude.{◌≡◌, [], length, count_by, IfOk};
+ghost use Rattle.std.specs.Prelude.{◌≡◌, ◌++◌, [], length, count_by, IfOk};
 ghost use Rattle.update_spec.specs.Judge.{uses_regex, count_unsafe};
 ghost use Rattle.update_spec.specs.Update.{without_ids};
 ghost use Rattle.rule_ids.specs.Counted.{counts_of};
@@ -8,6 +8,7 @@ ghost use Rattle.rule_segments.specs.Segments.{AreFew, AreHalfLive, live_among};
 use crate::joining::{tapered, total};
 use crate::kept_rules::KeptRules;
 use crate::segment::Segment;
+use crate::shared_rule::SharedRule;
 use dnr_base::NoMemory;
 use rule_ids::{Counts, distinct};
 use std::alloc::Global;
@@ -59,11 +60,15 @@ impl RuleList {
         }
     }
 
-    // The live rules of the segments.
-    pub(crate) fn of(alloc: Global, segments: &[Segment]) -> Result<RuleList, NoMemory>
-        ensures { IfOk result (λ list. list ≡ live_among segments.now) }
+    // The live rules of the segments, and these behind them.
+    pub(crate) fn of(
+        alloc: Global,
+        segments: &[Segment],
+        newer: &[SharedRule],
+    ) -> Result<RuleList, NoMemory>
+        ensures { IfOk result (λ list. list ≡ live_among segments.now ++ newer.now) }
     {
-        let segments = tapered(alloc, segments)?;
+        let segments = tapered(alloc, segments, newer)?;
         let counts = total(segments.as_slice())?;
         Ok(RuleList { segments, counts })
     }

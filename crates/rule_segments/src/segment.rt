@@ -6,6 +6,7 @@ ghost use Rattle.rule_ids.specs.Off.{AreApart};
 ghost use Rattle.rule_segments.specs.Segments.{IsHalfLive, live_in};
 
 use crate::indexed_rules::IndexedRules;
+use crate::known_rules::KnownRules;
 use crate::shared_rule::SharedRule;
 use dnr_base::NoMemory;
 use rule_ids::{Counts, OffIds};
@@ -42,7 +43,7 @@ impl Segment {
         ensures whole { IfOk result (λ segment. segment.rules ≡ rules) }
         ensures live { IfOk result (λ segment. live_in segment ≡ rules) }
     {
-        let counts = rules.counts();
+        let counts = rules.rules().counts();
         Ok(Segment {
             rules,
             removed: Arc::new(alloc, OffIds::none(alloc))?,
@@ -55,6 +56,13 @@ impl Segment {
         ensures { result.now ≡ self.now.rules }
     {
         &self.rules
+    }
+
+    // The same rules without their index.
+    fn known(&self) -> &KnownRules
+        ensures { result.now ≡ self.now.rules }
+    {
+        self.rules.rules()
     }
 
     /// The ids of the rules that are removed.
@@ -82,7 +90,7 @@ impl Segment {
     pub(crate) fn is_half_live(&self) -> bool
         ensures { IsTrue result ↔ IsHalfLive self.now }
     {
-        self.rules.len().saturating_sub(self.len()) <= self.len()
+        self.known().len().saturating_sub(self.len()) <= self.len()
     }
 
     // The same segment once more. It takes no memory.
@@ -100,7 +108,7 @@ impl Segment {
     pub(crate) fn push_live(&self, into: &mut Vec<SharedRule>) -> Result<(), NoMemory>
         ensures { OnOk result (into.new.items ≡ into.old.items ++ live_in self.now) }
     {
-        for rule in self.rules.shared() {
+        for rule in self.known().shared() {
             if !self.removed.has(rule.rule().id()) {
                 into.push(rule.again()?)?;
             }
@@ -112,7 +120,7 @@ impl Segment {
     pub(crate) fn has_live(&self, id: u32) -> bool
         ensures { result ≡ has_id (live_in self.now) id }
     {
-        !self.removed.has(id) && self.rules.has_id(id)
+        !self.removed.has(id) && self.known().has_id(id)
     }
 
     // Those of the ids that a live rule has, and what the rules that stay count for.
@@ -126,7 +134,7 @@ impl Segment {
         for id in remove {
             if self.has_live(*id) {
                 gone.push(*id)?;
-                counts = counts.without(self.rules.counts_of_id(*id));
+                counts = counts.without(self.known().counts_of_id(*id));
             }
         }
         Ok((gone, counts))

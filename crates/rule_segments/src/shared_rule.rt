@@ -1,6 +1,6 @@
 ghost use Rattle.std.specs.Prelude.{◌≡◌, IfOk};
 
-use dnr_base::NoMemory;
+use dnr_base::{Copied, NoMemory};
 use dnr_rules::Rule;
 use rule_index::LendsRule;
 use std::alloc::Global;
@@ -31,8 +31,36 @@ impl SharedRule {
         })
     }
 
-    // The same rule once more. It takes no memory.
-    pub(crate) fn again(&self) -> Result<SharedRule, NoMemory>
+    /// The rules, behind a handle each.
+    ///
+    /// `NoMemory`: no memory is left for them.
+    pub fn all_of(alloc: Global, rules: Vec<Rule>) -> Result<Vec<SharedRule>, NoMemory>
+        ensures { IfOk result (λ shared. shared.items ≡ rules.items) }
+    {
+        let mut shared = Vec::with_capacity(alloc, rules.len())?;
+        for rule in rules {
+            shared.push(SharedRule::new(alloc, rule)?)?;
+        }
+        Ok(shared)
+    }
+
+    /// The same rules once more, of which none is copied.
+    ///
+    /// `NoMemory`: no memory is left for their list.
+    pub fn all_again(alloc: Global, rules: &[SharedRule]) -> Result<Vec<SharedRule>, NoMemory>
+        ensures { IfOk result (λ again. again.items ≡ rules.now) }
+    {
+        let mut again = Vec::with_capacity(alloc, rules.len())?;
+        for rule in rules {
+            again.push(rule.again()?)?;
+        }
+        Ok(again)
+    }
+
+    /// The same rule once more. It takes no memory.
+    ///
+    /// `NoMemory`: there are too many handles on it.
+    pub fn again(&self) -> Result<SharedRule, NoMemory>
         ensures { IfOk result (λ again. again ≡ self.now) }
     {
         Ok(SharedRule {
@@ -45,6 +73,12 @@ impl SharedRule {
         ensures { result.now ≡ self.now }
     {
         &self.rule
+    }
+}
+
+impl Copied for SharedRule {
+    fn copied(&self, _: Global) -> Result<SharedRule, NoMemory> {
+        self.again()
     }
 }
 

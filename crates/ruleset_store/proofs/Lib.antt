@@ -2,4 +2,5 @@ pub mod Batches
 pub mod Firsts
 pub mod IdSets
 pub mod Kept
+pub mod Lists
 pub mod Rows

@@ -1,4 +1,5 @@
 pub mod Ids
 pub mod Installed
 pub mod Seen
+pub mod StaticIndex
 pub mod Tests

@@ -5,6 +5,7 @@ ghost use Rattle.update_spec.specs.Judge as spec;
 ghost use Rattle.update_spec.specs.Update as update;
 ghost use Rattle.ruleset_store.specs.Installed.{put_first};
 ghost use Rattle.ruleset_store.specs.Seen.{Answers, IsMadeIn, IsRefusalOf, Places, judge_in, switched_among};
+ghost use Rattle.ruleset_store.specs.StaticIndex.{lists_of};
 ghost use Rattle.ruleset_store.specs.Tests as tests;
 
 use crate::limits::{
@@ -15,7 +16,7 @@ use crate::names::{
     judge_both, judge_name, judge_rule_ids, judge_set_ids, named, set_named, text_of,
 };
 use crate::replacing::replaced;
-use crate::{Extension, IndexedRules, InstalledExtension, InstalledSet};
+use crate::{Extension, InstalledExtension, InstalledSet, SharedRule};
 use dnr_base::{NoMemory, Text};
 use std::alloc::Global;
 use std::sync::Arc;
@@ -125,7 +126,7 @@ fn dynamic_after(
     extension: &InstalledExtension,
     count: u32,
     remove: &[u32],
-    add: &IndexedRules,
+    add: &[SharedRule],
 ) -> Result<InstalledExtension, Refusal>
     ensures judged { OnOk result (spec.first_refusal (tests.dynamic_tests count remove.now add.now extension.now.dynamic) ≡ None) }
     ensures next { IfOk result (λ next. next ≡ record extension.now { dynamic = update.replaced remove.now add.now extension.now.dynamic }) }
@@ -142,7 +143,7 @@ fn session_after(
     extension: &InstalledExtension,
     count: u32,
     remove: &[u32],
-    add: &IndexedRules,
+    add: &[SharedRule],
 ) -> Result<InstalledExtension, Refusal>
     ensures judged { OnOk result (spec.first_refusal (tests.session_tests count remove.now add.now extension.now.session) ≡ None) }
     ensures next { IfOk result (λ next. next ≡ record extension.now { session = update.replaced remove.now add.now extension.now.session }) }
@@ -161,7 +162,7 @@ pub(crate) fn after_dynamic(
     count: u32,
     name: &str,
     remove: &[u32],
-    add: &IndexedRules,
+    add: &[SharedRule],
 ) -> Result<Vec<InstalledExtension>, Refusal>
     ensures made { IfOk result (λ next. IsMadeIn extensions.now count (update.dynamic name.now remove.now add.now) next.items) }
     ensures refused { IfErr result (IsRefusalOf (judge_in extensions.now count (update.dynamic name.now remove.now add.now))) }
@@ -183,7 +184,7 @@ pub(crate) fn after_session(
     count: u32,
     name: &str,
     remove: &[u32],
-    add: &IndexedRules,
+    add: &[SharedRule],
 ) -> Result<Vec<InstalledExtension>, Refusal>
     ensures made { IfOk result (λ next. IsMadeIn extensions.now count (update.session name.now remove.now add.now) next.items) }
     ensures refused { IfErr result (IsRefusalOf (judge_in extensions.now count (update.session name.now remove.now add.now))) }
@@ -296,6 +297,7 @@ fn with_switched(
     disable: &[i128],
     enable: &[i128],
 ) -> Result<InstalledExtension, Refusal>
+    requires { lists_of (tests.sets_after id.now disable.now enable.now set.now extension.now) ≡ lists_of extension.now.sets }
     ensures judged { OnOk result (spec.first_refusal (tests.switched_tests count id.now disable.now enable.now set.now extension.now) ≡ None) }
     ensures next { IfOk result (λ next. next ≡ record extension.now {
       sets = tests.sets_after id.now disable.now enable.now set.now extension.now;

@@ -2,9 +2,11 @@ ghost use Rattle.std.specs.Prelude.{◌≡◌, map, unwrap_or, IfOk};
 ghost use Rattle.std.specs.Option.{option_copied};
 ghost use Rattle.std.specs.Arc.{arc_value};
 ghost use Rattle.ruleset_store.specs.Installed.{put_first};
+ghost use Rattle.ruleset_store.specs.StaticIndex.{IsStaticIndexOf, lists_of};
 ghost use Rattle.update_spec.specs.Update as spec;
 
 use crate::installed_set::InstalledSet;
+use crate::static_index::StaticIndex;
 use crate::{Extension, RuleList};
 use dnr_base::{Items, NoMemory, Text};
 use match_patterns::MatchPattern;
@@ -32,28 +34,45 @@ impl Model for InstalledExtension {
     ghost view = { λ e. extension_with (arc_value e.brought) e.sets (arc_value e.dynamic) (arc_value e.session) };
 }
 
-// The static rulesets of an extension. A clause sees their list.
+// The static rulesets of an extension, with one index for the rules of all. A clause sees their list.
 #[derive(Debug, Drop)]
 struct SetList {
     sets: Arc<Vec<InstalledSet>>,
+    index: Arc<StaticIndex>,
 }
 
 impl Model for SetList {
     ghost use Rattle.std.specs.Prelude.{List};
     ghost use Rattle.std.specs.Arc.{arc_value};
     ghost use Rattle.rule_spec.specs.State as spec;
+    ghost use Rattle.ruleset_store.specs.StaticIndex.{IsStaticIndexOf, lists_of};
 
     ghost Value = { List spec.RuleSet };
 
     ghost view = { λ s. (arc_value s.sets).items };
+
+    ghost invariant = { λ s. IsStaticIndexOf (lists_of (arc_value s.sets).items) (arc_value s.index) };
 }
 
 impl SetList {
     fn new(alloc: Global, sets: Vec<InstalledSet>) -> Result<SetList, NoMemory>
         ensures { IfOk result (λ list. list ≡ sets.items) }
     {
+        let index = StaticIndex::of(alloc, sets.as_slice())?;
         Ok(SetList {
             sets: Arc::new(alloc, sets)?,
+            index: Arc::new(alloc, index)?,
+        })
+    }
+
+    // These rulesets, whose rules are those of the list.
+    fn with(&self, alloc: Global, sets: Vec<InstalledSet>) -> Result<SetList, NoMemory>
+        requires { lists_of sets.items ≡ lists_of self.now }
+        ensures { IfOk result (λ list. list ≡ sets.items) }
+    {
+        Ok(SetList {
+            sets: Arc::new(alloc, sets)?,
+            index: Arc::try_clone(&self.index)?,
         })
     }
 
@@ -62,6 +81,7 @@ impl SetList {
     {
         Ok(SetList {
             sets: Arc::try_clone(&self.sets)?,
+            index: Arc::try_clone(&self.index)?,
         })
     }
 
@@ -69,6 +89,12 @@ impl SetList {
         ensures { result.now ≡ self.now }
     {
         self.sets.as_slice()
+    }
+
+    fn index(&self) -> &StaticIndex
+        ensures { IsStaticIndexOf (lists_of self.now) result.now }
+    {
+        &self.index
     }
 }
 
@@ -159,6 +185,13 @@ impl InstalledExtension {
         self.sets.as_slice()
     }
 
+    /// The index of the rules of all its static rulesets.
+    pub fn static_index(&self) -> &StaticIndex
+        ensures { IsStaticIndexOf (lists_of self.now.sets) result.now }
+    {
+        self.sets.index()
+    }
+
     /// The match patterns of what it may send elsewhere or change the headers of, if it is restricted.
     pub fn access(&self) -> Option<&Items<MatchPattern>>
         ensures { option_copied result ≡ self.now.access }
@@ -218,15 +251,17 @@ impl InstalledExtension {
         Ok(next)
     }
 
+    // The extension with these rulesets, whose rules are those that it has.
     fn with_sets(
         &self,
         alloc: Global,
         sets: Vec<InstalledSet>,
     ) -> Result<InstalledExtension, NoMemory>
+        requires { lists_of sets.items ≡ lists_of self.now.sets }
         ensures { IfOk result (λ next. next ≡ record self.now { sets = sets.items }) }
     {
         let mut next = self.again()?;
-        next.sets = SetList::new(alloc, sets)?;
+        next.sets = self.sets.with(alloc, sets)?;
         Ok(next)
     }
 
@@ -244,13 +279,14 @@ impl InstalledExtension {
         self.with_sets(alloc, sets)
     }
 
-    // The extension with this ruleset in place of the first of its id.
+    // The extension with this ruleset in place of the first of its id, whose rules it has.
     pub(crate) fn with_set(
         &self,
         alloc: Global,
         id: &str,
         set: InstalledSet,
     ) -> Result<InstalledExtension, NoMemory>
+        requires { lists_of (put_first (spec.has_set_id id.now) set self.now.sets) ≡ lists_of self.now.sets }
         ensures { IfOk result (λ next. next
             ≡ record self.now { sets = put_first (spec.has_set_id id.now) set self.now.sets }) }
     {

@@ -7,7 +7,7 @@ ghost use Rattle.ruleset_store.specs.Installed.{is_off_by, off_in};
 
 use crate::ids::{has_number, wholes_among};
 use crate::rule_set::SharedSet;
-use crate::{IndexedRules, OffIds, RuleSet, SharedRule};
+use crate::{KnownRules, OffIds, RuleSet, SharedRule};
 use dnr_base::{Items, NoMemory, Text};
 use std::alloc::Global;
 use std::collections::BTreeSet;
@@ -82,7 +82,7 @@ impl InstalledSet {
     }
 
     /// Its rules, in their order.
-    pub fn rules(&self) -> &IndexedRules
+    pub fn rules(&self) -> &KnownRules
         ensures { result.now ≡ self.now.rules }
     {
         self.set().rules()

@@ -15,6 +15,7 @@ mod limits;
 mod names;
 mod replacing;
 mod rule_set;
+mod static_index;
 mod store;
 mod update;
 
@@ -24,8 +25,11 @@ pub use extension::Extension;
 pub use installed::InstalledExtension;
 pub use installed_set::InstalledSet;
 pub use match_patterns::MatchPattern;
-pub use rule_segments::{IndexedRules, KeptRules, OffIds, RuleList, Segment, SharedRule};
+pub use rule_segments::{
+    IndexedRules, KeptRules, KnownRules, ListIndex, OffIds, RuleList, Segment, SharedRule,
+};
 pub use rule_set::{RuleSet, SharedSet};
+pub use static_index::StaticIndex;
 pub use store::Store;
 pub use update::{BatchRefusal, Update};
 pub use update_spec::Refusal;

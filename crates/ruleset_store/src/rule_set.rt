@@ -2,7 +2,7 @@ ghost use Rattle.std.specs.Prelude.{◌≡◌, pos, IfOk};
 ghost use Rattle.std.specs.List.{list_any};
 ghost use Rattle.std.specs.Ordering.{int_eq};
 
-use crate::IndexedRules;
+use crate::KnownRules;
 use dnr_base::{Copied, Items, NoMemory, Text};
 use dnr_rules::Rule;
 use std::alloc::Global;
@@ -15,7 +15,7 @@ use std::sync::Arc;
 pub struct RuleSet {
     id: Text,
     enabled: bool,
-    rules: IndexedRules,
+    rules: KnownRules,
     origins: Items<Items<u32>>,
 }
 
@@ -42,7 +42,7 @@ impl RuleSet {
         ensures { IfOk result (λ set. set
             ≡ record { id = id; enabled = enabled; rules = rules.items; origins = origins.items }) }
     {
-        let rules = IndexedRules::of(alloc, rules)?;
+        let rules = KnownRules::of(alloc, rules)?;
         Ok(RuleSet {
             id,
             enabled,
@@ -66,7 +66,7 @@ impl RuleSet {
     }
 
     /// Its rules, in their order.
-    pub fn rules(&self) -> &IndexedRules
+    pub fn rules(&self) -> &KnownRules
         ensures { result.now ≡ self.now.rules }
     {
         &self.rules

@@ -202,7 +202,7 @@ impl Store {
                 count,
                 extension.as_str(),
                 remove.as_slice(),
-                add,
+                add.as_slice(),
             ),
             Update::Session {
                 extension,
@@ -214,7 +214,7 @@ impl Store {
                 count,
                 extension.as_str(),
                 remove.as_slice(),
-                add,
+                add.as_slice(),
             ),
             Update::Rulesets {
                 extension,

@@ -1,7 +1,7 @@
 ghost use Rattle.std.specs.Prelude.{◌≡◌, IfOk};
 ghost use Rattle.ruleset_store.specs.Seen.{update_seen};
 
-use crate::{Extension, IndexedRules};
+use crate::{Extension, SharedRule};
 use dnr_base::{Items, NoMemory, Text};
 use std::alloc::Global;
 use std::sync::Arc;
@@ -18,7 +18,7 @@ pub enum Update {
         /// The ids to remove; one that no rule has is ignored.
         remove: Items<u32>,
         /// The rules to add.
-        add: IndexedRules,
+        add: Items<SharedRule>,
     },
     /// Removes session rules by their ids, then adds others.
     Session {
@@ -27,7 +27,7 @@ pub enum Update {
         /// The ids to remove; one that no rule has is ignored.
         remove: Items<u32>,
         /// The rules to add.
-        add: IndexedRules,
+        add: Items<SharedRule>,
     },
     /// Disables static rulesets, then enables others.
     Rulesets {
@@ -83,7 +83,7 @@ impl Update {
             } => Ok(Update::Dynamic {
                 extension: extension.copy(alloc)?,
                 remove: numbers_again(alloc, remove)?,
-                add: add.again()?,
+                add: add.copy(alloc)?,
             }),
             Update::Session {
                 extension,
@@ -92,7 +92,7 @@ impl Update {
             } => Ok(Update::Session {
                 extension: extension.copy(alloc)?,
                 remove: numbers_again(alloc, remove)?,
-                add: add.again()?,
+                add: add.copy(alloc)?,
             }),
             Update::Rulesets {
                 extension,

@@ -26,7 +26,7 @@ use json::Scratch;
 use line_spec::{UpdateFault, UpdateField, UpdateName};
 use match_patterns::MatchPattern;
 use regex_host::RegexHost;
-use ruleset_store::{Extension, IndexedRules, Update};
+use ruleset_store::{Extension, SharedRule, Update};
 use serde_json::Value;
 use std::alloc::Global;
 use std::sync::Arc;
@@ -78,8 +78,8 @@ fn replacing_in<H: RegexHost>(
     let extension = text_in(alloc, UpdateField::Extension, tree)?;
     let remove = remove_in(alloc, tree)?;
     let add = add_in(alloc, kind, tree, host)?;
-    let add = IndexedRules::of(alloc, add)?;
-    Ok(made_by(kind, extension, remove, add))
+    let add = SharedRule::all_of(alloc, add)?;
+    Ok(made_by(kind, extension, remove, Items::build(add)))
 }
 
 // The update of a line, of which these members were kept; its rules are read of its text.
@@ -142,11 +142,11 @@ fn replacing_with<H: RegexHost>(
     let extension = text_in(alloc, UpdateField::Extension, kept)?;
     let remove = remove_in(alloc, kept)?;
     let add = add_of(alloc, kind, bytes, scratch, host)?;
-    let add = IndexedRules::of(alloc, add)?;
-    Ok(made_by(kind, extension, remove, add))
+    let add = SharedRule::all_of(alloc, add)?;
+    Ok(made_by(kind, extension, remove, Items::build(add)))
 }
 
-fn made_by(kind: RuleKind, extension: Text, remove: Items<u32>, add: IndexedRules) -> Update
+fn made_by(kind: RuleKind, extension: Text, remove: Items<u32>, add: Items<SharedRule>) -> Update
     ensures { update_seen result ≡ made_by kind extension remove add }
 {
     match kind {

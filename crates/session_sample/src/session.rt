@@ -17,7 +17,7 @@ use generation::{Generation, Refusal, Update};
 use rand_pcg::Lcg64Xsh32;
 use regex_host::PackHost;
 use rule_spec::Outcome;
-use ruleset_store::IndexedRules;
+use ruleset_store::SharedRule;
 use session_spec::Tally;
 use std::alloc::Global;
 use std::marker::Brand;
@@ -104,7 +104,7 @@ fn update_with(alloc: Global, rule: Rule) -> Result<Update, NoMemory>
     Ok(Update::Dynamic {
         extension: Text::build(String::from_str(alloc, "sample")?),
         remove: Items::build(Vec::new(alloc)),
-        add: IndexedRules::of(alloc, rules)?,
+        add: Items::build(SharedRule::all_of(alloc, rules)?),
     })
 }
 

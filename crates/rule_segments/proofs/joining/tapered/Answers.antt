@@ -1,18 +1,27 @@
-use Rattle.std.proofs.Common.{◌<◌, length, sym, ap, ◌∙◌, arith}
+use Rattle.std.proofs.Common.{◌≡◌, ◌<◌, ◌++◌, ◌∷◌, [], List, length, take, IfOk, sym, ap, ◌∙◌, subst, arith, rules}
 use Rattle.std.proofs.lemmas.Slice.{between_to_end}
-use Rattle.rule_segments.specs.Segments.{live_among, live_in}
-use Rattle.rule_segments.proofs.Tapered.{tapers_more, tapers_skip}
+use Rattle.rule_spec.specs.Rule.{Rule}
+use Rattle.rule_segments.specs.Segments.{Segment, live_among, LastIsAbove}
+use Rattle.rule_segments.proofs.Tapered.{newest_tapers}
 use Rattle.rule_segments.proofs.joining.tapered.Goals as goal
 
-pub loop-last-preserved-then-len-eq0 : goal.loop-last-preserved-then-len-eq0
-loop-last-preserved-then-len-eq0 c =
-    tapers_skip c.args.segments.now c.loop-last.left.now c.loop-last.next.items c.in-Some.older.now c.in-Some.last.now c.in-Some.ensures.cases.0
-    (sym c.len.ensures ∙ c.if-len-eq0.true) c.loop-last.invariant
+pub tapered_before-requires-2-clause-above : goal.tapered_before-requires-2-clause-above
+tapered_before-requires-2-clause-above c =
+    let segments = c.args.segments.now in
+    let newer = c.args.newer.now in
+    let some : 0 < length newer = (let e = c.is_empty.ensures in let f = c.if-is_empty.false in search rules) in
+    let live = c.in_ok-newest.ensures.live ∙ ap (λ (s : List Segment). live_among s ++ newer) (between_to_end segments c.in_ok-start.start (length segments) (omega arith)) in
+    let is : c.push.new.self.items ≡ c.in_ok-newest.newest ∷ [] = search rules in
+    let tapers = newest_tapers segments newer c.in_ok-newest.newest c.in_ok-start.start c.in_ok-start.ensures.within some live c.in_ok-newest.ensures.half c.in_ok-start.ensures.apart in
+    subst (LastIsAbove (take c.in_ok-start.start segments)) (sym is) tapers.3
 
-pub loop-last-preserved : goal.loop-last-preserved
-loop-last-preserved c =
-    let some : 0 < length (live_in c.in-Some.last.now) = (let e = c.len.ensures in let f = c.if-len-eq0.false in omega arith) in
-    let live = c.in_ok-joined.ensures.live ∙ ap live_among (between_to_end c.loop-last.left.now c.in_ok-start.start (length c.loop-last.left.now) (omega arith)) in
-    rw c.in_ok-insert.ensures.items
-    (tapers_more c.args.segments.now c.loop-last.left.now c.loop-last.next.items c.in-Some.older.now c.in-Some.last.now c.in_ok-joined.field-0 c.in_ok-start.start
-    c.in-Some.ensures.cases.0 some c.in_ok-start.ensures.within live c.in_ok-joined.ensures.half c.in_ok-start.ensures.apart c.loop-last.invariant)
+pub returns-clause-same : goal.returns-clause-same
+returns-clause-same c =
+    let segments = c.args.segments.now in
+    let newer = c.args.newer.now in
+    let some : 0 < length newer = (let e = c.is_empty.ensures in let f = c.if-is_empty.false in search rules) in
+    let live = c.in_ok-newest.ensures.live ∙ ap (λ (s : List Segment). live_among s ++ newer) (between_to_end segments c.in_ok-start.start (length segments) (omega arith)) in
+    let is : c.push.new.self.items ≡ c.in_ok-newest.newest ∷ [] = search rules in
+    let tapers = newest_tapers segments newer c.in_ok-newest.newest c.in_ok-start.start c.in_ok-start.ensures.within some live c.in_ok-newest.ensures.half c.in_ok-start.ensures.apart in
+    let whole = ap (λ (s : List Segment). live_among (take c.in_ok-start.start segments) ++ live_among s) is ∙ tapers.0 in
+    subst (λ (all : List Rule). IfOk c.tapered_before-2.result (λ next. live_among next.items ≡ all)) whole c.tapered_before-2.ensures.same

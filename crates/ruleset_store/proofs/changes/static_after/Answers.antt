@@ -1,11 +1,17 @@
-use Rattle.std.proofs.Common.{◌≡◌, List, Option, Some, None, sym, subst}
+use Rattle.std.proofs.Common.{◌≡◌, List, Option, Some, None, refl, sym, subst}
 use Rattle.std.specs.Prelude.{IfOk, IfErr, OnOk, find}
 use Rattle.rule_spec.specs.State.{RuleSet}
 use Rattle.update_spec.specs.declared.refusal.Refusal.{Refusal}
-use Rattle.update_spec.specs.Update.{has_set_id}
+use Rattle.update_spec.specs.Update.{has_set_id, with_rules_switched}
 use Rattle.ruleset_store.specs.Seen.{IsRefusalOf}
+use Rattle.ruleset_store.proofs.Lists.{put_lists}
 use Rattle.ruleset_store.proofs.Rows.{refusal_same, sets_is, static_found, static_no_set}
 use Rattle.ruleset_store.proofs.changes.static_after.Goals as goal
+
+pub with_switched-requires : goal.with_switched-requires
+with_switched-requires c =
+    put_lists (has_set_id c.args.id.now) c.in-Some.set.now (with_rules_switched c.args.disable.now c.args.enable.now c.in-Some.set.now) c.args.extension.now.sets refl
+    (subst (λ (sets : List RuleSet). find (has_set_id c.args.id.now) sets ≡ Some c.in-Some.set.now) c.sets.ensures (sym c.in-Some.ensures))
 
 pub returns-in-Some-clause-judged : goal.returns-in-Some-clause-judged
 returns-in-Some-clause-judged c =

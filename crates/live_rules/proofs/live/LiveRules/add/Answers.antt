@@ -12,9 +12,9 @@ invariant_of-self-2 c =
     let slots = c.self.inside.slots.items in
     let places = c.self.inside.places in
     let rule = c.args.rule.now in
-    let new_one = ap (get nat_eq places) (sym c.id.ensures) ∙ not_found (get nat_eq places c.id.result) (sym c.contains_key.ensures ∙ c.if-contains_key.false) in
+    let new_one = ap (get nat_eq places) (sym (c.id-id.ensures ∙ ap (λ (r : Rule). r.id) c.rule.ensures)) ∙ not_found (get nat_eq places c.id-id.result) (sym c.contains_key.ensures ∙ c.if-contains_key.false) in
     let end_is : c.len.result ≡ length slots = search rules in
-    let updates = updates_at places c.insert.new.self c.id-2.result c.len.result rule.id (length slots) c.id-2.ensures end_is c.in_ok-insert.ensures.updates in
+    let updates = updates_at places c.insert.new.self c.id-id.result c.len.result rule.id (length slots) (c.id-id.ensures ∙ ap (λ (r : Rule). r.id) c.rule.ensures) end_is c.in_ok-insert.ensures.updates in
     added_live slots places c.self.inside.counts c.self.invariant rule new_one c.insert.new.self updates c.push.new.self.items c.in_ok-slot.slot c.in_ok-counts.counts
     c.in_ok-push.ensures.items c.in_ok-slot.ensures (c.in_ok-counts.ensures ∙ ap (sum_of c.self.inside.counts) c.counts.ensures)
 
@@ -28,5 +28,5 @@ returns-clause-other c = λ yes.
     let slots = c.self.inside.slots.items in
     let places = c.self.inside.places in
     let rule = c.args.rule.now in
-    let new_one = ap (get nat_eq places) (sym c.id.ensures) ∙ not_found (get nat_eq places c.id.result) (sym c.contains_key.ensures ∙ c.if-contains_key.false) in
+    let new_one = ap (get nat_eq places) (sym (c.id-id.ensures ∙ ap (λ (r : Rule). r.id) c.rule.ensures)) ∙ not_found (get nat_eq places c.id-id.result) (sym c.contains_key.ensures ∙ c.if-contains_key.false) in
     ap (λ (rules : List Rule). has_id rules rule.id) (sym c.self.view_is) ∙ none_of_id slots places c.self.inside.counts c.self.invariant rule new_one

@@ -34,7 +34,7 @@ loop-id-preserved c =
                 ∙ ap (λ (b : Bool). filter (has_id live) done ++ cond b (x ∷ []) []) (sym is) ∙ sym kept;
             counts = w.counts-is ∙ w.without-counts.ensures
                 ∙ ap (λ (n : Counts). less n w.counts_of_id.result) c.loop-id.invariant.counts
-                ∙ ap (less (counts_of (without_ids done live))) (w.counts_of_id.ensures ∙ ap (λ (s : Segment). counts_of (of_id x s.rules)) c.self.view_is)
+                ∙ ap (less (counts_of (without_ids done live))) (w.counts_of_id.ensures ∙ ap (λ (rules : List Rule). counts_of (of_id x rules)) w.known.ensures)
                 ∙ counts_less c.args.self.now.removed done x c.args.self.now.rules (live_apart c.args.self.now.removed c.args.self.now.rules x is) (c.requires c.loop-id.id-index c.loop-id-test.true)
                 ∙ ap (λ (ids : List ℕ). counts_of (without_ids ids live)) (sym more);
           })

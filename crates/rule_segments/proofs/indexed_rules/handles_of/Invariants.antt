@@ -1,8 +1,0 @@
-use Rattle.std.proofs.Common.{◌≡◌, ◌++◌, length}
-use Rattle.std.specs.Vec.Iter.{into_iter_items, into_iter_len}
-use Rattle.rule_segments.proofs.indexed_rules.handles_of.Given as goal
-
-abbrev pub invariant-loop-rule : goal.invariant-loop-rule
-invariant-loop-rule l =
-    (l.shared.items ++ into_iter_items l.rule-iterator ≡ l.fn.rules.items)
-    × (into_iter_len l.rule-iterator ≡ length (into_iter_items l.rule-iterator))

@@ -1,6 +1,0 @@
-use Rattle.std.proofs.Common.{◌≡◌, map, take}
-use Rattle.rule_ids.specs.Counted.{known_of}
-use Rattle.rule_segments.proofs.indexed_rules.known_of.Given as goal
-
-abbrev pub invariant-loop-rule : goal.invariant-loop-rule
-invariant-loop-rule l = l.known ≡ map known_of (take l.rule-index l.rules)

@@ -1,9 +1,0 @@
-use Rattle.std.proofs.Common.{length}
-use Rattle.rule_segments.proofs.Tapered.{Tapers}
-use Rattle.rule_segments.proofs.joining.tapered.Given as goal
-
-abbrev pub invariant-loop-last : goal.invariant-loop-last
-invariant-loop-last l = Tapers l.segments l.left l.next.items
-
-abbrev pub decreases-loop-last : goal.decreases-loop-last
-decreases-loop-last l = length l.left

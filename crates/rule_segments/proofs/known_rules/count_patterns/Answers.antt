@@ -1,0 +1,12 @@
+use Rattle.std.proofs.Common.{rules, tests, ◌∙◌}
+use Rattle.std.proofs.lemmas.List.Sums.{length-filter}
+use Rattle.std.proofs.lemmas.Iterator.{YieldsList-from_slice}
+use Rattle.std.proofs.lemmas.Iterator.Consumers.{YieldsList-from_filter, count_from_yields_List}
+use Rattle.update_spec.specs.Judge.{uses_regex}
+use Rattle.rule_segments.proofs.known_rules.count_patterns.Goals as goal
+
+pub returns : goal.returns
+returns c =
+    count_from_yields_List c.filter.result _ c.count.ensures.ran
+    (YieldsList-from_filter _ uses_regex (YieldsList-from_slice c.args.rules.now (cc)) c.filter.ensures.closure (λ x r q k. search (rules, tests)))
+    ∙ length-filter uses_regex c.args.rules.now
