@@ -1,7 +1,6 @@
 -- Calls of a host one behind the other.
 use Rattle.std.proofs.Common.{◌≡◌, ℕ, List, [], ◌∷◌, ◌++◌, refl, sym, ap, ◌∙◌, subst, append_assoc}
 use Rattle.std.proofs.lemmas.List.{append-nil}
-use Rattle.std.specs.BTreeSet.{BTreeSet}
 use Rattle.regex_host.specs.Asked.{Asked, AsksFor}
 use Rattle.rule_spec.specs.declared.rule_refusal.RuleRefusal.{RuleRefusal}
 use Rattle.rule_spec.specs.declared.rule_refusal.RuleRefusal.TheVariants.{NoMemory}
@@ -27,6 +26,6 @@ asks_for_next asks before then now rules more h (rule, push, e) =
     subst (λ rs. AsksFor asks before (asked_of_all rs) now) (sym push)
     (subst (λ l. AsksFor asks before l now) (sym (asked_more rules rule)) (asks_on asks before then now (asked_of_all rules) (asked_of rule.condition) h e))
 
-pub taken_stay : (taken : BTreeSet ℕ) (cause : RuleRefusal) → TakenStay taken taken cause
+pub taken_stay : (taken : List ℕ) (cause : RuleRefusal) → TakenStay taken taken cause
 taken_stay taken NoMemory = tt
 taken_stay taken cause = refl

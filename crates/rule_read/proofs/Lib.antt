@@ -4,6 +4,7 @@ pub mod Making
 pub mod TypeSets
 pub mod Texts
 pub mod Chains
+pub mod Ids
 pub mod ReadLists
 pub mod Stages
 pub mod Calm

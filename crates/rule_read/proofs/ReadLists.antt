@@ -1,12 +1,6 @@
 -- Steps along a list of rules, of which each has an id of its own.
-use Rattle.std.proofs.Common.{◌≡◌, ◌≤◌, ◌<◌, ◌+◌, ℕ, List, [], ◌∷◌, ◌++◌, Bool, true, false, cond, ◌||◌, ◌==◌, length, drop, refl, sym, ap, ◌∙◌, subst, ⊎_elim, inl, inr, arith, nat_lt, Less, Equal, Greater, get_or, Result, Ok, Err, Some}
-use Rattle.std.specs.Ordering.{nat_cmp, is_eq}
-use Rattle.std.specs.BTreeSet.{BTreeSet, contains, Updates}
-use Rattle.std.specs.BTreeMap.{is_at}
-use Rattle.std.specs.List.{list_any}
+use Rattle.std.proofs.Common.{◌≡◌, ◌≤◌, ◌<◌, ◌+◌, ℕ, List, [], ◌∷◌, ◌++◌, Bool, true, false, ◌||◌, ◌==◌, length, drop, refl, sym, ap, ◌∙◌, subst, inl, inr, arith, get_or, Result, Ok, Err, Some}
 use Rattle.std.specs.Result.{IfErr}
-use Rattle.std.proofs.lemmas.Bool.{cases_Bool}
-use Rattle.std.proofs.lemmas.Bool.Decides.{nat_tests}
 use Rattle.std.proofs.lemmas.List.{drop_more, drop_all}
 use Rattle.std.proofs.lemmas.List.Folds.{list_any-append}
 use Rattle.serde_json.specs.Data.{Data, Items, item}
@@ -20,24 +14,24 @@ use Rattle.rule_spec.specs.declared.placed_refusal.PlacedRefusal.{PlacedRefusal}
 use Rattle.rule_spec.specs.Rule.{Rule}
 use Rattle.json_spec.specs.ReadRule.{rule_in, has_id, placed, read_next, read_from, read_rule, IsRuleAtPattern, StopsAtPattern}
 use Rattle.json_spec.specs.MayRefuse.{MayRefuse}
-use Rattle.rule_read.specs.Reading.{Taken, ReadsNext, StopsAt, MayStop, MayStopBy}
+use Rattle.rule_read.specs.Reading.{is_taken, Taken, ReadsNext, StopsAt, MayStop, MayStopBy}
 
 -- ---- the ids that are taken
 
 -- a rule among none
-pub rule_alone : (kind : RuleKind) (d : Data) (taken : BTreeSet ℕ) (rule : Rule) → taken.keys ≡ [] → rule_in kind (λ id. contains nat_cmp taken id) d ≡ Ok rule → read_rule kind d ≡ Ok rule
-rule_alone kind d taken rule empty h = subst (λ (ids : List ℕ). rule_in kind (λ id. list_any (is_at (nat_cmp id)) ids) d ≡ Ok rule) empty h
+pub rule_alone : (kind : RuleKind) (d : Data) (taken : List ℕ) (rule : Rule) → taken ≡ [] → rule_in kind (is_taken taken) d ≡ Ok rule → read_rule kind d ≡ Ok rule
+rule_alone kind d taken rule empty h = subst (λ (ids : List ℕ). rule_in kind (is_taken ids) d ≡ Ok rule) empty h
 
-pub refused_alone : (kind : RuleKind) (d : Data) (taken : BTreeSet ℕ) (rose : Type 0) (result : Result Rule RuleRefusal) → taken.keys ≡ []
-    → IfErr result (MayRefuse (rule_in kind (λ id. contains nat_cmp taken id) d) (rose × IsRuleAtPattern (λ id. contains nat_cmp taken id) d))
+pub refused_alone : (kind : RuleKind) (d : Data) (taken : List ℕ) (rose : Type 0) (result : Result Rule RuleRefusal) → taken ≡ []
+    → IfErr result (MayRefuse (rule_in kind (is_taken taken) d) (rose × IsRuleAtPattern (is_taken taken) d))
     → IfErr result (MayRefuse (read_rule kind d) (rose × IsRuleAtPattern (λ id. false) d))
 refused_alone kind d taken rose result empty h =
-    subst (λ (ids : List ℕ). IfErr result (MayRefuse (rule_in kind (λ id. list_any (is_at (nat_cmp id)) ids) d) (rose × IsRuleAtPattern (λ id. list_any (is_at (nat_cmp id)) ids) d))) empty h
+    subst (λ (ids : List ℕ). IfErr result (MayRefuse (rule_in kind (is_taken ids) d) (rose × IsRuleAtPattern (is_taken ids) d))) empty h
 
-pub none_taken : (taken : BTreeSet ℕ) → taken.keys ≡ [] → Taken taken []
-none_taken taken empty id = ap (λ ids. list_any (is_at (nat_cmp id)) ids) empty
+pub none_taken : (taken : List ℕ) → taken ≡ [] → Taken taken []
+none_taken taken empty id = ap (λ ids. is_taken ids id) empty
 
-pub same_ids : (taken : BTreeSet ℕ) (rules : List Rule) → Taken taken rules → (λ (id : ℕ). contains nat_cmp taken id) ≡ has_id rules
+pub same_ids : (taken : List ℕ) (rules : List Rule) → Taken taken rules → is_taken taken ≡ has_id rules
 same_ids taken rules ids = λ i id. ids id i
 
 or_false : (b : Bool) → (b || false) ≡ b
@@ -47,37 +41,18 @@ or_false false = refl
 has_id-append : (rules : List Rule) (rule : Rule) (id : ℕ) → has_id (rules ++ rule ∷ []) id ≡ (has_id rules id || rule.id == id)
 has_id-append rules rule id = list_any-append (λ (r : Rule). r.id == id) rules (rule ∷ []) ∙ ap (λ b. has_id rules id || b) (or_false (rule.id == id))
 
-equal_or_greater : (t : Bool) → is_eq (cond t Equal Greater) ≡ t
-equal_or_greater true = refl
-equal_or_greater false = refl
-
-same_test : (a b : ℕ) → is_at (nat_cmp a) b ≡ (a == b)
-same_test a b =
-    ⊎_elim
-    (λ less. let apart : (a == b) ≡ false = grind (arith, nat_tests) in ap (λ t. is_eq (cond t Less (cond (a == b) Equal Greater))) less ∙ sym apart)
-    (λ not_less. ap (λ t. is_eq (cond t Less (cond (a == b) Equal Greater))) not_less ∙ equal_or_greater (a == b))
-    (cases_Bool (nat_lt a b))
-
-one_more : (same taken : Bool) → cond same true taken ≡ (taken || same)
-one_more true true = refl
-one_more true false = refl
-one_more false true = refl
-one_more false false = refl
-
-pub id_more : (taken new : BTreeSet ℕ) (rules more : List Rule) (rule : Rule) → Taken taken rules → Updates nat_cmp taken new rule.id true → more ≡ rules ++ rule ∷ [] → Taken new more
+pub id_more : (taken new : List ℕ) (rules more : List Rule) (rule : Rule) → Taken taken rules → ((id : ℕ) → is_taken new id ≡ (is_taken taken id || rule.id == id)) → more ≡ rules ++ rule ∷ [] → Taken new more
 id_more taken new rules more rule ids added push id =
-    added.0 id ∙ ap (λ t. cond t true (contains nat_cmp taken id)) (same_test rule.id id)
-    ∙ one_more (rule.id == id) (contains nat_cmp taken id) ∙ ap (λ t. t || rule.id == id) (ids id)
-    ∙ sym (has_id-append rules rule id) ∙ ap (λ rs. has_id rs id) (sym push)
+    added id ∙ ap (λ t. t || rule.id == id) (ids id) ∙ sym (has_id-append rules rule id) ∙ ap (λ rs. has_id rs id) (sym push)
 
 -- ---- one rule
 
-pub reads_next : (kind : RuleKind) (d : Data) (taken : BTreeSet ℕ) (rules more : List Rule) (rule : Rule) → Taken taken rules
-    → rule_in kind (λ id. contains nat_cmp taken id) d ≡ Ok rule → more ≡ rules ++ rule ∷ [] → ReadsNext kind d rules more
+pub reads_next : (kind : RuleKind) (d : Data) (taken : List ℕ) (rules more : List Rule) (rule : Rule) → Taken taken rules
+    → rule_in kind (is_taken taken) d ≡ Ok rule → more ≡ rules ++ rule ∷ [] → ReadsNext kind d rules more
 reads_next kind d taken rules more rule ids read push = (rule, subst (λ test. rule_in kind test d ≡ Ok rule) (same_ids taken rules ids) read, push)
 
-pub stops_at : (kind : RuleKind) (d : Data) (taken : BTreeSet ℕ) (rules : List Rule) (rose : Type 0) (cause : RuleRefusal) (refusal : PlacedRefusal) → Taken taken rules
-    → MayRefuse (rule_in kind (λ id. contains nat_cmp taken id) d) (rose × IsRuleAtPattern (λ id. contains nat_cmp taken id) d) cause
+pub stops_at : (kind : RuleKind) (d : Data) (taken : List ℕ) (rules : List Rule) (rose : Type 0) (cause : RuleRefusal) (refusal : PlacedRefusal) → Taken taken rules
+    → MayRefuse (rule_in kind (is_taken taken) d) (rose × IsRuleAtPattern (is_taken taken) d) cause
     → refusal ≡ placed (length rules) d cause → StopsAt kind d rules rose refusal
 stops_at kind d taken rules rose cause refusal ids h is =
     subst (StopsAt kind d rules rose) (sym is) (record {

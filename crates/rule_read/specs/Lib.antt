@@ -1,5 +1,6 @@
 pub mod Seen
 pub mod Reading
+pub mod Ids
 pub mod Tests
 pub mod Asking
 pub mod Calm

@@ -1,7 +1,6 @@
 -- Steps along a list of rules.
-use Rattle.std.specs.Prelude.{◌≡◌, ◌++◌, [], ◌∷◌, ℕ, List, length, Option, Some, None, Result, Ok, Err}
-use Rattle.std.specs.Ordering.{nat_cmp}
-use Rattle.std.specs.BTreeSet.{BTreeSet, contains}
+use Rattle.std.specs.Prelude.{◌≡◌, ◌++◌, ◌==◌, [], ◌∷◌, ℕ, Bool, List, length, Option, Some, None, Result, Ok, Err}
+use Rattle.std.specs.List.{list_any}
 use Rattle.serde_json.specs.Data.{Data, Items}
 use Rattle.rule_spec.specs.declared.rule_kind.RuleKind.{RuleKind}
 use Rattle.rule_spec.specs.declared.rule_refusal.RuleRefusal.{RuleRefusal}
@@ -11,12 +10,16 @@ use Rattle.rule_spec.specs.Rule.{Rule}
 use Rattle.json_spec.specs.ReadRule.{rule_in, has_id, placed, read_items, IsRuleAtPattern, StopsAtPattern}
 use Rattle.json_spec.specs.MayRefuse.{MayRefuse}
 
+-- the id is one of these
+abbrev pub is_taken : List ℕ → ℕ → Bool
+is_taken ids id = list_any (λ other. other == id) ids
+
 -- the ids of the rules are those that are taken
-abbrev pub Taken : BTreeSet ℕ → List Rule → Type 0
-Taken taken rules = (id : ℕ) → contains nat_cmp taken id ≡ has_id rules id
+abbrev pub Taken : List ℕ → List Rule → Type 0
+Taken taken rules = (id : ℕ) → is_taken taken id ≡ has_id rules id
 
 -- the ids that are taken stay so, and no other is, unless memory ran out
-abbrev pub TakenStay : BTreeSet ℕ → BTreeSet ℕ → RuleRefusal → Type 0
+abbrev pub TakenStay : List ℕ → List ℕ → RuleRefusal → Type 0
 TakenStay before now NoMemory = Unit {0}
 TakenStay before now cause = now ≡ before
 

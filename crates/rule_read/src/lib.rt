@@ -8,7 +8,9 @@ mod frames;
 mod numbers;
 mod response_tests;
 mod rules;
+mod taken_ids;
 
 pub use dnr_rules::Rule;
 pub use rule_spec::{HeaderCause, PlacedRefusal, RuleKind, RulePath, RuleRefusal};
 pub use rules::{read_next, read_rule, read_rules};
+pub use taken_ids::TakenIds;

@@ -1,17 +1,16 @@
 ghost use Rattle.std.specs.Prelude.{◌≡◌, codes, Ok, IfOk, IfErr, option_map};
 ghost use Rattle.std.specs.Option.{option_copied};
-ghost use Rattle.std.specs.Ordering.{nat_cmp};
-ghost use Rattle.std.specs.BTreeSet.{contains};
 ghost use Rattle.serde_json.specs.View.{view};
 ghost use Rattle.serde_json.specs.Find.{get};
 ghost use Rattle.json_spec.specs.ReadRule as spec;
 ghost use Rattle.json_spec.specs.ReadRule.{numbers_in, condition_at};
 ghost use Rattle.json_spec.specs.MayRefuse.{IsRefused};
+ghost use Rattle.rule_read.specs.Reading.{is_taken};
 ghost use Rattle.rule_read.specs.Seen.{numbers_seen};
 
+use crate::taken_ids::TakenIds;
 use rule_spec::{RulePath, RuleRefusal};
 use serde_json::Value;
-use std::collections::BTreeSet;
 
 // The numbers of a rule, and its condition.
 #[derive(Clone, Copy)]
@@ -25,15 +24,15 @@ pub(crate) struct Numbers<'a> {
 #[tactic(auto, unfolding(json_spec::specs::ReadRule::numbers_in))]
 pub(crate) fn read_numbers<'a>(
     value: &'a Value,
-    taken: &BTreeSet<u32>,
+    taken: &TakenIds,
 ) -> Result<Numbers<'a>, RuleRefusal>
     ensures ok { IfOk result (λ numbers.
-        numbers_in (λ id. contains nat_cmp taken.now id) (view value.now)
+        numbers_in (is_taken taken.now) (view value.now)
         ≡ Ok (numbers_seen numbers)) }
     ensures condition { IfOk result (λ numbers.
         view numbers.condition.now ≡ condition_at (view value.now)) }
     ensures refused { IfErr result
-        (IsRefused (numbers_in (λ id. contains nat_cmp taken.now id) (view value.now))) }
+        (IsRefused (numbers_in (is_taken taken.now) (view value.now))) }
 {
     if value.as_object().is_none() {
         return Err(RuleRefusal::NotObject);
@@ -41,7 +40,7 @@ pub(crate) fn read_numbers<'a>(
     let Some(id) = id_of(value) else {
         return Err(RuleRefusal::BadId);
     };
-    if taken.contains(&id) {
+    if taken.has(id) {
         return Err(RuleRefusal::DuplicateId);
     }
     let Some(priority) = priority_of(value) else {

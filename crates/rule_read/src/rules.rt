@@ -1,7 +1,5 @@
 ghost use Rattle.std.specs.Prelude.{◌≡◌, ◌≤◌, ◌++◌, [], ◌∷◌, ℕ, List, min, length, map, false};
 ghost use Rattle.std.specs.Prelude.{codes, Ok, Err, OnOk, OnErr, IfOk, IfErr, IfSome, option_map};
-ghost use Rattle.std.specs.Ordering.{nat_cmp};
-ghost use Rattle.std.specs.BTreeSet.{contains};
 ghost use Rattle.serde_json.specs.View.{view, items_view};
 ghost use Rattle.serde_json.specs.Find.{as_array};
 ghost use Rattle.dnr_base.specs.Faults.{Rose};
@@ -17,7 +15,7 @@ ghost use Rattle.regex_host.specs.Asked.{AsksFor};
 ghost use Rattle.rule_fields.specs.Seen.{fields_seen};
 ghost use Rattle.rule_read.specs.Seen.{lists_seen};
 ghost use Rattle.rule_read.specs.Asking.{asked_by, asked_of, asked_of_all, AsksOrNot, AsksNext};
-ghost use Rattle.rule_read.specs.Reading.{Taken, TakenStay, MayStop, ReadsNext, StopsAt};
+ghost use Rattle.rule_read.specs.Reading.{is_taken, Taken, TakenStay, MayStop, ReadsNext, StopsAt};
 ghost use Rattle.rule_read.specs.Calm.{IsCalmBy};
 
 use crate::conditions::{
@@ -26,6 +24,7 @@ use crate::conditions::{
 use crate::frames::test_frames;
 use crate::numbers::{Numbers, id_of, read_numbers};
 use crate::response_tests::{Tests, read_tests};
+use crate::taken_ids::TakenIds;
 use action_read::read_action;
 use dnr_base::{Items, MethodSet, NoMemory};
 use dnr_rules::{ConditionParts, PlacedRefusal, RareParts, Rule, RuleKind, RuleParts, RuleRefusal};
@@ -34,7 +33,6 @@ use rule_fields::{Fields, read_fields};
 use rule_laws::rules_keep_their_form;
 use serde_json::Value;
 use std::alloc::Global;
-use std::collections::BTreeSet;
 
 /// Reads a rule: Chrome's reference of declarativeNetRequest, `Rule`. Letters of domains, of a transform's host
 /// and of names of headers are read in lower case. An entry of a list of types, methods or tabs counts once.
@@ -64,7 +62,7 @@ pub fn read_rule<H: RegexHost>(
     ensures quiet { IfErr result (IsCalmBy (H.faults host.old) (H.faults host.new)) }
     ensures later { H.faults host.old ≤ H.faults host.new }
 {
-    let taken = BTreeSet::new(alloc);
+    let taken = TakenIds::new(alloc);
     read_among(alloc, value, kind, &taken, host)
 }
 
@@ -73,15 +71,15 @@ fn read_among<H: RegexHost>(
     alloc: Global,
     value: &Value,
     kind: RuleKind,
-    taken: &BTreeSet<u32>,
+    taken: &TakenIds,
     host: &mut H,
 ) -> Result<Rule, RuleRefusal>
     ensures ok { IfOk result (λ rule.
-        rule_in kind (λ id. contains nat_cmp taken.now id) (view value.now) ≡ Ok rule) }
+        rule_in kind (is_taken taken.now) (view value.now) ≡ Ok rule) }
     ensures refused { IfErr result
-        (MayRefuse (rule_in kind (λ id. contains nat_cmp taken.now id) (view value.now))
+        (MayRefuse (rule_in kind (is_taken taken.now) (view value.now))
         (Rose (H.faults host.old) (H.faults host.new)
-        × IsRuleAtPattern (λ id. contains nat_cmp taken.now id) (view value.now))) }
+        × IsRuleAtPattern (is_taken taken.now) (view value.now))) }
     ensures asked { IfOk result (λ rule.
         AsksFor H.asks host.old (asked_of rule.condition) host.new) }
     ensures tried { AsksOrNot H.asks host.old (asked_by (fields_at (view value.now))) host.new }
@@ -223,7 +221,7 @@ fn read_list<H: RegexHost>(
         IsCalmBy (H.faults host.old) (H.faults host.new) refusal.cause) }
     ensures later { H.faults host.old ≤ H.faults host.new }
 {
-    let mut taken = BTreeSet::new(alloc);
+    let mut taken = TakenIds::new(alloc);
     let mut rules = Vec::new(alloc);
     for value in values {
         read_next(alloc, value, kind, host, &mut taken, &mut rules)?;
@@ -243,7 +241,7 @@ pub fn read_next<H: RegexHost>(
     value: &Value,
     kind: RuleKind,
     host: &mut H,
-    taken: &mut BTreeSet<u32>,
+    taken: &mut TakenIds,
     rules: &mut Vec<Rule>,
 ) -> Result<(), PlacedRefusal>
     requires { Taken taken.old rules.old.items }

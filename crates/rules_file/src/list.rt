@@ -10,9 +10,8 @@ use crate::value::{next_element, pass_element};
 use json::{Invalid, Reader};
 use json_fields::Fault;
 use regex_host::RegexHost;
-use rule_read::{PlacedRefusal, Rule, RuleKind, RuleRefusal, read_next};
+use rule_read::{PlacedRefusal, Rule, RuleKind, RuleRefusal, TakenIds, read_next};
 use std::alloc::Global;
-use std::collections::BTreeSet;
 
 // Reads the elements up to the bracket that closes the list. One that is refused lets the others be passed over.
 pub(crate) fn read_list<H: RegexHost>(
@@ -29,7 +28,7 @@ pub(crate) fn read_list<H: RegexHost>(
     ensures shorter { OnOk result (length reader.new < length reader.old) }
     ensures bad { result ≡ Err Fault.BadJson → HasNoItems depth reader.old }
 {
-    let mut taken = BTreeSet::new(alloc);
+    let mut taken = TakenIds::new(alloc);
     let mut rules = Vec::new(alloc);
     match read_good(alloc, reader, depth, kind, host, &mut taken, &mut rules) {
         Ok(None) => Ok(Ok(rules)),
@@ -48,7 +47,7 @@ fn read_good<H: RegexHost>(
     depth: usize,
     kind: RuleKind,
     host: &mut H,
-    taken: &mut BTreeSet<u32>,
+    taken: &mut TakenIds,
     rules: &mut Vec<Rule>,
 ) -> Result<Option<PlacedRefusal>, Fault>
     requires none { rules.old.items ≡ [] }
@@ -79,7 +78,7 @@ fn next_rule<H: RegexHost>(
     depth: usize,
     kind: RuleKind,
     host: &mut H,
-    taken: &mut BTreeSet<u32>,
+    taken: &mut TakenIds,
     rules: &mut Vec<Rule>,
 ) -> Result<Option<PlacedRefusal>, Fault>
     requires { Taken taken.old rules.old.items }

@@ -1,7 +1,6 @@
 use Rattle.std.proofs.Common.{ℕ, Bool, Ok, ap, sym, refl, subst, inr, ◌∙◌, arith}
 use Rattle.std.specs.Prelude.{option_map}
-use Rattle.std.specs.Ordering.{nat_cmp}
-use Rattle.std.specs.BTreeSet.{contains}
+use Rattle.rule_read.specs.Reading.{is_taken as is_one_of}
 use Rattle.serde_json.specs.View.{view}
 use Rattle.dnr_base.specs.Faults.{Rose}
 use Rattle.dnr_rules.specs.Seen.{action_seen, condition_seen, rule_of}
@@ -19,7 +18,7 @@ use Rattle.rule_read.proofs.rules.read_among.Goals as goal
 
 pub returns-in_err-numbers-clause-refused : goal.returns-in_err-numbers-clause-refused
 returns-in_err-numbers-clause-refused g c =
-    let is_taken : ℕ → Bool = λ id. contains nat_cmp c.args.taken.now id in
+    let is_taken : ℕ → Bool = is_one_of c.args.taken.now in
     let d = view c.args.value.now in
     let rose : Type 0 = Rose (g.H.RegexHost.faults c.args.host.now) (g.H.RegexHost.faults c.args.host.now) in
     let refusal = c.in_err-numbers.field-0.0 in
@@ -28,7 +27,7 @@ returns-in_err-numbers-clause-refused g c =
 
 pub returns-in_err-fields-clause-refused : goal.returns-in_err-fields-clause-refused
 returns-in_err-fields-clause-refused g c =
-    let is_taken : ℕ → Bool = λ id. contains nat_cmp c.args.taken.now id in
+    let is_taken : ℕ → Bool = is_one_of c.args.taken.now in
     let d = view c.args.value.now in
     let rose : Type 0 = Rose (g.H.RegexHost.faults c.args.host.now) (g.H.RegexHost.faults c.args.host.now) in
     let refusal = c.in_err-fields.field-0.0 in
@@ -39,7 +38,7 @@ returns-in_err-fields-clause-refused g c =
 
 pub returns-in_err-filters-clause-refused : goal.returns-in_err-filters-clause-refused
 returns-in_err-filters-clause-refused g c =
-    let is_taken : ℕ → Bool = λ id. contains nat_cmp c.args.taken.now id in
+    let is_taken : ℕ → Bool = is_one_of c.args.taken.now in
     let d = view c.args.value.now in
     let rose : Type 0 = Rose (g.H.RegexHost.faults c.args.host.now) (g.H.RegexHost.faults c.read_filters.new.host) in
     let refusal = c.in_err-filters.field-0.0 in
@@ -52,7 +51,7 @@ returns-in_err-filters-clause-refused g c =
 
 pub returns-in_err-lists-clause-refused : goal.returns-in_err-lists-clause-refused
 returns-in_err-lists-clause-refused g c =
-    let is_taken : ℕ → Bool = λ id. contains nat_cmp c.args.taken.now id in
+    let is_taken : ℕ → Bool = is_one_of c.args.taken.now in
     let d = view c.args.value.now in
     let fault : Type 0 = Rose (g.H.RegexHost.faults c.args.host.now) (g.H.RegexHost.faults c.read_filters.new.host) × IsRuleAtPattern is_taken d in
     let refusal = c.in_err-lists.field-0.0 in
@@ -66,7 +65,7 @@ returns-in_err-lists-clause-refused g c =
 
 pub returns-in_err-test_lists-clause-refused : goal.returns-in_err-test_lists-clause-refused
 returns-in_err-test_lists-clause-refused g c =
-    let is_taken : ℕ → Bool = λ id. contains nat_cmp c.args.taken.now id in
+    let is_taken : ℕ → Bool = is_one_of c.args.taken.now in
     let d = view c.args.value.now in
     let fault : Type 0 = Rose (g.H.RegexHost.faults c.args.host.now) (g.H.RegexHost.faults c.read_filters.new.host) × IsRuleAtPattern is_taken d in
     let refusal = c.in_err-test_lists.field-0.0 in
@@ -81,7 +80,7 @@ returns-in_err-test_lists-clause-refused g c =
 
 pub returns-in_err-test_frames-clause-refused : goal.returns-in_err-test_frames-clause-refused
 returns-in_err-test_frames-clause-refused g c =
-    let is_taken : ℕ → Bool = λ id. contains nat_cmp c.args.taken.now id in
+    let is_taken : ℕ → Bool = is_one_of c.args.taken.now in
     let d = view c.args.value.now in
     let fault : Type 0 = Rose (g.H.RegexHost.faults c.args.host.now) (g.H.RegexHost.faults c.read_filters.new.host) × IsRuleAtPattern is_taken d in
     let refusal = c.in_err-test_frames.field-0.0 in
@@ -99,7 +98,7 @@ returns-in_err-test_frames-clause-refused g c =
 
 pub returns-in_err-tests-clause-refused : goal.returns-in_err-tests-clause-refused
 returns-in_err-tests-clause-refused g c =
-    let is_taken : ℕ → Bool = λ id. contains nat_cmp c.args.taken.now id in
+    let is_taken : ℕ → Bool = is_one_of c.args.taken.now in
     let d = view c.args.value.now in
     let fault : Type 0 = Rose (g.H.RegexHost.faults c.args.host.now) (g.H.RegexHost.faults c.read_filters.new.host) × IsRuleAtPattern is_taken d in
     let refusal = c.in_err-tests.field-0.0 in
@@ -118,7 +117,7 @@ returns-in_err-tests-clause-refused g c =
 
 pub returns-in_err-test_tabs-clause-refused : goal.returns-in_err-test_tabs-clause-refused
 returns-in_err-test_tabs-clause-refused g c =
-    let is_taken : ℕ → Bool = λ id. contains nat_cmp c.args.taken.now id in
+    let is_taken : ℕ → Bool = is_one_of c.args.taken.now in
     let d = view c.args.value.now in
     let fault : Type 0 = Rose (g.H.RegexHost.faults c.args.host.now) (g.H.RegexHost.faults c.read_filters.new.host) × IsRuleAtPattern is_taken d in
     let refusal = c.in_err-test_tabs.field-0.0 in
@@ -138,7 +137,7 @@ returns-in_err-test_tabs-clause-refused g c =
 
 pub returns-in_err-action-clause-refused : goal.returns-in_err-action-clause-refused
 returns-in_err-action-clause-refused g c =
-    let is_taken : ℕ → Bool = λ id. contains nat_cmp c.args.taken.now id in
+    let is_taken : ℕ → Bool = is_one_of c.args.taken.now in
     let d = view c.args.value.now in
     let fault : Type 0 = Rose (g.H.RegexHost.faults c.args.host.now) (g.H.RegexHost.faults c.read_filters.new.host) × IsRuleAtPattern is_taken d in
     let refusal = c.in_err-action.field-0.0 in
@@ -160,7 +159,7 @@ returns-in_err-action-clause-refused g c =
 
 pub build-requires : goal.build-requires
 build-requires g c =
-    let is_taken : ℕ → Bool = λ id. contains nat_cmp c.args.taken.now id in
+    let is_taken : ℕ → Bool = is_one_of c.args.taken.now in
     let d = view c.args.value.now in
     let numbers = c.in_ok-numbers.ensures in
     let n = numbers_seen c.in_ok-numbers.numbers in
@@ -181,7 +180,7 @@ build-requires g c =
 
 pub returns-clause-ok : goal.returns-clause-ok
 returns-clause-ok g c =
-    let is_taken : ℕ → Bool = λ id. contains nat_cmp c.args.taken.now id in
+    let is_taken : ℕ → Bool = is_one_of c.args.taken.now in
     let d = view c.args.value.now in
     let numbers = c.in_ok-numbers.ensures in
     let n = numbers_seen c.in_ok-numbers.numbers in
@@ -237,7 +236,7 @@ returns-in_err-fields-clause-tried g c = inr refl
 
 pub returns-in_err-filters-clause-tried : goal.returns-in_err-filters-clause-tried
 returns-in_err-filters-clause-tried g c =
-    let is_taken : ℕ → Bool = λ id. contains nat_cmp c.args.taken.now id in
+    let is_taken : ℕ → Bool = is_one_of c.args.taken.now in
     let numbers = c.in_ok-numbers.ensures in
     let f = fields_seen c.in_ok-fields.fields in
     let begun = begins is_taken (view c.args.value.now) (view c.in_ok-numbers.numbers.condition.now) (numbers_seen c.in_ok-numbers.numbers) f numbers.ok numbers.condition c.in_ok-fields.ensures.ok in
@@ -245,7 +244,7 @@ returns-in_err-filters-clause-tried g c =
 
 pub returns-in_err-lists-clause-tried : goal.returns-in_err-lists-clause-tried
 returns-in_err-lists-clause-tried g c =
-    let is_taken : ℕ → Bool = λ id. contains nat_cmp c.args.taken.now id in
+    let is_taken : ℕ → Bool = is_one_of c.args.taken.now in
     let numbers = c.in_ok-numbers.ensures in
     let f = fields_seen c.in_ok-fields.fields in
     let begun = begins is_taken (view c.args.value.now) (view c.in_ok-numbers.numbers.condition.now) (numbers_seen c.in_ok-numbers.numbers) f numbers.ok numbers.condition c.in_ok-fields.ensures.ok in
@@ -253,7 +252,7 @@ returns-in_err-lists-clause-tried g c =
 
 pub returns-in_err-test_lists-clause-tried : goal.returns-in_err-test_lists-clause-tried
 returns-in_err-test_lists-clause-tried g c =
-    let is_taken : ℕ → Bool = λ id. contains nat_cmp c.args.taken.now id in
+    let is_taken : ℕ → Bool = is_one_of c.args.taken.now in
     let numbers = c.in_ok-numbers.ensures in
     let f = fields_seen c.in_ok-fields.fields in
     let begun = begins is_taken (view c.args.value.now) (view c.in_ok-numbers.numbers.condition.now) (numbers_seen c.in_ok-numbers.numbers) f numbers.ok numbers.condition c.in_ok-fields.ensures.ok in
@@ -261,7 +260,7 @@ returns-in_err-test_lists-clause-tried g c =
 
 pub returns-in_err-test_frames-clause-tried : goal.returns-in_err-test_frames-clause-tried
 returns-in_err-test_frames-clause-tried g c =
-    let is_taken : ℕ → Bool = λ id. contains nat_cmp c.args.taken.now id in
+    let is_taken : ℕ → Bool = is_one_of c.args.taken.now in
     let numbers = c.in_ok-numbers.ensures in
     let f = fields_seen c.in_ok-fields.fields in
     let begun = begins is_taken (view c.args.value.now) (view c.in_ok-numbers.numbers.condition.now) (numbers_seen c.in_ok-numbers.numbers) f numbers.ok numbers.condition c.in_ok-fields.ensures.ok in
@@ -269,7 +268,7 @@ returns-in_err-test_frames-clause-tried g c =
 
 pub returns-in_err-tests-clause-tried : goal.returns-in_err-tests-clause-tried
 returns-in_err-tests-clause-tried g c =
-    let is_taken : ℕ → Bool = λ id. contains nat_cmp c.args.taken.now id in
+    let is_taken : ℕ → Bool = is_one_of c.args.taken.now in
     let numbers = c.in_ok-numbers.ensures in
     let f = fields_seen c.in_ok-fields.fields in
     let begun = begins is_taken (view c.args.value.now) (view c.in_ok-numbers.numbers.condition.now) (numbers_seen c.in_ok-numbers.numbers) f numbers.ok numbers.condition c.in_ok-fields.ensures.ok in
@@ -277,7 +276,7 @@ returns-in_err-tests-clause-tried g c =
 
 pub returns-in_err-test_tabs-clause-tried : goal.returns-in_err-test_tabs-clause-tried
 returns-in_err-test_tabs-clause-tried g c =
-    let is_taken : ℕ → Bool = λ id. contains nat_cmp c.args.taken.now id in
+    let is_taken : ℕ → Bool = is_one_of c.args.taken.now in
     let numbers = c.in_ok-numbers.ensures in
     let f = fields_seen c.in_ok-fields.fields in
     let begun = begins is_taken (view c.args.value.now) (view c.in_ok-numbers.numbers.condition.now) (numbers_seen c.in_ok-numbers.numbers) f numbers.ok numbers.condition c.in_ok-fields.ensures.ok in
@@ -285,7 +284,7 @@ returns-in_err-test_tabs-clause-tried g c =
 
 pub returns-in_err-action-clause-tried : goal.returns-in_err-action-clause-tried
 returns-in_err-action-clause-tried g c =
-    let is_taken : ℕ → Bool = λ id. contains nat_cmp c.args.taken.now id in
+    let is_taken : ℕ → Bool = is_one_of c.args.taken.now in
     let numbers = c.in_ok-numbers.ensures in
     let f = fields_seen c.in_ok-fields.fields in
     let begun = begins is_taken (view c.args.value.now) (view c.in_ok-numbers.numbers.condition.now) (numbers_seen c.in_ok-numbers.numbers) f numbers.ok numbers.condition c.in_ok-fields.ensures.ok in
@@ -293,7 +292,7 @@ returns-in_err-action-clause-tried g c =
 
 pub returns-in_err-condition-clause-tried : goal.returns-in_err-condition-clause-tried
 returns-in_err-condition-clause-tried g c =
-    let is_taken : ℕ → Bool = λ id. contains nat_cmp c.args.taken.now id in
+    let is_taken : ℕ → Bool = is_one_of c.args.taken.now in
     let numbers = c.in_ok-numbers.ensures in
     let f = fields_seen c.in_ok-fields.fields in
     let begun = begins is_taken (view c.args.value.now) (view c.in_ok-numbers.numbers.condition.now) (numbers_seen c.in_ok-numbers.numbers) f numbers.ok numbers.condition c.in_ok-fields.ensures.ok in
@@ -301,7 +300,7 @@ returns-in_err-condition-clause-tried g c =
 
 pub returns-clause-tried : goal.returns-clause-tried
 returns-clause-tried g c =
-    let is_taken : ℕ → Bool = λ id. contains nat_cmp c.args.taken.now id in
+    let is_taken : ℕ → Bool = is_one_of c.args.taken.now in
     let numbers = c.in_ok-numbers.ensures in
     let f = fields_seen c.in_ok-fields.fields in
     let begun = begins is_taken (view c.args.value.now) (view c.in_ok-numbers.numbers.condition.now) (numbers_seen c.in_ok-numbers.numbers) f numbers.ok numbers.condition c.in_ok-fields.ensures.ok in
