@@ -1,4 +1,4 @@
-ghost use Rattle.std.specs.Prelude.{◌≡◌, All, IsTrue, length};
+ghost use Rattle.std.specs.Prelude.{◌≡◌, All, IsTrue, List, length};
 ghost use Rattle.std.specs.List.{AllZip};
 ghost use Rattle.std.specs.Thread.{IsSync, IsSend};
 
@@ -9,7 +9,8 @@ use std::thread::{Threads, join_mut};
 /// Does the writer's work and that of each seat, each once, beside each other, and returns when all have ended. Each
 /// seat has the tool at its place. It cannot be refused: what gets no thread is done by the thread that calls.
 ///
-/// The calling thread does one part itself. What is idle or quick gets no thread.
+/// The calling thread does one part itself. What is idle or quick gets no thread, so a round with a single request starts
+/// none.
 pub fn round_with_tools<
     R: Threads + Wait + Sync,
     C: Sync,
@@ -40,6 +41,20 @@ pub fn round_with_tools<
     }
 }
 
+// Whether no seat has anything to do.
+fn are_idle<C, T, S: ToolSeat<C, T>>(shared: &C, seats: &[S]) -> bool
+    requires { All (S.can_work shared.now) seats.now }
+    ensures worked { IsTrue result → AllZip (S.worked shared.now) seats.now seats.now }
+    ensures used { IsTrue result → (tools : List T) → length tools ≡ length seats.now → AllZip S.used tools tools }
+{
+    for seat in seats {
+        if !seat.is_idle(shared) {
+            return false;
+        }
+    }
+    true
+}
+
 // The work of each seat with the tool at its place.
 #[cycle(seats)]
 fn work_all<R: Threads + Sync, C: Sync, T: Send, S: ToolSeat<C, T> + Send, G: Gate + Sync>(
@@ -62,7 +77,7 @@ fn work_all<R: Threads + Sync, C: Sync, T: Send, S: ToolSeat<C, T> + Send, G: Ga
     };
     if first.is_idle(shared) {
         work_all(rt, gate, shared, rest, others);
-    } else if rest.is_empty() {
+    } else if are_idle(shared, rest) {
         first.work(shared, tool, gate);
     } else {
         work_beside(rt, gate, shared, first, tool, rest, others);

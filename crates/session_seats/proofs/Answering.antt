@@ -1,9 +1,9 @@
 -- A round, from what its parts do to what is written of it.
-use Rattle.std.proofs.Common.{◌≡◌, ◌<◌, ◌≤◌, ◌∙◌, ℕ, List, [], ◌∷◌, length, get_or, replicate, false, Option, Result, Ok, Err, OnOk, sym, ap, subst, arith, length-append, All}
+use Rattle.std.proofs.Common.{◌≡◌, ◌<◌, ◌≤◌, ◌∙◌, ◌++◌, ℕ, List, [], ◌∷◌, length, get_or, replicate, false, Option, Result, Ok, Err, OnOk, refl, sym, ap, subst, arith, length-append, All}
 use Rattle.std.specs.List.{AllZip}
 use Rattle.std.specs.Io.KnownBytes.{Appends}
 use Rattle.std.proofs.lemmas.List.{get_or-replicate, length-replicate}
-use Rattle.std.proofs.lemmas.List.Elements.{All-nil, All-cons}
+use Rattle.std.proofs.lemmas.List.Elements.{All-nil, All-cons, All-head, All-rest}
 use mathlib.Core.List.{IsPrefix}
 use Rattle.dnr_io.specs.Sink.{AppendsPart}
 use Rattle.generation.specs.Basis.{Basis}
@@ -13,33 +13,47 @@ use Rattle.session_rounds.specs.Rounds.{Settled, RoundAnswered}
 use Rattle.session_rounds.specs.declared.read_line.ReadLine.{ReadLine}
 use Rattle.session_rounds.proofs.Whole.{numbers_from}
 use Rattle.session_seats.specs.Rounds.{AreWithin, WritesRound, CutsRound}
-use Rattle.session_seats.specs.Seats.{DeskSeen, AreSeats, HasBegun, HasAnswered, HasEnded, IsTrusted}
+use Rattle.session_seats.specs.Seats.{DeskSeen, AreSeats, HasBegun, HasAnswered, HasAnsweredAll, HasEnded, HasWorked, IsTrusted, asking, places_of, share}
+use Rattle.session_seats.specs.Reading.{ReadRound}
+use Rattle.session_seats.specs.Said.{Said}
 use Rattle.session_seats.specs.Writing.{OfficeSeen, HasWritten, WriterSaysAll}
 use Rattle.session_seats.specs.declared.round_line.RoundLine.{RoundLine}
 use Rattle.session_seats.proofs.Parts.{answered_to, have_begun, still_seats, all_trusted, may_begin}
 
 -- ---- the work of a round
 
--- what a seat has done
-abbrev pub HasWorked : Basis → List ReadLine → DeskSeen → DeskSeen → Type 0
-HasWorked opening reads before now = HasAnswered opening reads now × (now.seats ≡ before.seats)
+pub may_work : (floor : List Entry) (count : ℕ) (before now : List DeskSeen) → 0 < count → AllZip (HasBegun floor) before now → AreSeats count before → All (λ d. (d.answers ≡ []) × (0 < d.seats)) now
+may_work floor count before now some begun seats =
+    may_begin count now some (have_begun floor before now begun) (still_seats (HasBegun floor) count before now (λ b n one. one.stays) begun seats)
 
-pub may_work : (count : ℕ) (before now : List DeskSeen) → 0 < count → AllZip HasBegun before now → AreSeats count before → All (λ d. (d.answers ≡ []) × (0 < d.seats)) now
-may_work count before now some begun seats =
-    may_begin count now some (have_begun before now begun) (still_seats HasBegun count before now (λ b n one. one.1) begun seats)
+pub all_answered : (opening : Basis) (round : ReadRound) (before now : List DeskSeen) → AllZip (HasWorked opening round) before now → All (HasAnswered opening round.reads) now
+all_answered opening round [] [] zip = All-nil (HasAnswered opening round.reads)
+all_answered opening round [] (n ∷ now) zip = absurd zip
+all_answered opening round (b ∷ before) [] zip = absurd zip
+all_answered opening round (b ∷ before) (n ∷ now) zip = All-cons (HasAnswered opening round.reads) n now zip.0.answered (all_answered opening round before now zip.1)
 
-pub all_answered : (opening : Basis) (reads : List ReadLine) (before now : List DeskSeen) → AllZip (HasWorked opening reads) before now → All (HasAnswered opening reads) now
-all_answered opening reads [] [] zip = All-nil (HasAnswered opening reads)
-all_answered opening reads [] (n ∷ now) zip = absurd zip
-all_answered opening reads (b ∷ before) [] zip = absurd zip
-all_answered opening reads (b ∷ before) (n ∷ now) zip = All-cons (HasAnswered opening reads) n now zip.0.0 (all_answered opening reads before now zip.1)
+-- a seat that had answered nothing has answered all of its share
+answered_all : (opening : Basis) (round : ReadRound) (before now : DeskSeen) → before.answers ≡ [] → HasWorked opening round before now → HasAnsweredAll round now
+answered_all opening round before now fresh worked work =
+    let stays = worked.served.stays in
+    (worked.served.all work).1 ∙ ap (λ (said : List Said). places_of said ++ asking round.reads (share before.seats before.seat round.dealt)) fresh
+    ∙ ap (λ (n : ℕ). asking round.reads (share n before.seat round.dealt)) (sym stays.seats) ∙ ap (λ (n : ℕ). asking round.reads (share now.seats n round.dealt)) (sym stays.seat)
 
-pub seats_worked : (opening : Basis) (reads : List ReadLine) (count : ℕ) (before middle now : List DeskSeen) → AllZip HasBegun before middle → AllZip (HasWorked opening reads) middle now → AreSeats count before → AreSeats count now
-seats_worked opening reads count before middle now begun worked seats =
-    still_seats (HasWorked opening reads) count middle now (λ b n one. one.1) worked (still_seats HasBegun count before middle (λ b n one. one.1) begun seats)
+pub all_answered_all : (opening : Basis) (round : ReadRound) (before now : List DeskSeen) → All (λ d. d.answers ≡ []) before → AllZip (HasWorked opening round) before now → All (HasAnsweredAll round) now
+all_answered_all opening round [] [] fresh zip = All-nil (HasAnsweredAll round)
+all_answered_all opening round [] (n ∷ now) fresh zip = absurd zip
+all_answered_all opening round (b ∷ before) [] fresh zip = absurd zip
+all_answered_all opening round (b ∷ before) (n ∷ now) fresh zip =
+    All-cons (HasAnsweredAll round) n now (answered_all opening round b n (All-head (λ (d : DeskSeen). d.answers ≡ []) b before fresh) zip.0)
+    (all_answered_all opening round before now (All-rest (λ (d : DeskSeen). d.answers ≡ []) b before (b ∷ before) refl fresh) zip.1)
+
+pub seats_worked : (opening : Basis) (round : ReadRound) (floor : List Entry) (count : ℕ) (before middle now : List DeskSeen) → AllZip (HasBegun floor) before middle → AllZip (HasWorked opening round) middle now → AreSeats count before
+    → AreSeats count now
+seats_worked opening round floor count before middle now begun worked seats =
+    still_seats (HasWorked opening round) count middle now (λ b n one. one.served.stays) worked (still_seats (HasBegun floor) count before middle (λ b n one. one.stays) begun seats)
 
 pub seats_ended : (opening : Basis) (reads : List ReadLine) (end : List Entry) (count : ℕ) (before now : List DeskSeen) → AllZip (HasEnded opening reads end) before now → AreSeats count before → AreSeats count now
-seats_ended opening reads end count before now ended seats = still_seats (HasEnded opening reads end) count before now (λ b n one. one.1) ended seats
+seats_ended opening reads end count before now ended seats = still_seats (HasEnded opening reads end) count before now (λ b n one. one.stays) ended seats
 
 -- a writer that goes on from these has written after them
 pub written_from : (opening : Basis) (first list : List Entry) (lines : List RoundLine) (office : OfficeSeen) → list ≡ first → HasWritten opening list lines office → HasWritten opening first lines office

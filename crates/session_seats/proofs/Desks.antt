@@ -1,5 +1,5 @@
 -- What a seat has answered, with one answer more, and a round, with one line more.
-use Rattle.std.proofs.Common.{◌≡◌, ◌<◌, ◌≤◌, ◌+◌, ◌-◌, ◌^◌, ℕ, List, [], ◌∷◌, ◌++◌, length, get_or, Bool, true, false, cond, nat_le, min, Option, Some, refl, sym, ap, ◌∙◌, subst, arith, All}
+use Rattle.std.proofs.Common.{◌≡◌, ◌<◌, ◌≤◌, ◌+◌, ◌-◌, ◌^◌, ℕ, List, [], ◌∷◌, ◌++◌, length, get_or, Bool, true, false, cond, nat_le, min, Option, Some, refl, sym, ap, ◌∙◌, subst, arith, All, suc, append-nil, append_assoc, add-zero, zero-add}
 use Rattle.std.specs.Prelude.{IsTrue, IsFalse, ◌||◌}
 use Rattle.std.proofs.lemmas.Bool.{or_parts, leb-false}
 use Rattle.std.proofs.lemmas.List.{length_push, length-map}
@@ -7,21 +7,21 @@ use Rattle.std.proofs.lemmas.List.Elements.{All-nil, All-push, All-same, All-con
 use mathlib.Core.List.{IsPrefix}
 use Rattle.generation.specs.Basis.{Basis}
 use Rattle.published.proofs.Beginnings.{begins_itself}
-use Rattle.published.specs.Pass.{PassSeen}
+use Rattle.published.specs.Pass.{PassSeen, IsBehind}
 use Rattle.session_spec.specs.Rounds.{Held, asks, is_full, is_sync}
 use Rattle.session_rounds.specs.Lines.{read_seen}
 use Rattle.session_rounds.specs.declared.read_line.ReadLine.{ReadLine}
 use Rattle.update_spec.specs.Entries.{Entry}
-use Rattle.session_seats.specs.Reading.{IsTaken, ReadRound, asked_in, held_with, seen_line, seen_lines}
+use Rattle.session_seats.specs.Reading.{IsTaken, ReadRound, asked_in, dealt_at, dealt_from, held_with, is_dealt, seen_line, seen_lines}
 use Rattle.session_seats.specs.declared.round_line.RoundLine.{RoundLine}
-use Rattle.session_seats.specs.Seats.{Answers, DeskSeen, HasAnswered, seen_of}
+use Rattle.session_seats.specs.Seats.{Answers, DeskSeen, HasAnswered, IsUntold, seen_of}
 use Rattle.session_seats.specs.Said.{Said}
 use Rattle.session_seats.proofs.Seats.{all_further}
 use Rattle.session_seats.proofs.Settled.{at_map}
 
 -- a seat that has answered nothing
 pub none_answered : (opening : Basis) (reads : List ReadLine) (desk : DeskSeen) → desk.answers ≡ [] → HasAnswered opening reads desk
-none_answered opening reads desk none = subst (All (Answers opening reads desk.seen)) (sym none) (All-nil (Answers opening reads desk.seen))
+none_answered opening reads desk none = subst (All (Answers opening reads (seen_of desk.pass))) (sym none) (All-nil (Answers opening reads (seen_of desk.pass)))
 
 -- one answer more, where there was memory for it
 pub one_kept : (opening : Basis) (reads : List ReadLine) (seen : List Entry) (before now : List Said) (said : Said) (there : Bool) → now ≡ cond there (before ++ said ∷ []) before
@@ -40,9 +40,14 @@ goes_on : (old new : List Entry) (learnt : Bool) → (IsTrue learnt → IsPrefix
 goes_on old new true later same = later refl
 goes_on old new false later same = subst (λ (list : List Entry). IsPrefix old list) (sym (same refl)) (begins_itself old)
 
-pub learns_on : (seen : List Entry) (pass : Option PassSeen) (was now : PassSeen) (learnt : Bool) → seen_of pass ≡ seen → pass ≡ Some was → (IsTrue learnt → IsPrefix was.seen now.seen) → (IsFalse learnt → now.seen ≡ was.seen)
-    → IsPrefix seen now.seen
-learns_on seen pass was now learnt view is later same = subst (λ (list : List Entry). IsPrefix list now.seen) (sym (ap seen_of is) ∙ view) (goes_on was.seen now.seen learnt later same)
+pub learns_on : (view pass : Option PassSeen) (was now : PassSeen) (learnt : Bool) → pass ≡ view → pass ≡ Some was → (IsTrue learnt → IsPrefix was.seen now.seen) → (IsFalse learnt → now.seen ≡ was.seen)
+    → IsPrefix (seen_of view) now.seen
+learns_on view pass was now learnt same is later still =
+    subst (λ (p : Option PassSeen). IsPrefix (seen_of p) now.seen) (sym is ∙ same) (goes_on was.seen now.seen learnt later still)
+
+-- a pass that does not learn tells why
+pub untold_of : (view pass : Option PassSeen) (was now : PassSeen) (note : List Entry) → pass ≡ view → pass ≡ Some was → IsBehind was now note → IsUntold view (Some now) note
+untold_of view pass was now note same is behind = subst (λ (p : Option PassSeen). IsUntold p (Some now) note) (sym is ∙ same) behind
 
 -- the next turn of a seat is nearer to the end
 pub turns_on : (count turn step next : ℕ) → turn < count → count < 2 ^ 64 → 0 < step → next ≡ min (turn + step) (2 ^ 64 - 1) → count - next < count - turn
@@ -69,6 +74,21 @@ room lines bytes space =
 
 pub has_room : (round view : ReadRound) → view ≡ round → is_full round.held ≡ false → (view.held.lines < 1024) × (view.held.bytes < 8388608)
 has_room round view same space = room view.held.lines view.held.bytes (subst (λ (r : ReadRound). is_full r.held ≡ false) (sym same) space)
+
+-- the places that are dealt, with one line more
+pub dealt_more : (place : ℕ) (lines : List RoundLine) (line : RoundLine) → dealt_from place (lines ++ line ∷ []) ≡ dealt_from place lines ++ dealt_at (place + length lines) line
+dealt_more place [] line = append-nil (dealt_at place line) ∙ ap (λ (n : ℕ). dealt_at n line) (sym (add-zero place))
+dealt_more place (first ∷ lines) line =
+    let next : place + 1 + length lines ≡ place + suc (length lines) = omega arith in
+    ap (λ (l : List ℕ). dealt_at place first ++ l) (dealt_more (place + 1) lines line ∙ ap (λ (n : ℕ). dealt_from (place + 1) lines ++ dealt_at n line) next)
+    ∙ sym (append_assoc (dealt_at place first) (dealt_from (place + 1) lines) (dealt_at (place + suc (length lines)) line))
+
+pub dealt_on : (before now : List RoundLine) (line : RoundLine) (dealt grown : List ℕ) (place : ℕ) (is : Bool) → now ≡ before ++ line ∷ [] → dealt ≡ dealt_from 0 before → place ≡ length before → is ≡ is_dealt line
+    → grown ≡ dealt ++ cond is (place ∷ []) [] → grown ≡ dealt_from 0 now
+dealt_on before now line dealt grown place is longer same here tells grows =
+    let behind : cond is (place ∷ []) [] ≡ dealt_at (0 + length before) line =
+    ap (λ (b : Bool). cond b (place ∷ []) []) tells ∙ ap (λ (n : ℕ). dealt_at n line) (here ∙ sym (zero-add (length before))) in
+    grows ∙ ap (λ (l : List ℕ). l ++ cond is (place ∷ []) []) same ∙ ap (λ (l : List ℕ). dealt_from 0 before ++ l) behind ∙ sym (dealt_more 0 before line) ∙ ap (dealt_from 0) (sym longer)
 
 -- it keeps its bounds without the line and with it
 abbrev pub IsBounded : List RoundLine → ℕ → Type 0

@@ -14,4 +14,5 @@ pub mod Taken
 pub mod Answering
 pub mod Telling
 pub mod Log
+pub mod Served
 pub mod Syncs

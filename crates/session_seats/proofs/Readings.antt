@@ -3,8 +3,7 @@ use Rattle.std.proofs.Common.{◌≡◌, ◌≢◌, ◌⊎◌, ◌≤◌, ◌+�
 use Rattle.std.specs.Prelude.{◌||◌, IfOk}
 use Rattle.dnr_base.specs.Faults.{Rose}
 use Rattle.line_spec.specs.IsFault.{IsFaultOfLine}
-use Rattle.dnr_base.specs.declared.request.Request.{Request}
-use Rattle.line_spec.specs.Line.{Command, blank, sync, request, explain, update, batch, command_of, IsWithinLimits}
+use Rattle.line_spec.specs.Line.{Command, blank, sync, request, explain, update, batch, command_of}
 use Rattle.line_spec.specs.Stops.{StopsInLine}
 use Rattle.line_spec.specs.declared.line_fault.LineFault.{LineFault}
 use Rattle.line_spec.specs.declared.line_fault.LineFault.TheVariants.{NoMemory}
@@ -12,13 +11,12 @@ use Rattle.lines_ahead.specs.Cut.{CutSeen, IsPlainLine}
 use Rattle.lines_ahead.specs.Plain.{IsRequestAtMost}
 use Rattle.script_read.specs.Seen.{command_seen}
 use Rattle.script_read.specs.declared.command.Command as code
-use Rattle.script_read.specs.declared.command.Command.TheVariants as command
 use Rattle.session_rounds.specs.declared.read_line.ReadLine.{ReadLine}
-use Rattle.session_rounds.specs.Lines.{read_seen}
+use Rattle.session_rounds.specs.Lines.{read_seen, is_asked, is_asking}
 use Rattle.session_serve.proofs.AtFault.{stopped_other}
 use Rattle.session_serve.proofs.Told.{line_faulty}
 use Rattle.session_spec.specs.Rounds.{Held, is_sync, asks, is_full, with_line, ends_round}
-use Rattle.session_seats.specs.Reading.{HasRead, HasTaken, IsTaken, LineReads, PlainReads, held_with, plain_read, seen_line}
+use Rattle.session_seats.specs.Reading.{HasRead, HasTaken, IsTaken, LineReads, held_with, plain_read, seen_line}
 use Rattle.session_seats.specs.declared.round_line.RoundLine.{RoundLine}
 use Rattle.session_seats.specs.declared.round_line.RoundLine.TheVariants as round
 
@@ -86,16 +84,9 @@ plain_read_so line was is plain calm =
       asks = ap asks same;
     }
 
--- a request is read from it as it is seen
-pub plain_reads_as : (line : CutSeen) (number : ℕ) (asked : code.Command) (r : Request) → number ≡ line.number → asked ≡ command.Request r → command_of line.number line.bytes ≡ Ok (command_seen asked)
-    → IsWithinLimits (command_seen asked) → PlainReads line (record { number = number; read = Ok (command.Request r) })
-plain_reads_as line number asked r same is reads within =
-    let as_read : Result Command LineFault → ReadLine = λ (read : Result Command LineFault). record { number = line.number; read = plain_read read } in
-    let numbered : ℕ → ReadLine = λ (n : ℕ). record { number = n; read = Ok (command.Request r) } in
-    record {
-      within = subst (λ (a : code.Command). IsWithinLimits (command_seen a)) is within;
-      same = ap as_read reads ∙ ap (λ (a : code.Command). as_read (Ok (command_seen a))) is ∙ ap numbered (sym same);
-    }
+-- whether it asks one, as it is seen
+pub plain_asks : (line : CutSeen) → IsPlainLine line → is_asking (seen_line (round.Plain line)) ≡ is_asked (command_of line.number line.bytes)
+plain_asks line plain = ap is_asked (plain_reads (command_of line.number line.bytes) plain.most)
 
 -- ---- a round
 

@@ -10,7 +10,7 @@ use Rattle.published.proofs.Beginnings.{begins_on}
 use Rattle.update_spec.specs.Entries.{Entry}
 use Rattle.session_rounds.specs.Lines.{read_seen, IsAnswer}
 use Rattle.session_rounds.specs.declared.read_line.ReadLine.{ReadLine}
-use Rattle.session_seats.specs.Seats.{SaysAt, Answers, AllAnswer, DeskSeen, IsTrusted, SaysWithin, MaySay}
+use Rattle.session_seats.specs.Seats.{SaysAt, Answers, AllAnswer, DeskSeen, IsTrusted, SaysWithin, MaySay, seen_of}
 use Rattle.session_seats.specs.Said.{Said}
 
 -- the element at a place, whatever stands for one that is not there
@@ -69,4 +69,4 @@ pub may_say : (opening : Basis) (reads : List ReadLine) (end : List Entry) (desk
 may_say opening reads end desk place line None inside there trusted ready among = tt
 may_say opening reads end desk place line (Some said) inside there trusted ready among =
     let all = trusted (ready refl) in
-    within opening reads end desk.seen place line said inside there among.1 all.learnt (All-contains (Answers opening reads desk.seen) desk.answers said all.all among.0)
+    within opening reads end (seen_of desk.pass) place line said inside there among.1 all.learnt (All-contains (Answers opening reads (seen_of desk.pass)) desk.answers said all.all among.0)

@@ -1,5 +1,5 @@
 -- The lines of a round as they read, and one line more.
-use Rattle.std.specs.Prelude.{◌≡◌, ◌⊎◌, ℕ, ◌+◌, List, [], ◌∷◌, ◌++◌, map, Result, Ok, Err}
+use Rattle.std.specs.Prelude.{◌≡◌, ◌⊎◌, ℕ, ◌+◌, List, [], ◌∷◌, ◌++◌, map, Bool, true, if◌then◌else◌, Result, Ok, Err}
 use Rattle.line_spec.specs.Line.{Command, blank, sync, request, explain, update, batch, command_of}
 use Rattle.line_spec.specs.Stops.{StopsInLine}
 use Rattle.line_spec.specs.declared.line_fault.LineFault.{LineFault}
@@ -8,7 +8,7 @@ use Rattle.lines_ahead.specs.Cut.{CutSeen, IsPlainLine}
 use Rattle.script_read.specs.declared.command.Command as code
 use Rattle.script_read.specs.declared.command.Command.TheVariants as command
 use Rattle.session_spec.specs.Rounds.{Held, holds_nothing, is_sync, asks}
-use Rattle.session_rounds.specs.Lines.{read_seen, IsLine}
+use Rattle.session_rounds.specs.Lines.{read_seen, is_asking, IsLine}
 use Rattle.session_rounds.specs.declared.read_line.ReadLine.{ReadLine}
 use Rattle.session_seats.specs.declared.round_line.RoundLine.{RoundLine}
 use Rattle.session_seats.specs.declared.round_line.RoundLine.TheVariants as round
@@ -47,16 +47,31 @@ pub record PlainReads (line : CutSeen) (read : ReadLine) : Type 0 where
   pub within : IsLine read
   pub same : seen_line (round.Plain line) ≡ read
 
+-- the line is dealt to a seat: it asks one, or is plain, so that a seat has to read it
+abbrev pub is_dealt : RoundLine → Bool
+is_dealt (round.Read line) = is_asking line.value
+is_dealt (round.Plain line) = true
+
+-- its place, where it is
+abbrev pub dealt_at : ℕ → RoundLine → List ℕ
+dealt_at place line = if is_dealt line then place ∷ [] else []
+
 -- ---- a round
 
--- the lines of a round so far, what they read as, and how much it holds
+-- the lines of a round so far, what they read as, the places of those that are dealt to seats, and how much it holds
 pub record ReadRound : Type 0 where
   pub lines : List RoundLine
   pub reads : List ReadLine
+  pub dealt : List ℕ
   pub held : Held
 
 abbrev pub nothing_read : ReadRound
-nothing_read = record { lines = []; reads = []; held = holds_nothing }
+nothing_read = record { lines = []; reads = []; dealt = []; held = holds_nothing }
+
+-- the places of those of the lines that are dealt, where the first stands at this one
+abbrev pub dealt_from : ℕ → List RoundLine → List ℕ
+dealt_from place [] = []
+dealt_from place (line ∷ lines) = dealt_at place line ++ dealt_from (place + 1) lines
 
 -- how many of the lines ask a seat
 abbrev pub asked_in : List ReadLine → ℕ

@@ -1,19 +1,44 @@
 -- What a seat answers to the lines of a round.
-use Rattle.std.specs.Prelude.{◌≡◌, ◌<◌, ◌≤◌, ℕ, List, [], length, get_or, Bool, Option, Some, None, All, IsTrue, IfSome, Result}
+use Rattle.std.specs.Prelude.{◌≡◌, ◌<◌, ◌≤◌, ◌+◌, ◌-◌, ◌++◌, ℕ, zero, suc, List, [], ◌∷◌, length, map, filter, get_or, Bool, false, not, ◌&&◌, Option, Some, None, All, IsTrue, IsFalse, IsSome, IfSome, Result}
 use mathlib.Core.List.{IsPrefix}
+use Rattle.dnr_base.specs.Faults.{Rose}
 use Rattle.generation.specs.Basis.{Basis}
-use Rattle.published.specs.Pass.{PassSeen}
+use Rattle.published.specs.Pass.{PassSeen, IsBehind}
 use Rattle.update_spec.specs.Entries.{Entry}
 use Rattle.line_spec.specs.Line.{Command}
 use Rattle.line_spec.specs.declared.line_fault.LineFault.{LineFault}
-use Rattle.session_rounds.specs.Lines.{read_seen, IsAnswer}
+use Rattle.session_rounds.specs.Lines.{read_seen, is_asking, IsAnswer}
 use Rattle.session_rounds.specs.declared.read_line.ReadLine.{ReadLine}
+use Rattle.session_seats.specs.Reading.{ReadRound}
 use Rattle.session_seats.specs.Said.{Said}
+
+-- ---- passes
 
 -- what a pass has seen, where there is one
 abbrev pub seen_of : Option PassSeen → List Entry
 seen_of None = []
 seen_of (Some pass) = pass.seen
+
+-- the pass is the same, and has missed no fewer copies
+abbrev pub IsLater : Option PassSeen → Option PassSeen → Type 0
+IsLater None None = Unit {0}
+IsLater None (Some now) = ⊥
+IsLater (Some before) None = ⊥
+IsLater (Some before) (Some now) = before.missed ≤ now.missed
+
+-- there was no copy to enter, since there is no pass, or as it counted
+abbrev pub HadNoCopy : Option PassSeen → Option PassSeen → Type 0
+HadNoCopy None now = Unit {0}
+HadNoCopy (Some before) None = ⊥
+HadNoCopy (Some before) (Some now) = Rose before.missed now.missed
+
+-- the seat was not told of the note: it has no pass, or there was no copy to enter, or one that the note is ahead of
+abbrev pub IsUntold : Option PassSeen → Option PassSeen → List Entry → Type 0
+IsUntold None now note = Unit {0}
+IsUntold (Some before) None note = ⊥
+IsUntold (Some before) (Some now) note = IsBehind before now note
+
+-- ---- answers
 
 -- This is said to a line of this number, at this place, that asks for this: an answer after entries that begin what was
 -- seen.
@@ -31,11 +56,13 @@ pub record Answers (opening : Basis) (reads : List ReadLine) (seen : List Entry)
   pub there : line ≡ get_or reads said.place line
   pub says : SaysAt opening said.place line.number (read_seen line.read) seen said
 
--- a seat: how many there are, what its pass has seen, whether its answers count, and these
+-- A seat: which it is and of how many, its pass, whether its answers count, and these; and whether memory ran out.
 pub record DeskSeen : Type 0 where
+  pub seat : ℕ
   pub seats : ℕ
-  pub seen : List Entry
+  pub pass : Option PassSeen
   pub ready : Bool
+  pub stopped : Bool
   pub answers : List Said
 
 -- the answers of a seat count where it has learnt what the round ended with: they and this begin what it has seen
@@ -44,7 +71,7 @@ pub record AllAnswer (opening : Basis) (reads : List ReadLine) (end seen : List 
   pub all : All (Answers opening reads seen) answers
 
 abbrev pub IsTrusted : Basis → List ReadLine → List Entry → DeskSeen → Type 0
-IsTrusted opening reads end desk = IsTrue desk.ready → AllAnswer opening reads end desk.seen desk.answers
+IsTrusted opening reads end desk = IsTrue desk.ready → AllAnswer opening reads end (seen_of desk.pass) desk.answers
 
 -- What a seat said to a line, if anything, is an answer after entries that begin these, where it has no more of them.
 pub record SaysWithin (opening : Basis) (line : ReadLine) (end : List Entry) (said : Said) : Type 0 where
@@ -56,18 +83,98 @@ pub record SaysWithin (opening : Basis) (line : ReadLine) (end : List Entry) (sa
 abbrev pub MaySay : Basis → ReadLine → List Entry → Option Said → Type 0
 MaySay opening line end said = IfSome said (SaysWithin opening line end)
 
--- each is one of so many
-abbrev pub AreSeats : ℕ → List DeskSeen → Type 0
-AreSeats count desks = All (λ desk. desk.seats ≡ count) desks
+-- ---- what is dealt to a seat
 
--- a seat that begins a round has answered nothing
-abbrev pub HasBegun : DeskSeen → DeskSeen → Type 0
-HasBegun before now = (now.answers ≡ []) × (now.seats ≡ before.seats)
+-- the line at this place asks a seat
+abbrev pub asks_at : List ReadLine → ℕ → Bool
+asks_at [] place = false
+asks_at (line ∷ lines) zero = is_asking line
+asks_at (line ∷ lines) (suc place) = asks_at lines place
+
+-- those of the places whose lines ask a seat
+abbrev pub asking : List ReadLine → List ℕ → List ℕ
+asking reads places = filter (asks_at reads) places
+
+-- the share of a seat: of so many places in turn the one behind so few others, and each so-manieth from there
+abbrev pub share : ℕ → ℕ → List ℕ → List ℕ
+share seats before [] = []
+share seats zero (place ∷ places) = place ∷ share seats (seats - 1) places
+share seats (suc before) (place ∷ places) = share seats before places
+
+-- ---- what a seat does
+
+-- each is the one at its place, of so many
+abbrev pub AreSeatsFrom : ℕ → ℕ → List DeskSeen → Type 0
+AreSeatsFrom seat count [] = Unit {0}
+AreSeatsFrom seat count (desk ∷ desks) = (desk.seat ≡ seat) × (desk.seats ≡ count) × AreSeatsFrom (seat + 1) count desks
+
+abbrev pub AreSeats : ℕ → List DeskSeen → Type 0
+AreSeats count desks = AreSeatsFrom 0 count desks
+
+-- the first so many of the seats have a pass
+abbrev pub HavePasses : ℕ → List DeskSeen → Type 0
+HavePasses count [] = Unit {0}
+HavePasses zero (desk ∷ desks) = Unit {0}
+HavePasses (suc count) (desk ∷ desks) = IsSome desk.pass × HavePasses count desks
+
+-- the seat with another pass; with other answers, memory having run out or not
+abbrev pub with_pass : DeskSeen → Option PassSeen → DeskSeen
+with_pass desk pass = record { seat = desk.seat; seats = desk.seats; pass = pass; ready = desk.ready; stopped = desk.stopped; answers = desk.answers }
+
+abbrev pub with_answers : DeskSeen → Bool → List Said → DeskSeen
+with_answers desk stopped answers = record { seat = desk.seat; seats = desk.seats; pass = desk.pass; ready = desk.ready; stopped = stopped; answers = answers }
+
+-- it stays the same seat
+pub record StaysSeat (before now : DeskSeen) : Type 0 where
+  pub seat : now.seat ≡ before.seat
+  pub seats : now.seats ≡ before.seats
+
+-- a seat that begins a round has answered nothing, and is ready unless it was not told of what is published
+pub record HasBegun (floor : List Entry) (before now : DeskSeen) : Type 0 where
+  pub fresh : now.answers ≡ []
+  pub stays : StaysSeat before now
+  pub untold : IsFalse now.ready → IsUntold before.pass now.pass floor
 
 -- what it has answered
 abbrev pub HasAnswered : Basis → List ReadLine → DeskSeen → Type 0
-HasAnswered opening reads desk = All (Answers opening reads desk.seen) desk.answers
+HasAnswered opening reads desk = All (Answers opening reads (seen_of desk.pass)) desk.answers
 
--- and when the round has ended
-abbrev pub HasEnded : Basis → List ReadLine → List Entry → DeskSeen → DeskSeen → Type 0
-HasEnded opening reads end before now = IsTrusted opening reads end now × (now.seats ≡ before.seats)
+-- memory has not run out, and there was a copy to enter for each line
+pub record IsAtWork (desk : DeskSeen) : Type 0 where
+  pub ready : IsTrue desk.ready
+  pub going : IsFalse desk.stopped
+
+abbrev pub is_at_work : DeskSeen → Bool
+is_at_work desk = desk.ready && not desk.stopped
+
+abbrev pub places_of : List Said → List ℕ
+places_of answers = map (λ (said : Said). said.place) answers
+
+-- It has served the lines at these places. It has an answer more to each of them that asks a seat, in their order, and no
+-- other, unless memory ran out or it is not ready; and it is not ready any more only where there was no copy to enter.
+pub record HasServed (reads : List ReadLine) (places : List ℕ) (before now : DeskSeen) : Type 0 where
+  pub stays : StaysSeat before now
+  pub later : IsLater before.pass now.pass
+  pub lost : IsTrue before.ready → IsFalse now.ready → HadNoCopy before.pass now.pass
+  pub all : IsAtWork now → IsAtWork before × (places_of now.answers ≡ places_of before.answers ++ asking reads places)
+
+-- It has passed over a line of which this says whether it asks a seat: it does not, unless memory ran out.
+pub record HasPassedOver (asks : Bool) (before now : DeskSeen) : Type 0 where
+  pub rest : now ≡ with_answers before now.stopped before.answers
+  pub going : IsFalse now.stopped → IsFalse before.stopped × (asks ≡ false)
+
+-- a seat has done its work of a round: it has served its share of what is dealt
+pub record HasWorked (opening : Basis) (round : ReadRound) (before now : DeskSeen) : Type 0 where
+  pub answered : HasAnswered opening round.reads now
+  pub served : HasServed round.reads (share before.seats before.seat round.dealt) before now
+
+-- and when the round has ended its answers count, unless it was not told of what is published then
+pub record HasEnded (opening : Basis) (reads : List ReadLine) (end : List Entry) (before now : DeskSeen) : Type 0 where
+  pub trusted : IsTrusted opening reads end now
+  pub stays : StaysSeat before now
+  pub same : now.answers ≡ before.answers
+  pub untold : IsFalse now.ready → IsUntold before.pass now.pass end
+
+-- the seat has an answer to each line of its share that asks one, in their order, unless memory ran out or it is not ready
+abbrev pub HasAnsweredAll : ReadRound → DeskSeen → Type 0
+HasAnsweredAll round desk = IsAtWork desk → places_of desk.answers ≡ asking round.reads (share desk.seats desk.seat round.dealt)

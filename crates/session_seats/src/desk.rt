@@ -1,11 +1,13 @@
 //! A seat: what it answers in a round.
-ghost use Rattle.std.specs.Prelude.{◌≡◌, ◌≤◌, ◌<◌, [], length, get_or, IfOk, IfSome, IsSome, IsTrue, string_bytes};
+ghost use Rattle.std.specs.Prelude.{◌≡◌, ◌≤◌, ◌<◌, ◌++◌, ◌∷◌, [], Ok, None, true, false, length, get_or, IfOk, IfSome, IsSome, IsNone, IsTrue, IsFalse, string_bytes};
 ghost use Rattle.std.specs.List.{Contains};
 ghost use mathlib.Core.List.{IsPrefix};
-ghost use Rattle.session_rounds.specs.Lines.{IsLine, read_seen};
-ghost use Rattle.session_seats.specs.Reading.{PlainReads};
+ghost use Rattle.dnr_base.specs.Faults.{Rose};
 ghost use Rattle.lines_ahead.specs.Cut.{IsPlainLine};
-ghost use Rattle.session_seats.specs.Seats.{Answers, HasAnswered, IsTrusted, SaysAt};
+ghost use Rattle.line_spec.specs.Line.{command_of};
+ghost use Rattle.session_rounds.specs.Lines.{IsLine, is_asked, is_asking, read_seen};
+ghost use Rattle.session_seats.specs.Reading.{PlainReads};
+ghost use Rattle.session_seats.specs.Seats.{Answers, HasAnswered, HasBegun, HasEnded, HasPassedOver, HasServed, IsUntold, SaysAt, is_at_work, seen_of, with_answers, with_pass};
 
 use crate::answer_log::AnswerLog;
 use crate::answered::{Answered, Said};
@@ -48,14 +50,16 @@ pub struct Desk<P: Pair> {
 }
 
 impl<P: Pair> Model for Desk<P> {
-    ghost use Rattle.session_seats.specs.Seats.{DeskSeen, seen_of};
+    ghost use Rattle.session_seats.specs.Seats.{DeskSeen};
 
     ghost Value = { DeskSeen };
 
     ghost view = { λ d. record {
+      seat = d.seat;
       seats = d.seats;
-      seen = seen_of d.pass;
+      pass = d.pass;
       ready = d.ready;
+      stopped = d.stopped;
       answers = d.answers;
     } };
 }
@@ -64,7 +68,9 @@ impl<P: Pair> Desk<P> {
     /// A seat that has answered nothing.
     pub fn new(alloc: Global, seat: usize, seats: usize, pass: Option<ReaderPass<P>>) -> Desk<P>
         requires { 0 < seats }
-        ensures { result.seats ≡ seats }
+        ensures seat { result.seat ≡ seat }
+        ensures seats { result.seats ≡ seats }
+        ensures pass { result.pass ≡ pass }
     {
         Desk {
             apart: CachePadded::new(()),
@@ -82,8 +88,7 @@ impl<P: Pair> Desk<P> {
 
     /// Begins a round: the seat takes in what was published before it.
     pub fn begin(&mut self, note: Note<P>)
-        ensures fresh { self.new.answers ≡ [] }
-        ensures seats { self.new.seats ≡ self.old.seats }
+        ensures { HasBegun note self.old self.new }
     {
         self.answers.clear(self.alloc);
         self.stopped = false;
@@ -93,17 +98,17 @@ impl<P: Pair> Desk<P> {
     /// Ends a round: the seat takes in what was published by then. Its answers count where it did.
     pub fn end(&mut self, note: Note<P>, _round: &RoundLines)
         requires { HasAnswered P.opening _round.now.reads self.old }
-        ensures trusted { IsTrusted P.opening _round.now.reads note self.new }
-        ensures seats { self.new.seats ≡ self.old.seats }
+        ensures { HasEnded P.opening _round.now.reads note self.old self.new }
     {
         self.ready = self.learn(note);
     }
 
+    // Takes in what a note says, if the seat has a pass and this can.
     fn learn(&mut self, note: Note<P>) -> bool
-        ensures seen { IsPrefix self.old.seen self.new.seen }
-        ensures told { IsTrue result → IsPrefix note self.new.seen }
-        ensures answers { self.new.answers ≡ self.old.answers }
-        ensures seats { self.new.seats ≡ self.old.seats }
+        ensures seen { IsPrefix (seen_of self.old.pass) (seen_of self.new.pass) }
+        ensures told { IsTrue result → IsPrefix note (seen_of self.new.pass) }
+        ensures untold { IsFalse result → IsUntold self.old.pass self.new.pass note }
+        ensures rest { self.new ≡ with_pass self.old self.new.pass }
     {
         let Some(pass) = &mut self.pass else {
             return false;
@@ -112,7 +117,9 @@ impl<P: Pair> Desk<P> {
     }
 
     /// Whether memory ran out.
-    pub fn stopped(&self) -> bool {
+    pub fn stopped(&self) -> bool
+        ensures { result ≡ self.now.stopped }
+    {
         self.stopped
     }
 
@@ -142,7 +149,7 @@ impl<P: Pair> Desk<P> {
     )
         requires { HasAnswered P.opening round.now.reads self.old }
         ensures answers { HasAnswered P.opening round.now.reads self.new }
-        ensures seats { self.new.seats ≡ self.old.seats }
+        ensures served { HasServed round.now.reads (place ∷ []) self.old self.new }
         ensures host { H.faults host.old ≤ H.faults host.new }
     {
         let lines = round.lines();
@@ -150,7 +157,11 @@ impl<P: Pair> Desk<P> {
             return;
         }
         match &lines[place] {
-            RoundLine::Read(line) => self.answer(place, line, host, gate, round),
+            RoundLine::Read(line) => {
+                if line.asks() {
+                    self.answer(place, line, host, gate, round);
+                }
+            }
             RoundLine::Plain(line) => {
                 if let Some(line) = self.read(line) {
                     self.answer(place, &line, host, gate, round);
@@ -163,19 +174,28 @@ impl<P: Pair> Desk<P> {
     fn read(&mut self, line: &CutLine) -> Option<ReadLine>
         requires { IsPlainLine line.now }
         ensures read { IfSome result (PlainReads line.now) }
-        ensures kept { self.new ≡ self.old }
+        ensures asks { IfSome result (λ read. is_asking read ≡ true) }
+        ensures kept { IsSome result → self.new ≡ self.old }
+        ensures none { IsNone result → HasPassedOver (is_asked (command_of line.now.number line.now.bytes)) self.old self.new }
     {
         match line.read_plain(self.alloc, &mut self.memo) {
-            Ok(Command::Request(request)) => Some(ReadLine {
+            Ok(command) => asking_alone(ReadLine {
                 number: line.number(),
-                read: Ok(Command::Request(request)),
+                read: Ok(command),
             }),
             Err(LineFault::NoMemory) => {
                 self.stopped = true;
                 None
             }
-            Ok(_) | Err(_) => None,
+            Err(_) => None,
         }
+    }
+
+    // Whether it still answers lines.
+    fn is_at_work(&self) -> bool
+        ensures { result ≡ is_at_work self.now }
+    {
+        self.ready && !self.stopped
     }
 
     // Which seat it is, as the gate is told.
@@ -193,17 +213,20 @@ impl<P: Pair> Desk<P> {
         round: &RoundLines,
     )
         requires line { IsLine line.now }
+        requires asks { is_asking line.now ≡ true }
         requires there { (place < length round.now.reads) × (line.now ≡ get_or round.now.reads place line.now) }
         requires so_far { HasAnswered P.opening round.now.reads self.old }
         ensures answers { HasAnswered P.opening round.now.reads self.new }
-        ensures seats { self.new.seats ≡ self.old.seats }
+        ensures served { HasServed round.now.reads (place ∷ []) self.old self.new }
         ensures host { H.faults host.old ≤ H.faults host.new }
     {
         gate.before(self.number(), line.number);
-        if self.stopped || !self.ready {
+        let at_work = self.is_at_work();
+        if !at_work {
             return;
         }
         let Some(pass) = &mut self.pass else {
+            self.ready = false;
             return;
         };
         let text = emptied(self.alloc, &mut self.text);
@@ -216,10 +239,11 @@ impl<P: Pair> Desk<P> {
 
     // Keeps one answer more, if there is memory for it.
     fn keep(&mut self, answered: Answered, _round: &RoundLines)
-        requires answer { Answers P.opening _round.now.reads self.old.seen answered }
+        requires answer { Answers P.opening _round.now.reads (seen_of self.old.pass) answered }
         requires so_far { HasAnswered P.opening _round.now.reads self.old }
         ensures answers { HasAnswered P.opening _round.now.reads self.new }
-        ensures seats { self.new.seats ≡ self.old.seats }
+        ensures rest { self.new ≡ with_answers self.old self.new.stopped self.new.answers }
+        ensures more { IsFalse self.new.stopped → self.new.answers ≡ self.old.answers ++ answered ∷ [] }
     {
         self.stopped = self.answers.push(&answered).is_err();
         self.text = answered.text;
@@ -228,11 +252,11 @@ impl<P: Pair> Desk<P> {
 
 impl<P: Pair, H: RegexHost> ToolSeat<RoundLines, H> for Desk<P> {
     ghost use Rattle.std.specs.Prelude.{◌≡◌, ◌≤◌, ◌<◌, []};
-    ghost use Rattle.session_seats.specs.Seats.{HasAnswered};
+    ghost use Rattle.session_seats.specs.Seats.{HasWorked};
 
     ghost can_work = { λ round d. (d.answers ≡ []) × (0 < d.seats) };
 
-    ghost worked = { λ round d e. HasAnswered P.opening round.reads e × (e.seats ≡ d.seats) };
+    ghost worked = { λ round d e. HasWorked P.opening round d e };
 
     ghost used = { λ before now. H.faults before ≤ H.faults now };
 
@@ -249,6 +273,14 @@ impl<P: Pair, H: RegexHost> ToolSeat<RoundLines, H> for Desk<P> {
             turn = turn.saturating_add(seats);
         }
     }
+}
+
+// The line, if it asks a seat.
+fn asking_alone(line: ReadLine) -> Option<ReadLine>
+    ensures some { IfSome result (λ read. (read ≡ line) × (is_asking read ≡ true)) }
+    ensures none { IsNone result → is_asking line ≡ false }
+{
+    if line.asks() { Some(line) } else { None }
 }
 
 // The memory of a longer text is let go: a session may last, and one of its texts may once be long.
@@ -276,8 +308,11 @@ fn answer_by<P: Pair, H: RegexHost>(
     host: &mut H,
 ) -> Result<Option<Answered>, NoMemory>
     requires line { IsLine line.now }
+    requires asks { is_asking line.now ≡ true }
     requires empty { string_bytes text ≡ [] }
     ensures later { IsPrefix pass.old.seen pass.new.seen }
+    ensures missed { pass.old.missed ≤ pass.new.missed }
+    ensures cause { result ≡ Ok None → Rose pass.old.missed pass.new.missed }
     ensures says { IfOk result (λ found. IfSome found (SaysAt P.opening place line.now.number (read_seen line.now.read) pass.new.seen)) }
     ensures host { H.faults host.old ≤ H.faults host.new }
 {

@@ -1,6 +1,7 @@
 //! What a pass answers to a request, as the line that is printed.
-ghost use Rattle.std.specs.Prelude.{◌≡◌, ◌≤◌, [], length, IfOk, IfSome, string_bytes};
+ghost use Rattle.std.specs.Prelude.{◌≡◌, ◌≤◌, [], length, Ok, None, IfOk, IfSome, string_bytes};
 ghost use mathlib.Core.List.{IsPrefix};
+ghost use Rattle.dnr_base.specs.Faults.{HasCauseOf, Rose};
 ghost use Rattle.dnr_base.specs.Request.{max_frames};
 ghost use Rattle.explain_spec.specs.Explanation.{explanation_of};
 ghost use Rattle.line_spec.specs.Line as spec;
@@ -31,6 +32,8 @@ pub fn decided<P: Pair, H: RegexHost>(
     requires frames { length request.now.frames ≤ max_frames }
     requires empty { string_bytes text ≡ [] }
     ensures later { IsPrefix pass.old.seen pass.new.seen }
+    ensures missed { pass.old.missed ≤ pass.new.missed }
+    ensures cause { result ≡ Ok None → Rose pass.old.missed pass.new.missed }
     ensures says { IfOk result (λ found. IfSome found (SaysAt P.opening place line (Ok (spec.request request.now)) pass.new.seen)) }
     ensures host { H.faults host.old ≤ H.faults host.new }
 {
@@ -74,6 +77,8 @@ pub fn explained<P: Pair, H: RegexHost>(
     requires frames { length request.now.frames ≤ max_frames }
     requires empty { string_bytes text ≡ [] }
     ensures later { IsPrefix pass.old.seen pass.new.seen }
+    ensures missed { pass.old.missed ≤ pass.new.missed }
+    ensures cause { result ≡ Ok None → Rose pass.old.missed pass.new.missed }
     ensures says { IfOk result (λ found. IfSome found (SaysAt P.opening place line (Ok (spec.explain request.now)) pass.new.seen)) }
     ensures host { H.faults host.old ≤ H.faults host.new }
 {
@@ -112,6 +117,7 @@ fn verdict_by<P: Pair, H: RegexHost>(
 ) -> Result<Answer, ReadRefusal>
     requires { length request.now.frames ≤ max_frames }
     ensures later { IsPrefix pass.old.seen pass.new.seen }
+    ensures cause { HasCauseOf ReadRefusal.NotEntered pass.old.missed pass.new.missed result }
     ensures number { IfOk result (λ answer. answer.number ≡ length pass.new.seen) }
     ensures verdict { IfOk result (λ answer. answer.verdict
         ≡ scan P.opening.suffixes (replay P.opening.state pass.new.seen) request.now) }
@@ -132,6 +138,7 @@ fn verdict_over<P: Pair, H: RegexHost, L: Ledger>(
     requires parts { blank.parts ≡ L.parts }
     requires one { blank.parts ≡ 1 }
     ensures later { IsPrefix pass.old.seen pass.new.seen }
+    ensures cause { HasCauseOf ReadRefusal.NotEntered pass.old.missed pass.new.missed result }
     ensures number { IfOk result (λ answer. answer.number ≡ length pass.new.seen) }
     ensures verdict { IfOk result (λ answer. answer.verdict
         ≡ scan P.opening.suffixes (replay P.opening.state pass.new.seen) request.now) }
@@ -150,6 +157,7 @@ fn explanation_by<P: Pair, H: RegexHost>(
 ) -> Result<Explained, ReadRefusal>
     requires { length request.now.frames ≤ max_frames }
     ensures later { IsPrefix pass.old.seen pass.new.seen }
+    ensures cause { HasCauseOf ReadRefusal.NotEntered pass.old.missed pass.new.missed result }
     ensures number { IfOk result (λ answer. answer.number ≡ length pass.new.seen) }
     ensures explanation { IfOk result (λ answer. answer.explanation
         ≡ explanation_of P.opening.suffixes (replay P.opening.state pass.new.seen) request.now) }
@@ -170,6 +178,7 @@ fn explanation_over<P: Pair, H: RegexHost, L: Ledger>(
     requires parts { blank.parts ≡ L.parts }
     requires one { blank.parts ≡ 1 }
     ensures later { IsPrefix pass.old.seen pass.new.seen }
+    ensures cause { HasCauseOf ReadRefusal.NotEntered pass.old.missed pass.new.missed result }
     ensures number { IfOk result (λ answer. answer.number ≡ length pass.new.seen) }
     ensures explanation { IfOk result (λ answer. answer.explanation
         ≡ explanation_of P.opening.suffixes (replay P.opening.state pass.new.seen) request.now) }

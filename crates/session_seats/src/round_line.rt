@@ -1,7 +1,8 @@
 //! A line of a round: one that was read, or one that is left to a seat to read.
-ghost use Rattle.std.specs.Prelude.{◌≡◌, IsTrue, true};
-ghost use Rattle.session_rounds.specs.Lines.{is_asking, read_seen};
+ghost use Rattle.std.specs.Prelude.{◌≡◌};
+ghost use Rattle.session_rounds.specs.Lines.{read_seen};
 ghost use Rattle.session_spec.specs.Rounds.{is_sync};
+ghost use Rattle.session_seats.specs.Reading as spec;
 ghost use Rattle.session_seats.specs.Reading.{IsTaken, seen_line};
 
 use lines_ahead::CutLine;
@@ -19,7 +20,7 @@ pub enum RoundLine {
 impl RoundLine {
     /// Whether it is dealt to a seat. It is where it asks one, and a plain line is in any case.
     pub fn is_dealt(&self) -> bool
-        ensures { is_asking (seen_line self.now) ≡ true → IsTrue result }
+        ensures { result ≡ spec.is_dealt self.now }
     {
         match self {
             RoundLine::Read(line) => line.asks(),

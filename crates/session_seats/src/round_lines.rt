@@ -1,9 +1,9 @@
 //! The lines of a round.
-ghost use Rattle.std.specs.Prelude.{◌≡◌, ◌≢◌, ◌≤◌, ◌++◌, ◌∷◌, ◌||◌, [], false, All, IfOk, OnOk, IsTrue, IsFalse};
+ghost use Rattle.std.specs.Prelude.{◌≡◌, ◌≢◌, ◌≤◌, ◌<◌, ◌++◌, ◌∷◌, ◌||◌, [], false, All, IfOk, OnOk, IsTrue, IsFalse, if◌then◌else◌, vec_len, vec_capacity};
 ghost use Rattle.dnr_spec.specs.Lines.{max_line};
 ghost use Rattle.session_rounds.specs.Lines.{read_seen};
 ghost use Rattle.session_spec.specs.Rounds.{is_full, is_sync};
-ghost use Rattle.session_seats.specs.Reading.{IsTaken, held_with, nothing_read, seen_line, seen_lines};
+ghost use Rattle.session_seats.specs.Reading.{IsTaken, dealt_from, held_with, nothing_read, seen_line, seen_lines};
 
 use crate::round_line::RoundLine;
 use dnr_base::NoMemory;
@@ -47,19 +47,21 @@ pub struct RoundLines {
 }
 
 impl Model for RoundLines {
-    ghost use Rattle.std.specs.Prelude.{◌≤◌, length};
+    ghost use Rattle.std.specs.Prelude.{◌≡◌, ◌≤◌, length};
     ghost use Rattle.std.specs.List.{All};
-    ghost use Rattle.session_seats.specs.Reading.{IsTaken, ReadRound, asked_in, seen_lines};
+    ghost use Rattle.session_seats.specs.Reading.{IsTaken, ReadRound, asked_in, dealt_from, seen_lines};
 
     ghost Value = { ReadRound };
 
     ghost view = { λ round. record {
       lines = round.lines.items;
       reads = seen_lines round.lines.items;
+      dealt = round.dealt.items;
       held = record { lines = length round.lines.items; bytes = round.bytes; asked = asked_in (seen_lines round.lines.items) };
     } };
 
-    ghost invariant = { λ round. (length round.lines.items ≤ 1024) × (round.bytes ≤ 16777215) × All IsTaken round.lines.items };
+    ghost invariant = { λ round. (length round.lines.items ≤ 1024) × (round.bytes ≤ 16777215) × All IsTaken round.lines.items
+        × (round.dealt.items ≡ dealt_from 0 round.lines.items) };
 }
 
 impl RoundLines {
@@ -98,10 +100,12 @@ impl RoundLines {
         let place = self.lines.len();
         let syncs = line.syncs();
         let is_dealt = line.is_dealt();
+        // There is room for its place before the line is taken in, so that it never lies there undealt.
+        self.dealt.reserve(1)?;
         self.updates |= line.updates();
         self.bytes += bytes;
         self.lines.push(line)?;
-        mark(&mut self.dealt, place, is_dealt)?;
+        mark(&mut self.dealt, place, is_dealt);
         Ok(ends(syncs, self.lines.len(), self.bytes))
     }
 
@@ -141,7 +145,10 @@ impl RoundLines {
     }
 
     /// The places of the lines that are dealt to seats, in order.
-    pub fn dealt(&self) -> &[usize] {
+    pub fn dealt(&self) -> &[usize]
+        ensures value { result.now ≡ self.now.dealt }
+        ensures all { self.now.dealt ≡ dealt_from 0 self.now.lines }
+    {
         &self.dealt
     }
 
@@ -164,12 +171,14 @@ fn keep_buffers(lines: &mut Vec<RoundLine>, buffers: &mut Vec<Vec<u8>>)
     }
 }
 
-// Keeps the place of a line that is dealt to a seat.
-fn mark(dealt: &mut Vec<usize>, place: usize, is_dealt: bool) -> Result<(), NoMemory> {
+// Keeps the place of a line that is dealt to a seat. There is room for it.
+fn mark(dealt: &mut Vec<usize>, place: usize, is_dealt: bool)
+    requires { vec_len dealt.old < vec_capacity dealt.old }
+    ensures { dealt.new.items ≡ dealt.old.items ++ (if is_dealt then place ∷ [] else []) }
+{
     if is_dealt {
-        dealt.push(place)?;
+        dealt.push_reserved(place);
     }
-    Ok(())
 }
 
 // Whether a round of so many lines and bytes ends, of which the last line may be a `sync`.

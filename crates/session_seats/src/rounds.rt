@@ -5,7 +5,7 @@ ghost use Rattle.dnr_base.specs.Faults.{HasCauseOf};
 ghost use Rattle.session_laws.specs.Turns.{NoneFell};
 ghost use Rattle.session_rounds.specs.Rounds.{RoundAnswered};
 ghost use Rattle.session_seats.specs.Rounds.{StopsRound, WritesRound};
-ghost use Rattle.session_seats.specs.Seats.{AreSeats, HasAnswered, HasBegun, HasEnded};
+ghost use Rattle.session_seats.specs.Seats.{AreSeats, HasAnswered, HasAnsweredAll, HasBegun, HasEnded};
 ghost use Rattle.session_seats.specs.Writing.{HasWritten};
 
 use crate::desk::Desk;
@@ -135,6 +135,7 @@ fn work_round<R: Threads + Wait + Sync, P: Pair + Send + Sync, H: RegexHost + Se
     requires idle { office.old.staged ≡ [] }
     ensures wrote { HasWritten P.opening office.old.list lines.now.lines office.new }
     ensures answered { All (HasAnswered P.opening lines.now.reads) desks.new }
+    ensures all { All (HasAnsweredAll lines.now) desks.new }
     ensures count { length desks.new ≡ length desks.old }
     ensures seats { AreSeats (length desks.old) desks.new }
     ensures finders { length finders.new ≡ length finders.old }
@@ -159,7 +160,7 @@ fn counts_of<H: RegexHost>(alloc: Global, hosts: &[H]) -> Result<Vec<u64>, NoMem
 // Each seat takes in what was published before the round.
 #[cycle(beginning)]
 fn begin_all<P: Pair>(desks: &mut [Desk<P>], floor: &Note<P>)
-    ensures { AllZip HasBegun desks.old desks.new }
+    ensures { AllZip (HasBegun floor.now) desks.old desks.new }
 {
     let Some((first, rest)) = desks.split_first_mut() else {
         return;

@@ -1,9 +1,9 @@
 //! A script, served from its first line to its last by seats beside a writer.
-ghost use Rattle.std.specs.Prelude.{◌≡◌, ◌<◌, ◌≤◌, ◌∷◌, [], length, map, is_some, IfOk, IfSome};
+ghost use Rattle.std.specs.Prelude.{◌≡◌, ◌<◌, ◌≤◌, ◌∷◌, [], length, map, is_some, IfOk, IfSome, vec_len};
 ghost use Rattle.dnr_base.specs.Faults.{HasCauseOf};
 ghost use Rattle.session_laws.specs.Turns.{NoneFell, counts_between};
 ghost use Rattle.session_rounds.specs.Read.{serving};
-ghost use Rattle.session_seats.specs.Seats.{AreSeats};
+ghost use Rattle.session_seats.specs.Seats.{AreSeats, HavePasses};
 ghost use Rattle.session_serve.specs.Serving.{EndsServing};
 
 use crate::cutting::{ask_cut, cut_lines};
@@ -174,6 +174,7 @@ fn desks_of<P: Pair>(
     requires { 0 < count }
     ensures count { IfOk result (λ desks. length desks.items ≡ count) }
     ensures seats { IfOk result (λ desks. AreSeats count desks.items) }
+    ensures passes { IfOk result (λ desks. HavePasses (vec_len passes) desks.items) }
 {
     let mut desks = Vec::with_capacity(alloc, count)?;
     for seat in 0..count {

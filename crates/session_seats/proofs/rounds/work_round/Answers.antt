@@ -1,11 +1,12 @@
 use Rattle.std.proofs.Common.{length}
 use Rattle.session_rounds.proofs.Whole.{none_fell}
-use Rattle.session_seats.proofs.Answering.{may_work, all_answered, seats_worked, written_from}
+use Rattle.session_seats.proofs.Answering.{may_work, all_answered, all_answered_all, seats_worked, written_from}
+use Rattle.session_seats.proofs.Parts.{have_begun}
 use Rattle.session_seats.proofs.rounds.work_round.Goals as goal
 
 pub round_with_tools-requires-clause-seats : goal.round_with_tools-requires-clause-seats
 round_with_tools-requires-clause-seats g c κs within =
-    may_work (length c.args.desks.now) c.args.desks.now c.begin_all.new.desks c.requires.some c.begin_all.ensures c.requires.seats
+    may_work c.args.floor.now (length c.args.desks.now) c.args.desks.now c.begin_all.new.desks c.requires.some c.begin_all.ensures c.requires.seats
 
 pub returns-clause-wrote : goal.returns-clause-wrote
 returns-clause-wrote g c =
@@ -13,11 +14,15 @@ returns-clause-wrote g c =
 
 pub returns-clause-answered : goal.returns-clause-answered
 returns-clause-answered g c =
-    all_answered g.P.Pair.opening c.args.lines.now.reads c.begin_all.new.desks c.round_with_tools.new.seats c.round_with_tools.ensures.worked
+    all_answered g.P.Pair.opening c.args.lines.now c.begin_all.new.desks c.round_with_tools.new.seats c.round_with_tools.ensures.worked
+
+pub returns-clause-all : goal.returns-clause-all
+returns-clause-all g c =
+    all_answered_all g.P.Pair.opening c.args.lines.now c.begin_all.new.desks c.round_with_tools.new.seats (have_begun c.args.floor.now c.args.desks.now c.begin_all.new.desks c.begin_all.ensures) c.round_with_tools.ensures.worked
 
 pub returns-clause-seats : goal.returns-clause-seats
 returns-clause-seats g c =
-    seats_worked g.P.Pair.opening c.args.lines.now.reads (length c.args.desks.now) c.args.desks.now c.begin_all.new.desks c.round_with_tools.new.seats c.begin_all.ensures c.round_with_tools.ensures.worked c.requires.seats
+    seats_worked g.P.Pair.opening c.args.lines.now c.args.floor.now (length c.args.desks.now) c.args.desks.now c.begin_all.new.desks c.round_with_tools.new.seats c.begin_all.ensures c.round_with_tools.ensures.worked c.requires.seats
 
 pub returns-clause-later : goal.returns-clause-later
 returns-clause-later g c = none_fell g.H.RegexHost.faults c.args.finders.now c.round_with_tools.new.tools c.round_with_tools.ensures.used

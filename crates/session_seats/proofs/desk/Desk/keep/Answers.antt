@@ -7,8 +7,5 @@ use Rattle.session_seats.proofs.desk.Desk.keep.Goals as goal
 pub returns-clause-answers : goal.returns-clause-answers
 returns-clause-answers g c =
     one_kept g.P.Pair.opening c.args._round.now.reads (seen_of c.self.inside.pass) c.self.inside.answers c.push.new.self c.args.answered (is_ok c.push.result) c.push.ensures
-    (subst (λ (desk : DeskSeen). Answers g.P.Pair.opening c.args._round.now.reads desk.seen c.args.answered) (sym c.self.view_is) c.requires.answer)
+    (subst (λ (desk : DeskSeen). Answers g.P.Pair.opening c.args._round.now.reads (seen_of desk.pass) c.args.answered) (sym c.self.view_is) c.requires.answer)
     (subst (λ (desk : DeskSeen). HasAnswered g.P.Pair.opening c.args._round.now.reads desk) (sym c.self.view_is) c.requires.so_far)
-
-pub returns-clause-seats : goal.returns-clause-seats
-returns-clause-seats g c = ap (λ (desk : DeskSeen). desk.seats) c.self.view_is

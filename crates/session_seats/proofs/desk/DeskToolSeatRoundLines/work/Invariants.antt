@@ -1,11 +1,13 @@
 use Rattle.std.proofs.Common.{length, ◌-◌, ◌≡◌, ◌≤◌, ◌<◌}
 use Rattle.session_seats.specs.Seats.{HasAnswered}
+use Rattle.session_seats.proofs.Served.{ServesShare}
 use Rattle.session_seats.proofs.desk.DeskToolSeatRoundLines.work.Given as goal
 
 abbrev pub invariant-loop-turn : goal.invariant-loop-turn
 invariant-loop-turn g l = record {
   answers : HasAnswered g.P.Pair.opening l.round.reads l.self;
-  same : l.self.seats ≡ l.fn.self.seats;
+  share : ServesShare l.round.reads l.dealt l.turn l.fn.self l.self;
+  same : l.seats ≡ l.fn.self.seats;
   some : 0 < l.seats;
   host : g.H.RegexHost.faults l.fn.host ≤ g.H.RegexHost.faults l.host;
 }

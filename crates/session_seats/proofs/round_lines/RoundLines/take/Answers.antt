@@ -1,10 +1,10 @@
-use Rattle.std.proofs.Common.{◌≡◌, ◌<◌, ◌+◌, ◌++◌, ◌∷◌, [], length, refl, ap, ◌∙◌, subst, arith}
+use Rattle.std.proofs.Common.{◌≡◌, ◌<◌, ◌+◌, ◌++◌, ◌∷◌, [], length, refl, ap, sym, ◌∙◌, subst, rules, arith}
 use Rattle.std.specs.Prelude.{◌||◌}
 use Rattle.std.proofs.lemmas.List.{length_push, map_push}
 use Rattle.session_rounds.specs.Lines.{read_seen}
 use Rattle.session_spec.specs.Rounds.{Held, is_full, is_sync}
-use Rattle.session_seats.specs.Reading.{ReadRound, asked_in, held_with, seen_line, seen_lines}
-use Rattle.session_seats.proofs.Desks.{has_room, stays_bounded, bounded_on, asked_more, holds_line, ends_line}
+use Rattle.session_seats.specs.Reading.{ReadRound, asked_in, dealt_from, held_with, seen_line, seen_lines}
+use Rattle.session_seats.proofs.Desks.{has_room, stays_bounded, bounded_on, dealt_on, asked_more, holds_line, ends_line}
 use Rattle.session_seats.proofs.round_lines.RoundLines.take.Goals as goal
 
 pub overflow_add-self : goal.overflow_add-self
@@ -14,18 +14,24 @@ overflow_add-self c =
 
 pub invariant_of-self : goal.invariant_of-self
 invariant_of-self c =
-    stays_bounded c.self.inside.lines.items c.push.new.self.items c.self.inside.bytes c.args.bytes c.in_err-push.ensures.items
-    (has_room c.args.self.now _ c.self.view_is c.requires.open) c.requires.short c.self.invariant.2
+    (c.self.invariant.0, c.self.invariant.1, c.self.invariant.2, c.in_err-reserve.ensures.items ∙ c.self.invariant.3)
 
-pub invariant_of-self-in_err-mark : goal.invariant_of-self-in_err-mark
-invariant_of-self-in_err-mark c =
-    bounded_on c.self.inside.lines.items c.push.new.self.items c.args.line c.self.inside.bytes c.args.bytes c.in_ok-push.ensures.items
-    (has_room c.args.self.now _ c.self.view_is c.requires.open) c.requires.short c.requires.within c.self.invariant.2
+pub invariant_of-self-in_err-push : goal.invariant_of-self-in_err-push
+invariant_of-self-in_err-push c =
+    let bounded = stays_bounded c.self.inside.lines.items c.push.new.self.items c.self.inside.bytes c.args.bytes c.in_err-push.ensures.items
+    (has_room c.args.self.now _ c.self.view_is c.requires.open) c.requires.short c.self.invariant.2 in
+    (bounded.0, bounded.1, bounded.2, c.in_ok-reserve.ensures.items ∙ c.self.invariant.3 ∙ ap (dealt_from 0) (sym c.in_err-push.ensures.items))
 
 pub invariant_of-self-2 : goal.invariant_of-self-2
 invariant_of-self-2 c =
-    bounded_on c.self.inside.lines.items c.push.new.self.items c.args.line c.self.inside.bytes c.args.bytes c.in_ok-push.ensures.items
-    (has_room c.args.self.now _ c.self.view_is c.requires.open) c.requires.short c.requires.within c.self.invariant.2
+    let bounded = bounded_on c.self.inside.lines.items c.push.new.self.items c.args.line c.self.inside.bytes c.args.bytes c.in_ok-push.ensures.items
+    (has_room c.args.self.now _ c.self.view_is c.requires.open) c.requires.short c.requires.within c.self.invariant.2 in (
+      bounded.0,
+      bounded.1,
+      bounded.2,
+      dealt_on c.self.inside.lines.items c.push.new.self.items c.args.line c.reserve.new.self.items c.mark.new.dealt.items c.len-place.result c.is_dealt-is_dealt.result c.in_ok-push.ensures.items
+          (c.in_ok-reserve.ensures.items ∙ c.self.invariant.3) (search rules) c.is_dealt-is_dealt.ensures c.mark.ensures,
+    )
 
 pub returns-clause-held : goal.returns-clause-held
 returns-clause-held c =
