@@ -1,4 +1,5 @@
-"""What measures share: a run of a program, its time and its memory, and the rules of a list."""
+"""What measures share: a run of a program, its time, its memory and its instructions; the rules of a list; extensions that are
+written, and what lines of a script cost."""
 import json
 import os
 import platform
@@ -7,6 +8,9 @@ import resource
 import shutil
 import subprocess
 import sys
+import time
+from concurrent.futures import ThreadPoolExecutor
+from functools import partial
 from pathlib import Path
 from statistics import median
 
@@ -16,6 +20,11 @@ RUNS = 3
 PATIENCE = 5
 # A process that Python starts would count Python's own memory as its peak.
 TIME = "/usr/bin/time"
+# So many requests are counted by valgrind, which is slow.
+COUNTED = 10_000
+# So many rules has a ruleset that is made up, as many as an extension has for itself.
+STATIC = 30_000
+SYNC = '{"cmd":"sync"}\n'
 
 
 def built_program():
@@ -51,10 +60,11 @@ def run(words, output, folder=None):
     return seconds, int(peak.read_text()) / 1024 if meter else 0.0
 
 
-def instructions(words):
+def instructions(words, folder=None):
     """How many instructions a program takes, by valgrind."""
     meter = ["valgrind", "--tool=cachegrind", "--cache-sim=no", "--cachegrind-out-file=/dev/null"]
-    said = subprocess.run([*meter, *words], stdout=subprocess.DEVNULL, stderr=subprocess.PIPE, text=True, check=True).stderr
+    pipes = {"stdout": subprocess.DEVNULL, "stderr": subprocess.PIPE, "text": True}
+    said = subprocess.run([*meter, *words], cwd=folder, check=True, **pipes).stderr
     found = re.search(r"I +refs: +([\d,]+)", said)
     return int(found[1].replace(",", "")) if found else None
 
@@ -102,3 +112,94 @@ def compiled(program, name, folder):
     """The rules that `dnr compile` makes of a list, whose file of this name is in the folder."""
     out = subprocess.run([program, "compile", name], stdout=subprocess.PIPE, cwd=folder, check=True).stdout
     return json.loads(out.splitlines()[-1])
+
+
+def counted(measures, requests):
+    """For each name the instructions of each of so many requests, where valgrind is there.
+
+    A measure is two functions that give the instructions of the part and of the whole. Other work changes nothing of a count,
+    so all of them run side by side.
+    """
+    if not shutil.which("valgrind"):
+        return dict.fromkeys(measures)
+    with ThreadPoolExecutor(len(os.sched_getaffinity(0))) as pool:
+        found = {name: [pool.submit(it) for it in pair] for name, pair in measures.items()}
+    counts = {name: [it.result() for it in pair] for name, pair in found.items()}
+    return {name: (whole - part) / requests if part and whole else None for name, (part, whole) in counts.items()}
+
+
+def figures(requests, load, beyond, peak, each):
+    """What so many requests took and the instructions of each, as they are written into a file."""
+    return {
+        # (where other work hides it nothing is told)
+        "request_us": f"{beyond / requests * 1e6:.3f}" if beyond > 0 else "",
+        "request_instructions": round(each) if each else "",
+        "load_s": f"{load:.4f}",
+        "peak_mib": f"{peak:.1f}" if peak else "",
+    }
+
+
+def told(what, seconds, peak):
+    """A line that says what something cost."""
+    return f"{what}: {seconds:.6f} s" + (f", {peak:.1f} MiB" if peak else "")
+
+
+def rule(number, host="host"):
+    """A rule that is made up, and blocks a host of its own."""
+    return {"id": number, "condition": {"urlFilter": f"||{host}{number}.test^"}, "action": {"type": "block"}}
+
+
+def line(value):
+    """A line of a script."""
+    return json.dumps(value, separators=(",", ":")) + "\n"
+
+
+def switched(number):
+    """An update that disables the first ruleset, or of an odd number one that enables it."""
+    which = "disableRulesetIds" if number % 2 == 0 else "enableRulesetIds"
+    return line({"cmd": "rulesets", "extension": "own", which: ["set0"]})
+
+
+def write_extension(folder, name, rulesets):
+    """Writes an extension into a folder of its name. A ruleset is its id, whether it is enabled, and its rules."""
+    (folder / name).mkdir(exist_ok=True)
+    resources = []
+    for which, enabled, rules in rulesets:
+        (folder / name / f"{which}.json").write_text(json.dumps(rules))
+        resources.append({"id": which, "enabled": enabled, "path": f"{which}.json"})
+    manifest = {"declarative_net_request": {"rule_resources": resources}} if resources else {}
+    (folder / name / "manifest.json").write_text(json.dumps(manifest))
+
+
+def fill(folder, sets, off=0):
+    """Writes the extension `own` with so many rulesets that are made up, the first so many of them disabled."""
+    made = ((f"set{it}", it >= off, [rule(number + 1, f"set{it}-") for number in range(STATIC)]) for it in range(sets))
+    write_extension(folder, "own", made)
+
+
+def served(script, names=("own",)):
+    """The words that serve a script over extensions of the folder in which they are run."""
+    return [PROGRAM, "serve", *(word for name in names for word in ("--ext", name)), script]
+
+
+def cost_of_updates(folder, before, updates):
+    """The cost of updates behind the line that comes before them."""
+    (folder / "before").write_text(before)
+    (folder / "script").write_text(before + "".join(updates))
+    pair = [partial(run, served(script), folder / "out", folder) for script in ("before", "script")]
+    _, beyond, peak = in_turn({"updates": pair})["updates"]
+    return beyond, peak
+
+
+def waits(folder, texts):
+    """How many seconds each text keeps waiting who asks for it. A text is a line, or as many as a round may hold, and is written
+    into a pipe when the one before it was answered."""
+    os.mkfifo(folder / "asked")
+    with subprocess.Popen(served("asked"), stdout=subprocess.PIPE, cwd=folder) as engine, open(folder / "asked", "w") as script:
+        for each in texts:
+            begun = time.perf_counter()
+            script.write(each + SYNC)
+            script.flush()
+            for _ in range(each.count("\n") + 1):
+                engine.stdout.readline()
+            yield time.perf_counter() - begun

@@ -4,6 +4,7 @@ what bench/library wrote last.
 import csv
 import hashlib
 import sys
+from functools import partial
 from importlib.machinery import SourceFileLoader
 from pathlib import Path
 
@@ -39,26 +40,31 @@ def seconds(value):
     return f"{1e6 * value:.0f} µs"
 
 
-def row_of(row, others):
-    """A row of requests, with what `dnr` takes by what each plain program does."""
-    mine = next(it for it in others if it["program"] == "dnr" and it["rules"] == row["rules"])
+def ratio(one, other, column):
+    """A figure of a row by that of another, where both were measured."""
+    return f"{float(one[column]) / float(other[column]):.2f}" if one is not other and one[column] and other[column] else ""
 
-    def ratio(column):
-        return f"{float(mine[column]) / float(row[column]):.2f}" if row is not mine and mine[column] and row[column] else ""
 
+def told_of(row, by):
+    """What requests took in a row, and a ratio of each column that has one."""
     return [
-        f"{int(row['rules']):,}",
-        row["program"],
         number(row["request_us"], ".2f", " µs"),
-        ratio("request_us"),
+        by("request_us"),
         number(row["request_instructions"], ",.0f"),
-        ratio("request_instructions"),
+        by("request_instructions"),
         seconds(row["load_s"]),
-        number(row["peak_mib"], ".1f", " MiB"),
+        peak_of(row),
     ]
 
 
-REQUEST_HEAD = ["rules", "program", "a request", "ratio", "instructions", "ratio", "loading", "peak"]
+def row_of(row, others):
+    """A row of requests, with what `dnr` takes by what each plain program does."""
+    mine = next(it for it in others if it["program"] == "dnr" and it["rules"] == row["rules"])
+    return [f"{int(row['rules']):,}", row["program"], *told_of(row, partial(ratio, mine, row))]
+
+
+TOLD_HEAD = ["a request", "ratio", "instructions", "ratio", "loading", "peak"]
+REQUEST_HEAD = ["rules", "program", *TOLD_HEAD]
 
 
 def peak_of(row):
@@ -146,6 +152,30 @@ Of updates the time is less that of the same session without them. Where each ru
     return head + table(["what", "time", "peak"], [[it["what"], seconds(it["seconds"]), peak_of(it)] for it in rows])
 
 
+def rulesets_part(rows, of):
+    dealt = {it["what"]: it for it in rows if it["rules"]}
+    toggled = [it for it in rows if not it["rules"]]
+    head = f"""
+## Many rulesets
+
+The first {max(int(it["rules"]) for it in dealt.values()):,} filters of the lists, each a rule of its own, dealt out one after another to rulesets, and requests as over the filters of lists, answered by `serve`.
+A ratio is the figure of a row by that of one ruleset; where some rulesets of an extension are enabled and the others are not, by that of these alone.
+Of several extensions each is asked: what one blocks no other allows.
+
+"""
+    between = """
+A ruleset enabled and disabled beside others of its extension, which with it have all rules that may be in force.
+An answer is by the clock, from the line that a program writes into a pipe, or all lines, to the answer that it reads; the last row is of the processor, less the same session without these updates.
+
+"""
+    told = []
+    for row in dealt.values():
+        other = dealt[row["beside"]]
+        told.append([row["what"], f"{int(row['rules']):,}", *told_of(row, partial(ratio, row, other))])
+    tail = table(["what", "time", "peak"], [[it["what"], seconds(it["seconds"]), peak_of(it)] for it in toggled])
+    return head + table(["rulesets", "rules in force", *TOLD_HEAD], told) + between + tail
+
+
 def workers_part(rows, of):
     head = f"""
 ## Workers
@@ -186,17 +216,13 @@ The {int(mine["rules"]):,} filters and the requests of the lists once more, by `
 A ratio is the figure of a row by that of `dnr match`.
 
 """
-
-    def ratio(row, column):
-        return f"{float(row[column]) / float(mine[column]):.2f}" if row is not mine and row[column] else ""
-
     told = [
         [
             row["program"],
             number(row["request_us"], ".2f", " µs"),
-            ratio(row, "request_us"),
+            ratio(row, mine, "request_us"),
             number(row["request_instructions"], ",.0f"),
-            ratio(row, "request_instructions"),
+            ratio(row, mine, "request_instructions"),
         ]
         for row in rows
     ]
@@ -208,6 +234,7 @@ PARTS = {
     "filters": filters_part,
     "lists": lists_part,
     "limits": limits_part,
+    "rulesets": rulesets_part,
     "workers": workers_part,
     "broker": broker_part,
 }
