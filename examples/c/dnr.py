@@ -145,7 +145,7 @@ class Engine:
     """An engine of its own: one thread at a time calls it."""
 
     def __init__(self, library, room=1 << 16):
-        self.library, self.seat, self.out, self.length = library, Seat(), ctypes.create_string_buffer(room), ctypes.c_size_t()
+        self.calls, self.seat, self.out, self.length = library, Seat(), ctypes.create_string_buffer(room), ctypes.c_size_t()
 
     @classmethod
     def over(cls, library, words, files):
@@ -167,7 +167,7 @@ class Engine:
 
     def ask(self, line, number=1):
         """The answer to a line of a script, which has no LF."""
-        code = self.library.dnr_ask(ctypes.byref(self.seat), ctypes.c_uint32(number), line, ctypes.c_size_t(len(line)), *self.room())
+        code = self.calls.dnr_ask(ctypes.byref(self.seat), ctypes.c_uint32(number), line, ctypes.c_size_t(len(line)), *self.room())
         if code == NO_ROOM:
             self.out = ctypes.create_string_buffer(self.length.value)
             return self.ask(line, number)
@@ -179,7 +179,7 @@ class Engine:
         request, verdict, changes = request_of(asked), Verdict(), (Change * most)()
         room = self.out, ctypes.c_size_t(len(self.out))
         asks = ctypes.byref(self.seat), ctypes.byref(request), ctypes.byref(verdict), changes, ctypes.c_size_t(most)
-        code = self.library.dnr_decide(*asks, *room)
+        code = self.calls.dnr_decide(*asks, *room)
         if code == NO_ROOM:
             self.out = ctypes.create_string_buffer(max(len(self.out), verdict.bytes))
             return self.decide(asked, max(most, verdict.changes))
@@ -207,12 +207,12 @@ class Engine:
 
     def share(self):
         """A second engine on the state as it stands, for another thread."""
-        other = Engine(self.library)
-        self.check(self.library.dnr_share(ctypes.byref(self.seat), ctypes.byref(other.seat)))
+        other = Engine(self.calls)
+        self.check(self.calls.dnr_share(ctypes.byref(self.seat), ctypes.byref(other.seat)))
         return other
 
     def close(self):
-        self.library.dnr_close(ctypes.byref(self.seat))
+        self.calls.dnr_close(ctypes.byref(self.seat))
 
     def __enter__(self):
         return self
