@@ -22,6 +22,17 @@ PATIENCE = 5
 TIME = "/usr/bin/time"
 # So many requests are counted by valgrind, which is slow.
 COUNTED = 10_000
+# What is told of a request, and what cachegrind calls it. Only where it imitates caches does it count their misses.
+COUNTERS = {
+    "request_instructions": "I refs",
+    "request_d1_misses": "D1 misses",
+    "request_i1_misses": "I1 misses",
+    "request_lld_misses": "LLd misses",
+    "request_lli_misses": "LLi misses",
+}
+# The caches that it imitates: their KiB and their ways, with lines of 64 bytes. They are the same on each machine, so that
+# counts are too. The last one is what a processor may have of one that many share.
+CACHES = {"I1": (32, 8), "D1": (32, 8), "LL": (2_048, 16)}
 # So many rules has a ruleset that is made up, as many as an extension has for itself.
 STATIC = 30_000
 SYNC = '{"cmd":"sync"}\n'
@@ -60,13 +71,19 @@ def run(words, output, folder=None):
     return seconds, int(peak.read_text()) / 1024 if meter else 0.0
 
 
-def instructions(words, folder=None):
-    """How many instructions a program takes, by valgrind."""
-    meter = ["valgrind", "--tool=cachegrind", "--cache-sim=no", "--cachegrind-out-file=/dev/null"]
+def caches_told():
+    """The caches that cachegrind imitates."""
+    return ", ".join(f"{name} of {size:,} KiB in {ways} ways" for name, (size, ways) in CACHES.items())
+
+
+def counts(words, folder=None, caches=False):
+    """What valgrind counts of a run: its instructions, and with caches, which takes twice as long, their misses."""
+    meter = ["valgrind", "--tool=cachegrind", "--cachegrind-out-file=/dev/null", f"--cache-sim={'yes' if caches else 'no'}"]
+    meter += [f"--{name}={1_024 * size},{ways},64" for name, (size, ways) in CACHES.items()]
     pipes = {"stdout": subprocess.DEVNULL, "stderr": subprocess.PIPE, "text": True}
     said = subprocess.run([*meter, *words], cwd=folder, check=True, **pipes).stderr
-    found = re.search(r"I +refs: +([\d,]+)", said)
-    return int(found[1].replace(",", "")) if found else None
+    found = {f"{of} {what}": count for of, what, count in re.findall(r"(\w+) +(refs|misses): +([\d,]+)", said)}
+    return {name: int(found[it].replace(",", "")) for name, it in COUNTERS.items() if it in found}
 
 
 def processor():
@@ -115,33 +132,49 @@ def compiled(program, name, folder):
 
 
 def counted(measures, requests):
-    """For each name the instructions of each of so many requests, where valgrind is there.
+    """For each name what is counted of each of so many requests: nothing where valgrind is missing.
 
-    A measure is two functions that give the instructions of the part and of the whole. Other work changes nothing of a count,
-    so all of them run side by side.
+    A measure is two functions that give the counts of the part and of the whole. Other work changes nothing of a count, so all
+    of them run side by side.
     """
     if not shutil.which("valgrind"):
-        return dict.fromkeys(measures)
+        return {name: {} for name in measures}
     with ThreadPoolExecutor(len(os.sched_getaffinity(0))) as pool:
         found = {name: [pool.submit(it) for it in pair] for name, pair in measures.items()}
-    counts = {name: [it.result() for it in pair] for name, pair in found.items()}
-    return {name: (whole - part) / requests if part and whole else None for name, (part, whole) in counts.items()}
+    pairs = {name: [it.result() for it in pair] for name, pair in found.items()}
+    return {name: {it: (whole[it] - part[it]) / requests for it in whole} for name, (part, whole) in pairs.items()}
+
+
+def counts_told(each):
+    """What is counted of each request, as it is written into a file."""
+    # (where memory lies moves a miss or two from the whole to the part)
+    misses = {name: f"{max(0.0, count):.2f}" for name, count in each.items() if name != "request_instructions"}
+    return {"request_instructions": round(each["request_instructions"]) if each else "", **misses}
 
 
 def figures(requests, load, beyond, peak, each):
-    """What so many requests took and the instructions of each, as they are written into a file."""
+    """What so many requests took and what is counted of each, as they are written into a file."""
     return {
         # (where other work hides it nothing is told)
         "request_us": f"{beyond / requests * 1e6:.3f}" if beyond > 0 else "",
-        "request_instructions": round(each) if each else "",
+        **counts_told(each),
         "load_s": f"{load:.4f}",
         "peak_mib": f"{peak:.1f}" if peak else "",
     }
 
 
-def told(what, seconds, peak):
+def told(what, seconds, peak, ratio=0.0):
     """A line that says what something cost."""
-    return f"{what}: {seconds:.6f} s" + (f", {peak:.1f} MiB" if peak else "")
+    return f"{what}: {seconds:.6f} s" + (f", ratio {ratio:.2f}" if ratio else "") + (f", {peak:.1f} MiB" if peak else "")
+
+
+def built_by_rustc(name, room):
+    """A program in Rust of this folder, or nothing where rustc is missing."""
+    if not shutil.which("rustc"):
+        return None
+    program = room / name
+    subprocess.run(["rustc", "-O", "--edition", "2021", "-o", program, TOP / f"bench/{name}.rs"], check=True)
+    return program
 
 
 def rule(number, host="host"):
@@ -203,3 +236,4 @@ def waits(folder, texts):
             for _ in range(each.count("\n") + 1):
                 engine.stdout.readline()
             yield time.perf_counter() - begun
+    (folder / "asked").unlink()

@@ -45,26 +45,43 @@ def ratio(one, other, column):
     return f"{float(one[column]) / float(other[column]):.2f}" if one is not other and one[column] and other[column] else ""
 
 
-def told_of(row, by):
+# Misses are counted in some files, and in none of an earlier state.
+MISSES = {"request_d1_misses": "D1", "request_i1_misses": "I1", "request_lld_misses": "LLd", "request_lli_misses": "LLi"}
+
+
+def misses_in(rows):
+    """The columns of misses that were counted."""
+    return [it for it in MISSES if any(row.get(it) for row in rows)]
+
+
+def told_of(row, by, misses=()):
     """What requests took in a row, and a ratio of each column that has one."""
     return [
         number(row["request_us"], ".2f", " µs"),
         by("request_us"),
         number(row["request_instructions"], ",.0f"),
         by("request_instructions"),
+        *(number(row[it], ",.1f") for it in misses),
         seconds(row["load_s"]),
         peak_of(row),
     ]
 
 
-def row_of(row, others):
+def row_of(row, others, misses=()):
     """A row of requests, with what `dnr` takes by what each plain program does."""
     mine = next(it for it in others if it["program"] == "dnr" and it["rules"] == row["rules"])
-    return [f"{int(row['rules']):,}", row["program"], *told_of(row, partial(ratio, mine, row))]
+    return [f"{int(row['rules']):,}", row["program"], *told_of(row, partial(ratio, mine, row), misses)]
 
 
-TOLD_HEAD = ["a request", "ratio", "instructions", "ratio", "loading", "peak"]
-REQUEST_HEAD = ["rules", "program", *TOLD_HEAD]
+def head_of(misses=()):
+    """The head of what requests took."""
+    return ["a request", "ratio", "instructions", "ratio", *(MISSES[it] for it in misses), "loading", "peak"]
+
+
+def request_table(rows):
+    """A row for each program over each count of rules."""
+    misses = misses_in(rows)
+    return table(["rules", "program", *head_of(misses)], [row_of(it, rows, misses) for it in rows])
 
 
 def peak_of(row):
@@ -117,7 +134,7 @@ Beside `dnr match` stand plain Rust programs that find rules by the rarest of th
 A ratio is the figure of `dnr` by that of the program in its row: below 1 `dnr` needs less.
 
 """
-    return head + table(REQUEST_HEAD, [row_of(it, rows) for it in rows])
+    return head + request_table(rows)
 
 
 def filters_part(rows, of):
@@ -126,9 +143,11 @@ def filters_part(rows, of):
 
 The same with filters of the lists, some of them and then all, each a rule of its own, and requests of which a fifth go to hosts that filters name.
 What plain programs do not read is left out: regular expressions, filters that heed case, and other actions than block and allow.
-
 """
-    return head + table(REQUEST_HEAD, [row_of(it, rows) for it in rows])
+    if misses_in(rows):
+        head += f"""Misses of a request are counted with its instructions, in caches that cachegrind imitates: of a first cache for data (D1) and of one for code (I1), and of a last cache for both, by data (LLd) and by code (LLi). They are the same on each machine: {of["caches"]}.
+"""
+    return head + "\n" + request_table(rows)
 
 
 def lists_part(rows, of):
@@ -147,9 +166,14 @@ def limits_part(rows, of):
 ## Updates, long scripts and hostile lines
 
 Of updates the time is less that of the same session without them. Where each rule is added when the last was, it is by the clock, from the line that a program writes into a pipe to the answer that it reads.
-
 """
-    return head + table(["what", "time", "peak"], [[it["what"], seconds(it["seconds"]), peak_of(it)] for it in rows])
+    # (an earlier state has none)
+    ratios = ["ratio"] if any(it.get("ratio") for it in rows) else []
+    if ratios:
+        head += """Building the index of these rules is what the plain programs above do with rules that they have read: the least of many builds, by the clock too. Its ratio is the longest answer by it.
+"""
+    told = [[it["what"], seconds(it["seconds"]), *(number(it[column], ".2f") for column in ratios), peak_of(it)] for it in rows]
+    return head + "\n" + table(["what", "time", *ratios, "peak"], told)
 
 
 def rulesets_part(rows, of):
@@ -173,7 +197,7 @@ An answer is by the clock, from the line that a program writes into a pipe, or a
         other = dealt[row["beside"]]
         told.append([row["what"], f"{int(row['rules']):,}", *told_of(row, partial(ratio, row, other))])
     tail = table(["what", "time", "peak"], [[it["what"], seconds(it["seconds"]), peak_of(it)] for it in toggled])
-    return head + table(["rulesets", "rules in force", *TOLD_HEAD], told) + between + tail
+    return head + table(["rulesets", "rules in force", *head_of()], told) + between + tail
 
 
 def workers_part(rows, of):
@@ -253,13 +277,14 @@ def short_table(results, day):
     counts = sorted({int(it["rules"]) for it in rows})
     wanted = {counts[0], *counts[-3:-2], counts[-1]}
     found = [row_of(it, rows) for it in rows if int(it["rules"]) in wanted]
+    head = ["rules", "program", *head_of()]
     of = {it["what"]: it["is"] for it in plot.rows_of(results, day, "machine")}
     told = (
         f"\nOf commit `{of['commit']}`, on {of['day']}; {of['load_before']} processes wanted the {of['processors']} processors of the"
         f" machine before it, and {of['load_after']} behind it. Instructions are counted, and other work shows in times.\n"
     )
     # (all but the loading)
-    return table([*REQUEST_HEAD[:6], REQUEST_HEAD[7]], [[*row[:6], row[7]] for row in found]) + told
+    return table([*head[:6], head[7]], [[*row[:6], row[7]] for row in found]) + told
 
 
 def with_table(text, made):

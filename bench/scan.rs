@@ -1,8 +1,11 @@
 //! What `dnr match` does as a plain Rust program, to measure against: `scan RULES REQUESTS [index]`.
 //!
-//! It reads only the rules that `bench/run` makes, with little checking, and prints what `dnr` prints. It tests each rule
-//! for each request, or with a third word those that an index of words finds. Requests it reads by hand, with std alone,
+//! It reads only the rules that the scripts beside it make, with little checking, and prints what `dnr` prints. It tests each
+//! rule for each request, or with a third word those that an index of words finds. Requests it reads by hand, with std alone,
 //! or with the feature `crates` by those that read JSON and URLs as their standards say.
+//!
+//! `scan build RULES RUNS` answers nothing. It builds the index of the rules so many times, and prints how many rules it read
+//! and the seconds of the fastest build, by the clock: rules are read before.
 
 #[cfg_attr(feature = "crates", path = "by_crates.rs")]
 #[cfg_attr(not(feature = "crates"), path = "by_hand.rs")]
@@ -14,8 +17,10 @@ use index::Index;
 use std::cmp::Reverse;
 use std::env;
 use std::fs;
+use std::hint::black_box;
 use std::io::{self, BufWriter, Write};
 use std::ops::Range;
+use std::time::Instant;
 
 #[derive(Clone, Copy, PartialEq, Eq, PartialOrd, Ord)]
 enum Action {
@@ -252,7 +257,7 @@ fn types_of(line: &str) -> u16 {
 fn read_rule(line: &str) -> Option<Rule> {
     Some(Rule {
         id: between(line, "\"id\":", ",")?.parse().ok()?,
-        priority: between(line, "\"priority\":", ",")?.parse().ok()?,
+        priority: between(line, "\"priority\":", ",").map_or(Some(1), |text| text.parse().ok())?,
         types: types_of(line),
         methods: list_of(line, "requestMethods").map(|names| bits_of(&METHODS, &names)),
         hosts: list_of(line, "requestDomains"),
@@ -329,14 +334,36 @@ fn decide<'a>(rules: &'a [Rule], index: Option<&Index>, request: &Request) -> Op
     }
 }
 
-fn main() -> io::Result<()> {
-    let names: Vec<String> = env::args().skip(1).collect();
-    let rules: Vec<Rule> = fs::read_to_string(&names[0])?
+fn read_rules(path: &str) -> io::Result<Vec<Rule>> {
+    Ok(fs::read_to_string(path)?
         .lines()
         .filter_map(read_rule)
-        .collect();
-    let index = names.get(2).map(|_| Index::new(&rules));
-    let script = fs::read_to_string(&names[1])?;
+        .collect())
+}
+
+/// The seconds that building the index of these rules takes.
+fn build(rules: &[Rule]) -> f64 {
+    let begun = Instant::now();
+    let index = black_box(Index::new(black_box(rules)));
+    let took = begun.elapsed();
+    drop(index);
+    took.as_secs_f64()
+}
+
+fn tell_build(rules: &str, runs: &str) -> io::Result<()> {
+    let rules = read_rules(rules)?;
+    let runs: u32 = runs.parse().expect("a count of runs");
+    let least = (0..runs)
+        .map(|_| build(&rules))
+        .fold(f64::INFINITY, f64::min);
+    println!("{} {least:.9}", rules.len());
+    Ok(())
+}
+
+fn answer(rules: &str, script: &str, is_indexed: bool) -> io::Result<()> {
+    let rules = read_rules(rules)?;
+    let index = is_indexed.then(|| Index::new(&rules));
+    let script = fs::read_to_string(script)?;
     let mut out = BufWriter::new(io::stdout().lock());
     for (place, line) in script.lines().enumerate() {
         write!(
@@ -360,4 +387,14 @@ fn main() -> io::Result<()> {
         }
     }
     out.flush()
+}
+
+fn main() -> io::Result<()> {
+    let words: Vec<String> = env::args().skip(1).collect();
+    match words.iter().map(String::as_str).collect::<Vec<_>>()[..] {
+        ["build", rules, runs] => tell_build(rules, runs),
+        [rules, script] => answer(rules, script, false),
+        [rules, script, "index"] => answer(rules, script, true),
+        _ => panic!("scan RULES REQUESTS [index], or scan build RULES RUNS"),
+    }
 }
