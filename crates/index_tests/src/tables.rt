@@ -26,6 +26,7 @@ fn a_key_has_its_places_in_order(rt: HostRuntime) -> Result<(), Fail> {
     assert!(rt; table.places(Asked::exactly(b"ad")).next() == None);
     assert!(rt; table.asked(Asked::exactly(b""), None).next() == Some(4));
     assert!(rt; table.no_places().next() == None);
+    assert!(rt; table.may_have_length(5) && !table.may_have_length(6));
     Ok(())
 }
 

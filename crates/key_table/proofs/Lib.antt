@@ -7,3 +7,4 @@ pub mod Between
 pub mod Longer
 pub mod Rest
 pub mod Marked
+pub mod Long

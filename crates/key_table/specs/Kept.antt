@@ -51,7 +51,12 @@ pub record IsKept (texts : List ℕ) (entries : List Entry) (starts : List ℕ) 
   pub rising : IsRising texts entries
   pub cut : AreCuts (length starts - 1) (tags_in entries) starts
 
--- the same with the marks of the keys
-pub record IsTable (texts : List ℕ) (entries : List Entry) (starts marks : List ℕ) : Type 0 where
+-- no key has more bytes
+abbrev pub HaveAtMost : ℕ → List Entry → Type 0
+HaveAtMost longest entries = (k : ℕ) (entry : Entry) → k < length entries → (slice_index_or entries k entry).len ≤ longest
+
+-- the same with the marks of the keys, and how many bytes the longest has
+pub record IsTable (texts : List ℕ) (entries : List Entry) (starts marks : List ℕ) (longest : ℕ) : Type 0 where
   pub kept : IsKept texts entries starts
   pub marked : AreMarked marks (tags_in entries)
+  pub none_longer : HaveAtMost longest entries

@@ -4,7 +4,7 @@ ghost use Rattle.key_table.specs.Kept.{IsRising};
 
 use crate::asked::Asked;
 use crate::cuts::starts_of;
-use crate::entry::Entry;
+use crate::entry::{Entry, longest_of};
 use crate::marks::marks_of;
 use crate::order::compare;
 use crate::table::Table;
@@ -93,6 +93,7 @@ impl Draft {
         sort(&texts, &mut entries)?;
         let starts = starts_of(alloc, &entries)?;
         let marks = marks_of(alloc, &entries)?;
-        Ok(Table::new(texts, entries, starts, marks))
+        let longest = longest_of(&entries);
+        Ok(Table::new(texts, entries, starts, marks, longest))
     }
 }

@@ -4,7 +4,8 @@ ghost use Rattle.std.specs.Cmp.Lexicographic.{slice_cmp};
 ghost use Rattle.key_table.specs.declared.entry.Entry.{Entry as Seen};
 ghost use Rattle.key_table.specs.Bucket.{IsBucketOf};
 ghost use Rattle.key_table.specs.Hash.{tag_of};
-ghost use Rattle.key_table.specs.Kept.{AreEntries, HasRisingTags, IsRising, IsKept, IsTable, pairs_in, rank_in, is_below};
+ghost use Rattle.key_table.specs.Kept.{AreEntries, HasRisingTags, IsRising, IsKept, IsTable, pairs_in, rank_in, is_below, tags_in};
+ghost use Rattle.key_table.specs.Marks.{AreMarked};
 ghost use Rattle.key_table.specs.Pairs.{near_of, places_of};
 
 use crate::asked::Asked;
@@ -21,6 +22,8 @@ pub struct Table {
     entries: Vec<Entry>,
     starts: Vec<u32>,
     marks: Vec<u8>,
+    // How many bytes the longest key has.
+    longest: u32,
 }
 
 impl Model for Table {
@@ -32,7 +35,7 @@ impl Model for Table {
 
     ghost view = { λ t. pairs_in t.texts.items t.entries.items };
 
-    ghost invariant = { λ t. IsTable t.texts.items t.entries.items t.starts.items t.marks.items };
+    ghost invariant = { λ t. IsTable t.texts.items t.entries.items t.starts.items t.marks.items t.longest };
 }
 
 // Those of them that may have the key. Most keys that are asked for have no mark, and none of them has an entry.
@@ -44,7 +47,8 @@ fn marked<'a>(
     tag: u32,
     asked: &Asked<'_>,
 ) -> Bucket<'a>
-    requires table { IsTable texts.now entries.now starts.now marks.now }
+    requires kept { IsKept texts.now entries.now starts.now }
+    requires marked { AreMarked marks.now (tags_in entries.now) }
     requires tag { tag ≡ tag_of asked.now }
     ensures { IsBucketOf texts.now asked.now entries.now result }
 {
@@ -61,8 +65,9 @@ impl Table {
         entries: Vec<Entry>,
         starts: Vec<u32>,
         marks: Vec<u8>,
+        longest: u32,
     ) -> Table
-        requires { IsTable texts.items entries.items starts.items marks.items }
+        requires { IsTable texts.items entries.items starts.items marks.items longest }
         ensures { result ≡ pairs_in texts.items entries.items }
     {
         Table {
@@ -70,6 +75,7 @@ impl Table {
             entries,
             starts,
             marks,
+            longest,
         }
     }
 
@@ -129,6 +135,15 @@ impl Table {
             → near_of asked shown self.now ≡ [] }
     {
         is_marked(&self.marks, tag)
+    }
+
+    /// Whether a key of so many bytes may have places. Of those that are longer than each key of the table it is told that
+    /// they have none. It takes no memory.
+    pub fn may_have_length(&self, bytes: usize) -> bool
+        ensures { IsFalse result → (asked : List ℕ) (shown : Option ℕ) → length asked ≡ bytes
+            → near_of asked shown self.now ≡ [] }
+    {
+        bytes <= self.longest as usize
     }
 
     /// Whether there are no pairs.

@@ -2,3 +2,4 @@ pub mod Runs
 pub mod Passed
 pub mod Empty
 pub mod Repeats
+pub mod Ends

@@ -1,3 +1,4 @@
 pub mod Listed
 pub mod Met
 pub mod Over
+pub mod Tagged

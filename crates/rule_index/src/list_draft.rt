@@ -1,10 +1,11 @@
-ghost use Rattle.std.specs.Prelude.{◌≡◌, IfOk, OnOk};
+ghost use Rattle.std.specs.Prelude.{◌≡◌, List, fold, map, IfOk, OnOk};
 ghost use Rattle.dnr_rules.specs.Seen.{action_seen};
 ghost use Rattle.index_spec.specs.Pairs as pairs;
+ghost use Rattle.rule_spec.specs.Rule.{Rule};
 ghost use Rattle.rule_index.specs.Lists as spec;
 
 use crate::drafts::IndexDraft;
-use crate::list_index::ListIndex;
+use crate::list_index::{LendsRule, ListIndex};
 use dnr_base::NoMemory;
 use dnr_rules::{Action, Rule};
 use std::alloc::Global;
@@ -70,11 +71,27 @@ impl ListDraft {
         Ok(())
     }
 
+    /// Puts the next rules into it.
+    ///
+    /// `NoMemory`: as for `add`.
+    pub fn add_all<R: LendsRule>(&mut self, alloc: Global, rules: &[R]) -> Result<(), NoMemory>
+        ensures { OnOk result (self.new ≡ fold spec.with_next self.old (map R.lent rules.now)) }
+    {
+        let mut left = rules;
+        while let Some((one, rest)) = left.split_first() {
+            self.add(alloc, one.lent())?;
+            left = rest;
+        }
+        Ok(())
+    }
+
     /// The index of the rules.
     ///
     /// `NoMemory`: no memory is left for it.
     pub fn finish(self, alloc: Global) -> Result<ListIndex, NoMemory>
-        ensures { IfOk result (spec.AreReordered self) }
+        ensures reordered { IfOk result (spec.AreReordered self) }
+        ensures listed { (rules : List Rule) → self ≡ fold spec.with_next spec.empty_draft rules
+            → IfOk result (spec.IsListIndexOf rules) }
     {
         let whole = self.whole.finish(alloc)?;
         let framing = self.framing.finish(alloc)?;

@@ -61,11 +61,7 @@ impl ListIndex {
         ensures { IfOk result (spec.IsListIndexOf (map R.lent rules.now)) }
     {
         let mut draft = ListDraft::new(alloc);
-        let mut left = rules;
-        while let Some((one, rest)) = left.split_first() {
-            draft.add(alloc, one.lent())?;
-            left = rest;
-        }
+        draft.add_all(alloc, rules)?;
         draft.finish(alloc)
     }
 

@@ -13,6 +13,7 @@ new-requires c = record {
     cut = rw c.deref-2.ensures.value at c.in_ok-starts.ensures;
   };
   marked = rw c.deref-3.ensures.value at c.in_ok-marks.ensures;
+  none_longer = rw c.deref-4.ensures.value at c.longest_of-longest.ensures;
 }
 
 pub returns : goal.returns
