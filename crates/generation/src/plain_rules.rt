@@ -1,5 +1,5 @@
 // Whether the rules in force are plain: without a match of a pattern to ask for, and no redirects.
-ghost use Rattle.std.specs.Prelude.{◌≡◌, ◌&&◌, ◌||◌};
+ghost use Rattle.std.specs.Prelude.{◌≡◌, ◌&&◌, ◌||◌, map};
 ghost use Rattle.std.specs.List.{list_all};
 ghost use Rattle.dnr_rules.specs.Seen.{action_seen};
 ghost use Rattle.rule_segments.specs.Segments.{live_in};
@@ -9,7 +9,9 @@ ghost use Rattle.generation.specs.Plain as spec;
 ghost use Rattle.generation.specs.Plain.{are_plain, rules_of, rules_of_set};
 
 use dnr_rules::{Action, Rule};
-use ruleset_store::{InstalledExtension, InstalledSet, OffIds, RuleList, Segment, SharedRule};
+use ruleset_store::{
+    InstalledExtension, InstalledSet, KnownRules, LendsRule, OffIds, RuleList, Segment,
+};
 
 fn is_redirect(action: &Action) -> bool
     ensures { result ≡ spec.is_redirect (action_seen action.now) }
@@ -24,29 +26,29 @@ fn is_plain(rule: &Rule) -> bool
 }
 
 // Whether a rule is plain or off.
-fn is_plain_or_off(rule: &SharedRule, off: &OffIds) -> bool
+fn is_plain_or_off(rule: &Rule, off: &OffIds) -> bool
     ensures { result ≡ (spec.is_plain_rule rule.now || has_number off.now rule.now.id) }
 {
-    is_plain(rule.rule()) || off.has(rule.rule().id())
+    is_plain(rule) || off.has(rule.id())
 }
 
-fn are_plain_or_off(rules: &[SharedRule], off: &OffIds) -> bool
-    ensures { result ≡ list_all (λ rule. spec.is_plain_rule rule || has_number off.now rule.id) rules.now }
+fn are_plain_or_off<R: LendsRule>(rules: &[R], off: &OffIds) -> bool
+    ensures { result ≡ list_all (λ rule. spec.is_plain_rule rule || has_number off.now rule.id) (map R.lent rules.now) }
 {
-    rules.iter().all(|rule| is_plain_or_off(rule, off))
+    rules.iter().all(|rule| is_plain_or_off(rule.lent(), off))
 }
 
 // Whether those are plain that are not off.
-fn live_are_plain(rules: &[SharedRule], off: &OffIds) -> bool
+fn live_are_plain<R: LendsRule>(rules: &KnownRules<R>, off: &OffIds) -> bool
     ensures { result ≡ are_plain (without_ids off.now rules.now) }
 {
-    are_plain_or_off(rules, off)
+    are_plain_or_off(rules.as_slice(), off)
 }
 
 fn segment_is_plain(segment: &Segment) -> bool
     ensures { result ≡ are_plain (live_in segment.now) }
 {
-    live_are_plain(segment.rules().rules().shared(), segment.removed())
+    live_are_plain(segment.rules().rules(), segment.removed())
 }
 
 fn added_are_plain(segments: &[Segment]) -> bool
@@ -58,7 +60,7 @@ fn added_are_plain(segments: &[Segment]) -> bool
 fn set_is_plain(set: &InstalledSet) -> bool
     ensures { result ≡ are_plain (rules_of_set set.now) }
 {
-    !set.is_enabled() || live_are_plain(set.rules().shared(), set.disabled())
+    !set.is_enabled() || live_are_plain(set.rules(), set.disabled())
 }
 
 fn sets_are_plain(sets: &[InstalledSet]) -> bool

@@ -2,7 +2,8 @@ ghost use Rattle.std.specs.Prelude.{◌≡◌, ◌≤◌, ◌<◌, ◌++◌, [],
 ghost use Rattle.std.specs.List.{list_any};
 ghost use Rattle.std.specs.List.Sorted.{IsPermutation};
 ghost use Rattle.std.specs.Ordering.{int_eq};
-ghost use Rattle.rule_ids.specs.Counted.{IsRising, counts_among, has_known_id, known_of};
+ghost use Rattle.rule_ids.specs.Counted as spec;
+ghost use Rattle.rule_ids.specs.Counted.{IsRising, has_known_id, known_of};
 ghost use Rattle.rule_ids.specs.declared.known_rule.KnownRule.{KnownRule as Known};
 
 use crate::{Counts, KnownRule};
@@ -109,6 +110,17 @@ fn count_unsafe(known: &[KnownRule]) -> usize
     known.iter().filter(|one| one.is_unsafe).count()
 }
 
+// What these count for.
+fn counts_among(known: &[KnownRule]) -> Counts
+    ensures { result ≡ spec.counts_among known.now }
+{
+    Counts {
+        rules: known.len(),
+        patterns: count_patterns(known),
+        unsafe_rules: count_unsafe(known),
+    }
+}
+
 // The same in the order of the ids.
 fn sorted(mut known: Vec<KnownRule>) -> Result<Vec<KnownRule>, NoMemory>
     ensures same { IfOk result (λ rising. IsPermutation known.items rising.items) }
@@ -168,15 +180,17 @@ impl KnownIds {
         }
     }
 
+    /// What all rules count for.
+    pub fn all_counts(&self) -> Counts
+        ensures { result ≡ spec.counts_among self.now }
+    {
+        counts_among(self.known.as_slice())
+    }
+
     /// What the rules of this id count for.
     pub fn counts(&self, id: u32) -> Counts
-        ensures { result ≡ counts_among (filter (has_known_id id) self.now) }
+        ensures { result ≡ spec.counts_among (filter (has_known_id id) self.now) }
     {
-        let known = of_id(self.known.as_slice(), id);
-        Counts {
-            rules: known.len(),
-            patterns: count_patterns(known),
-            unsafe_rules: count_unsafe(known),
-        }
+        counts_among(of_id(self.known.as_slice(), id))
     }
 }

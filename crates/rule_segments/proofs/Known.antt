@@ -4,7 +4,8 @@ use Rattle.std.specs.Prelude.{count_by, filter}
 use Rattle.std.specs.List.{list_any}
 use Rattle.std.specs.List.Sorted.{IsPermutation}
 use Rattle.std.proofs.lemmas.List.Sums.{sum_by-cons, length-filter}
-use Rattle.std.proofs.lemmas.List.Sorted.{list_any-IsPermutation, sum_by-IsPermutation}
+use Rattle.std.proofs.lemmas.List.{length-map}
+use Rattle.std.proofs.lemmas.List.Sorted.{length_permutation, list_any-IsPermutation, sum_by-IsPermutation}
 use Rattle.rule_spec.specs.Rule.{Rule}
 use Rattle.update_spec.specs.Judge.{has_id}
 use Rattle.rule_ids.specs.Counted.{counts_of, counts_among, has_known_id, known_of}
@@ -70,3 +71,7 @@ pub counts_known : (id : ℕ) (rules : List Rule) (known : List KnownRule) → I
     → counts_among (filter (has_known_id id) known) ≡ counts_of (of_id id rules)
 counts_known id rules known same =
     rw (length_known (has_known_id id) rules known same, part_known (has_known_id id) (λ one. one.uses_regex) rules known same, part_known (has_known_id id) (λ one. one.is_unsafe) rules known same) refl
+
+pub all_known : (rules : List Rule) (known : List KnownRule) → IsPermutation (map known_of rules) known → counts_among known ≡ counts_of rules
+all_known rules known same =
+    rw (length_permutation (map known_of rules) known same ∙ length-map rules known_of, count_known (λ one. one.uses_regex) rules known same, count_known (λ one. one.is_unsafe) rules known same) refl

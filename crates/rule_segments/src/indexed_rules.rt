@@ -13,7 +13,7 @@ use std::sync::Arc;
 /// rules.
 #[derive(Debug, Drop)]
 pub struct IndexedRules {
-    rules: KnownRules,
+    rules: KnownRules<SharedRule>,
     index: Arc<ListIndex>,
 }
 
@@ -30,13 +30,6 @@ impl Model for IndexedRules {
     ghost invariant = { λ r. IsListIndexOf r.rules (arc_value r.index) };
 }
 
-// The index of the rules.
-fn index_of(alloc: Global, rules: &[SharedRule]) -> Result<ListIndex, NoMemory>
-    ensures { IfOk result (IsListIndexOf rules.now) }
-{
-    ListIndex::build(alloc, rules)
-}
-
 impl IndexedRules {
     // The rules of these handles.
     pub(crate) fn of_handles(
@@ -45,15 +38,16 @@ impl IndexedRules {
     ) -> Result<IndexedRules, NoMemory>
         ensures { IfOk result (λ indexed. indexed ≡ rules.items) }
     {
-        let index = index_of(alloc, rules.as_slice())?;
+        let rules = KnownRules::of(alloc, rules)?;
+        let index = ListIndex::build(alloc, rules.as_slice())?;
         Ok(IndexedRules {
-            rules: KnownRules::of_handles(alloc, rules)?,
+            rules,
             index: Arc::new(alloc, index)?,
         })
     }
 
     /// The rules.
-    pub fn rules(&self) -> &KnownRules
+    pub fn rules(&self) -> &KnownRules<SharedRule>
         ensures { result.now ≡ self.now }
     {
         &self.rules

@@ -30,9 +30,7 @@ fn remade(alloc: Global, segments: &[Segment], newer: &[SharedRule]) -> Result<S
     for segment in segments {
         segment.push_live(&mut handles)?;
     }
-    for rule in newer {
-        handles.push(rule.again()?)?;
-    }
+    SharedRule::push_all(&mut handles, newer)?;
     Segment::of(alloc, IndexedRules::of_handles(alloc, handles)?)
 }
 

@@ -2,26 +2,26 @@ ghost use Rattle.std.specs.Prelude.{◌≡◌, length, count_by, map, pos, slice
 ghost use Rattle.std.specs.List.{list_any};
 ghost use Rattle.std.specs.List.Sorted.{IsPermutation};
 ghost use Rattle.std.specs.Ordering.{int_eq};
-ghost use Rattle.update_spec.specs.Judge.{uses_regex, count_unsafe, has_id};
+ghost use Rattle.update_spec.specs.Judge.{uses_regex, has_id};
 ghost use Rattle.rule_ids.specs.Counted as spec;
 ghost use Rattle.rule_segments.specs.Segments.{of_id};
 
-use crate::shared_rule::SharedRule;
 use dnr_base::NoMemory;
 use dnr_rules::Rule;
 use rule_ids::{Counts, KnownDraft, KnownIds};
+use rule_index::LendsRule;
 use std::alloc::Global;
 use std::marker::Model;
 use std::sync::Arc;
 
-/// Rules in their order, each of which other lists may share, with what is known of them by their ids. Who takes them
-/// once more shares them. A clause sees the rules.
+/// Rules in their order, or handles on them, with what is known of them by their ids. Who takes them once more shares
+/// them. A clause sees the rules.
 #[derive(Debug, Drop)]
-pub struct KnownRules {
-    held: Arc<HeldRules>,
+pub struct KnownRules<R: LendsRule> {
+    held: Arc<HeldRules<R>>,
 }
 
-impl Model for KnownRules {
+impl<R: LendsRule> Model for KnownRules<R> {
     ghost use Rattle.std.specs.Prelude.{List};
     ghost use Rattle.std.specs.Arc.{arc_value};
     ghost use Rattle.rule_spec.specs.Rule as spec;
@@ -33,59 +33,44 @@ impl Model for KnownRules {
 
 // The rules themselves, what is known of them by their ids, and what they count for. A clause sees the rules.
 #[derive(Debug, Drop)]
-struct HeldRules {
-    rules: Vec<SharedRule>,
+struct HeldRules<R: LendsRule> {
+    rules: Vec<R>,
     known: KnownIds,
     counts: Counts,
 }
 
-impl Model for HeldRules {
-    ghost use Rattle.std.specs.Prelude.{List};
+impl<R: LendsRule> Model for HeldRules<R> {
+    ghost use Rattle.std.specs.Prelude.{List, map};
     ghost use Rattle.rule_spec.specs.Rule as spec;
     ghost use Rattle.rule_segments.specs.Counts.{AreHeld};
 
     ghost Value = { List spec.Rule };
 
-    ghost view = { λ h. h.rules.items };
+    ghost view = { λ h. map R.lent h.rules.items };
 
-    ghost invariant = { λ h. AreHeld h.rules.items h.known h.counts };
-}
-
-// How many of the rules have a `regexFilter`.
-fn count_patterns(rules: &[SharedRule]) -> usize
-    ensures { result ≡ count_by uses_regex rules.now }
-{
-    rules.iter().filter(|rule| rule.rule().uses_regex()).count()
-}
-
-// How many of the rules are unsafe.
-fn count_unsafe(rules: &[SharedRule]) -> usize
-    ensures { result ≡ count_unsafe rules.now }
-{
-    rules.iter().filter(|rule| rule.rule().is_unsafe()).count()
+    ghost invariant = { λ h. AreHeld (map R.lent h.rules.items) h.known h.counts };
 }
 
 // What is known of the rules by their ids.
-fn known_of(alloc: Global, rules: &[SharedRule]) -> Result<KnownIds, NoMemory>
-    ensures { IfOk result (λ known. IsPermutation (map spec.known_of rules.now) known) }
+fn known_of<R: LendsRule>(alloc: Global, rules: &[R]) -> Result<KnownIds, NoMemory>
+    ensures { IfOk result (λ known. IsPermutation (map spec.known_of (map R.lent rules.now)) known) }
 {
     let mut known = KnownDraft::new(alloc);
     for rule in rules {
-        known.add(rule.rule())?;
+        known.add(rule.lent())?;
     }
     known.finish()
 }
 
-impl HeldRules {
-    fn of(alloc: Global, rules: Vec<SharedRule>) -> Result<HeldRules, NoMemory>
-        ensures { IfOk result (λ held. held ≡ rules.items) }
+impl<R: LendsRule> HeldRules<R> {
+    #[tactic(auto, using(crate::proofs::Known::all_known))]
+    fn of(alloc: Global, rules: Vec<R>) -> Result<HeldRules<R>, NoMemory>
+    where
+        R: Drop,
+        ensures { IfOk result (λ held. held ≡ map R.lent rules.items) }
     {
         let known = known_of(alloc, rules.as_slice())?;
-        let counts = Counts {
-            rules: rules.len(),
-            patterns: count_patterns(rules.as_slice()),
-            unsafe_rules: count_unsafe(rules.as_slice()),
-        };
+        let counts = known.all_counts();
         Ok(HeldRules {
             rules,
             known,
@@ -93,8 +78,8 @@ impl HeldRules {
         })
     }
 
-    fn shared(&self) -> &[SharedRule]
-        ensures { result.now ≡ self.now }
+    fn as_slice(&self) -> &[R]
+        ensures { map R.lent result.now ≡ self.now }
     {
         self.rules.as_slice()
     }
@@ -112,19 +97,14 @@ impl HeldRules {
     }
 }
 
-impl KnownRules {
+impl<R: LendsRule> KnownRules<R> {
     /// These rules.
     ///
-    /// `NoMemory`: no memory is left for them.
-    pub fn of(alloc: Global, rules: Vec<Rule>) -> Result<KnownRules, NoMemory>
-        ensures { IfOk result (λ known. known ≡ rules.items) }
-    {
-        KnownRules::of_handles(alloc, SharedRule::all_of(alloc, rules)?)
-    }
-
-    // The rules of these handles.
-    pub(crate) fn of_handles(alloc: Global, rules: Vec<SharedRule>) -> Result<KnownRules, NoMemory>
-        ensures { IfOk result (λ known. known ≡ rules.items) }
+    /// `NoMemory`: no memory is left to share them.
+    pub fn of(alloc: Global, rules: Vec<R>) -> Result<KnownRules<R>, NoMemory>
+    where
+        R: Drop,
+        ensures { IfOk result (λ known. known ≡ map R.lent rules.items) }
     {
         let held = HeldRules::of(alloc, rules)?;
         Ok(KnownRules {
@@ -132,26 +112,26 @@ impl KnownRules {
         })
     }
 
-    /// The rules, each behind its handle.
-    pub fn shared(&self) -> &[SharedRule]
-        ensures { result.now ≡ self.now }
+    /// What lends the rules, in their order.
+    pub fn as_slice(&self) -> &[R]
+        ensures { map R.lent result.now ≡ self.now }
     {
-        self.held.shared()
+        self.held.as_slice()
     }
 
     /// How many rules there are.
     pub fn len(&self) -> usize
         ensures { result ≡ length self.now }
     {
-        self.shared().len()
+        self.as_slice().len()
     }
 
     /// The rule at a place, if there is one.
     pub fn get(&self, place: usize) -> Option<&Rule>
         ensures { option_copied result ≡ slice_get self.now place }
     {
-        match self.shared().get(place) {
-            Some(shared) => Some(shared.rule()),
+        match self.as_slice().get(place) {
+            Some(one) => Some(one.lent()),
             None => None,
         }
     }
@@ -173,7 +153,7 @@ impl KnownRules {
     /// The same rules once more, of which none is copied. It takes no memory.
     ///
     /// `NoMemory`: there are too many handles on them.
-    pub fn again(&self) -> Result<KnownRules, NoMemory>
+    pub fn again(&self) -> Result<KnownRules<R>, NoMemory>
         ensures { IfOk result (λ again. again ≡ self.now) }
     {
         Ok(KnownRules {

@@ -18,7 +18,7 @@ pub use indexed_rules::IndexedRules;
 pub use kept_rules::KeptRules;
 pub use known_rules::KnownRules;
 pub use rule_ids::OffIds;
-pub use rule_index::ListIndex;
+pub use rule_index::{LendsRule, ListIndex};
 pub use rule_list::RuleList;
 pub use segment::Segment;
 pub use shared_rule::SharedRule;

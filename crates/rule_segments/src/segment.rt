@@ -59,7 +59,7 @@ impl Segment {
     }
 
     // The same rules without their index.
-    fn known(&self) -> &KnownRules
+    fn known(&self) -> &KnownRules<SharedRule>
         ensures { result.now ≡ self.now.rules }
     {
         self.rules.rules()
@@ -108,7 +108,7 @@ impl Segment {
     pub(crate) fn push_live(&self, into: &mut Vec<SharedRule>) -> Result<(), NoMemory>
         ensures { OnOk result (into.new.items ≡ into.old.items ++ live_in self.now) }
     {
-        for rule in self.known().shared() {
+        for rule in self.known().as_slice() {
             if !self.removed.has(rule.rule().id()) {
                 into.push(rule.again()?)?;
             }

@@ -1,4 +1,4 @@
-ghost use Rattle.std.specs.Prelude.{◌≡◌, IfOk};
+ghost use Rattle.std.specs.Prelude.{◌≡◌, ◌++◌, IfOk, OnOk};
 
 use dnr_base::{Copied, NoMemory};
 use dnr_rules::Rule;
@@ -44,17 +44,14 @@ impl SharedRule {
         Ok(shared)
     }
 
-    /// The same rules once more, of which none is copied.
-    ///
-    /// `NoMemory`: no memory is left for their list.
-    pub fn all_again(alloc: Global, rules: &[SharedRule]) -> Result<Vec<SharedRule>, NoMemory>
-        ensures { IfOk result (λ again. again.items ≡ rules.now) }
+    // Puts the same rules behind others.
+    pub(crate) fn push_all(into: &mut Vec<SharedRule>, rules: &[SharedRule]) -> Result<(), NoMemory>
+        ensures { OnOk result (into.new.items ≡ into.old.items ++ rules.now) }
     {
-        let mut again = Vec::with_capacity(alloc, rules.len())?;
         for rule in rules {
-            again.push(rule.again()?)?;
+            into.push(rule.again()?)?;
         }
-        Ok(again)
+        Ok(())
     }
 
     /// The same rule once more. It takes no memory.

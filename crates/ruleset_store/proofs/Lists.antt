@@ -3,8 +3,11 @@ use Rattle.std.proofs.Common.{◌≡◌, ℕ, zero, suc, ◌+◌, ◌-◌, ◌<�
 use Rattle.std.specs.List.Sorted.{IsNonDecreasingBy}
 use Rattle.std.proofs.lemmas.Bool.{cond-true, cond-false, lt-ltb, le-ltb}
 use Rattle.std.proofs.lemmas.List.{drop_more}
+use Rattle.std.proofs.lemmas.List.Concat.{length-flat_map}
+use Rattle.std.proofs.lemmas.List.Folds.{flat_map-map}
 use Rattle.rule_spec.specs.Rule.{Rule}
 use Rattle.rule_spec.specs.State.{RuleSet}
+use Rattle.update_spec.specs.Judge.{count_rules}
 use Rattle.update_spec.specs.Update.{switched, with_first}
 use Rattle.ruleset_store.specs.Installed.{put_first}
 use Rattle.ruleset_store.specs.StaticIndex.{lists_of, place_in, rules_among, starts_from}
@@ -32,6 +35,12 @@ starts_more starts start next i sets set within is adds =
     ∙ ap (λ s. starts ++ start ∷ starts_from (start + length s.rules) (lists_of (drop (i + 1) sets))) (sym is)
     ∙ ap (λ n. starts ++ start ∷ starts_from n (lists_of (drop (i + 1) sets))) (sym adds)
     ∙ sym (append_assoc starts (start ∷ []) (starts_from next (lists_of (drop (i + 1) sets))))
+
+-- they hold as many rules as all rulesets together
+pub rules_counted : (sets : List RuleSet) → count_rules sets ≡ length (rules_among (lists_of sets))
+rules_counted sets =
+    sym (length-flat_map (λ (set : RuleSet). set.rules) sets)
+    ∙ ap length (sym (flat_map-map (λ (own : List Rule). own) (λ (set : RuleSet). set.rules) sets))
 
 -- ---- where a place stands
 

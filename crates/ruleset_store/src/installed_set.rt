@@ -7,7 +7,7 @@ ghost use Rattle.ruleset_store.specs.Installed.{is_off_by, off_in};
 
 use crate::ids::{has_number, wholes_among};
 use crate::rule_set::SharedSet;
-use crate::{KnownRules, OffIds, RuleSet, SharedRule};
+use crate::{KnownRules, OffIds, Rule, RuleSet};
 use dnr_base::{Items, NoMemory, Text};
 use std::alloc::Global;
 use std::collections::BTreeSet;
@@ -82,7 +82,7 @@ impl InstalledSet {
     }
 
     /// Its rules, in their order.
-    pub fn rules(&self) -> &KnownRules
+    pub fn rules(&self) -> &KnownRules<Rule>
         ensures { result.now ≡ self.now.rules }
     {
         self.set().rules()
@@ -168,24 +168,19 @@ impl InstalledSet {
         ensures { IfOk result (λ off. off.items ≡ off_in disable.now enable.now self.now.disabled self.now.rules) }
     {
         let mut off = Vec::new(alloc);
-        for rule in self.rules().shared() {
+        for rule in self.rules().as_slice() {
             if self.is_off_after(disable, enable, rule) {
-                off.push(rule.rule().id())?;
+                off.push(rule.id())?;
             }
         }
         Ok(off)
     }
 
     // Whether the rule is then off.
-    fn is_off_after(
-        &self,
-        disable: &BTreeSet<i128>,
-        enable: &BTreeSet<i128>,
-        rule: &SharedRule,
-    ) -> bool
+    fn is_off_after(&self, disable: &BTreeSet<i128>, enable: &BTreeSet<i128>, rule: &Rule) -> bool
         ensures { result ≡ is_off_by disable.now enable.now self.now.disabled rule.now.id }
     {
-        let id = rule.rule().id();
+        let id = rule.id();
         let disabled = has_number(disable, id);
         let enabled = has_number(enable, id);
         is_off(self.is_disabled(id), disabled, enabled)

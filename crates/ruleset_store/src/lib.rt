@@ -1,7 +1,8 @@
 //! What is installed: extensions with their rules, and the store of them, which judges updates and applies them.
 //!
 //! What they are stands in `rule_spec`, `specs/State.antt`; what each update changes and when it is refused in
-//! `update_spec`. Rules stand behind shared handles, so that a store after an update copies none.
+//! `update_spec`. Rulesets, and each rule that is added, stand behind shared handles, so that a store after an update
+//! copies no rule.
 #![tactic(auto)]
 
 mod changes;
@@ -26,7 +27,8 @@ pub use installed::InstalledExtension;
 pub use installed_set::InstalledSet;
 pub use match_patterns::MatchPattern;
 pub use rule_segments::{
-    IndexedRules, KeptRules, KnownRules, ListIndex, OffIds, RuleList, Segment, SharedRule,
+    IndexedRules, KeptRules, KnownRules, LendsRule, ListIndex, OffIds, RuleList, Segment,
+    SharedRule,
 };
 pub use rule_set::{RuleSet, SharedSet};
 pub use static_index::StaticIndex;

@@ -15,7 +15,7 @@ use std::sync::Arc;
 pub struct RuleSet {
     id: Text,
     enabled: bool,
-    rules: KnownRules,
+    rules: KnownRules<Rule>,
     origins: Items<Items<u32>>,
 }
 
@@ -36,12 +36,14 @@ impl RuleSet {
         alloc: Global,
         id: Text,
         enabled: bool,
-        rules: Vec<Rule>,
+        mut rules: Vec<Rule>,
         origins: Vec<Items<u32>>,
     ) -> Result<RuleSet, NoMemory>
         ensures { IfOk result (λ set. set
             ≡ record { id = id; enabled = enabled; rules = rules.items; origins = origins.items }) }
     {
+        // (they stay for long, in a list that had room to grow)
+        rules.shrink_to_fit();
         let rules = KnownRules::of(alloc, rules)?;
         Ok(RuleSet {
             id,
@@ -66,7 +68,7 @@ impl RuleSet {
     }
 
     /// Its rules, in their order.
-    pub fn rules(&self) -> &KnownRules
+    pub fn rules(&self) -> &KnownRules<Rule>
         ensures { result.now ≡ self.now.rules }
     {
         &self.rules

@@ -1,13 +1,13 @@
-ghost use Rattle.std.specs.Prelude.{◌≡◌, ◌++◌, ◌<◌, ◌≤◌, ℕ, List, length, slice_index, IfOk, OnOk};
+ghost use Rattle.std.specs.Prelude.{◌≡◌, ◌<◌, ◌≤◌, ℕ, List, length, slice_index, IfOk};
 ghost use Rattle.std.specs.List.Sorted.{IsNonDecreasingBy};
 ghost use Rattle.rule_index.specs.Lists.{IsListIndexOf};
 ghost use Rattle.rule_spec.specs.Rule.{Rule};
 ghost use Rattle.ruleset_store.specs.StaticIndex.{IsStaticIndexOf, lists_of, place_in, rules_among, starts_from};
 
+use crate::counts::count_rules;
 use crate::installed_set::InstalledSet;
 use dnr_base::NoMemory;
-use rule_index::ListIndex;
-use rule_segments::SharedRule;
+use rule_index::{ListDraft, ListIndex};
 use std::alloc::Global;
 use std::marker::Model;
 
@@ -30,31 +30,15 @@ impl Model for StaticIndex {
     ghost invariant = { λ s. spec.AreStarts s.starts.items };
 }
 
-// Puts the rules behind the others.
-fn push_all(into: &mut Vec<SharedRule>, rules: &[SharedRule]) -> Result<(), NoMemory>
-    ensures { OnOk result (into.new.items ≡ into.old.items ++ rules.now) }
+// The index of the rules of all the rulesets.
+fn index_of(alloc: Global, sets: &[InstalledSet]) -> Result<ListIndex, NoMemory>
+    ensures { IfOk result (IsListIndexOf (rules_among (lists_of sets.now))) }
 {
-    for rule in rules {
-        into.push(rule.again()?)?;
-    }
-    Ok(())
-}
-
-// The rules of all the rulesets.
-fn gathered(alloc: Global, sets: &[InstalledSet]) -> Result<Vec<SharedRule>, NoMemory>
-    ensures { IfOk result (λ all. all.items ≡ rules_among (lists_of sets.now)) }
-{
-    let mut all = Vec::new(alloc);
+    let mut draft = ListDraft::new(alloc);
     for set in sets {
-        push_all(&mut all, set.rules().shared())?;
+        draft.add_all(alloc, set.rules().as_slice())?;
     }
-    Ok(all)
-}
-
-fn index_of(alloc: Global, rules: &[SharedRule]) -> Result<ListIndex, NoMemory>
-    ensures { IfOk result (IsListIndexOf rules.now) }
-{
-    ListIndex::build(alloc, rules)
+    draft.finish(alloc)
 }
 
 // Where each of the rulesets begins.
@@ -82,18 +66,18 @@ fn begun(starts: &[usize], place: usize) -> usize
 
 impl StaticIndex {
     // The index of the rules of these rulesets.
+    #[tactic(auto, using(crate::proofs::Lists::rules_counted))]
     pub(crate) fn of(alloc: Global, sets: &[InstalledSet]) -> Result<StaticIndex, NoMemory>
         ensures { IfOk result (IsStaticIndexOf (lists_of sets.now)) }
     {
-        let rules = gathered(alloc, sets)?;
         let starts = starts_of(alloc, sets)?;
         if starts.len() > u32::MAX as usize {
             return Err(NoMemory);
         }
         Ok(StaticIndex {
-            index: index_of(alloc, rules.as_slice())?,
+            index: index_of(alloc, sets)?,
             starts,
-            count: rules.len(),
+            count: count_rules(sets)?,
         })
     }
 

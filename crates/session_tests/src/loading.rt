@@ -41,8 +41,7 @@ fn has_id(rules: &[Rule], id: u32) -> bool {
 
 // The ruleset `s`, which is not enabled and has the rule 5 alone.
 fn is_expected(set: &RuleSet) -> bool {
-    let rules = set.rules().shared();
-    let has_rule = rules.len() == 1 && rules.iter().all(|it| it.rule().id() == 5);
+    let has_rule = has_id(set.rules().as_slice(), 5);
     set.id() == "s" && !set.is_enabled() && has_rule
 }
 

@@ -1,9 +1,6 @@
-use Rattle.std.proofs.Common.{◌≡◌, ◌++◌, take}
+use Rattle.std.proofs.Common.{◌≡◌, take}
 use Rattle.rule_segments.specs.Segments.{live_among}
 use Rattle.rule_segments.proofs.joining.remade.Given as goal
 
 abbrev pub invariant-loop-segment : goal.invariant-loop-segment
 invariant-loop-segment l = l.handles.items ≡ live_among (take l.segment-index l.segments)
-
-abbrev pub invariant-loop-rule : goal.invariant-loop-rule
-invariant-loop-rule l = l.handles.items ≡ live_among l.fn.segments ++ take l.rule-index l.newer
