@@ -1,12 +1,19 @@
 // The parts of a pattern `scheme://host/path`.
 ghost use Rattle.std.specs.Prelude.{◌≡◌, drop};
 ghost use Rattle.dnr_spec.specs.MatchPatterns as spec;
-ghost use Rattle.match_patterns.specs.Parts.{parts_seen};
+ghost use Rattle.match_patterns.specs.Parts.{AreCuts, parts_seen};
 
 use crate::hosts::{covers_host, is_host_part};
 use crate::path::fits_path;
 use crate::stars::{place_of, place_of_path};
 use dnr_base::{Scheme, View};
+
+// Where a text is cut into parts: how long its scheme is, and its host.
+#[derive(Clone, Copy, Debug)]
+pub(crate) struct Cuts {
+    pub scheme: usize,
+    pub host: usize,
+}
 
 // The texts of the parts; the path begins with its `/`.
 #[derive(Clone, Copy)]
@@ -52,21 +59,34 @@ fn behind_three(text: &[u8]) -> &[u8]
     &text[text.len().min(3)..]
 }
 
+// Where the text is cut.
+pub(crate) fn cuts_of(text: &[u8]) -> Cuts
+    ensures { AreCuts text.now result }
+{
+    let scheme = place_of(b':', text);
+    let rest = behind_three(&text[scheme..]);
+    Cuts {
+        scheme,
+        host: place_of(b'/', rest),
+    }
+}
+
 // The parts of the text, if it has the form of a pattern.
-pub(crate) fn parts_of(text: &[u8]) -> Parts<'_>
+pub(crate) fn parts_at(text: &[u8], cuts: Cuts) -> Parts<'_>
+    requires { AreCuts text.now cuts }
     ensures { parts_seen result ≡ spec.cut_parts text.now }
 {
-    let (scheme, behind) = text.split_at(place_of(b':', text));
-    let rest = behind_three(behind);
-    let (host, path) = rest.split_at(place_of(b'/', rest));
+    let (scheme, behind) = text.split_at(cuts.scheme);
+    let (host, path) = behind_three(behind).split_at(cuts.host);
     Parts { scheme, host, path }
 }
 
 // Whether the text has the form of a pattern.
-pub(crate) fn has_parts(text: &[u8]) -> bool
+pub(crate) fn has_parts(text: &[u8], cuts: Cuts) -> bool
+    requires { AreCuts text.now cuts }
     ensures { result ≡ spec.has_parts text.now }
 {
-    let parts = parts_of(text);
+    let parts = parts_at(text, cuts);
     behind_scheme(text).starts_with(b"://")
         && is_scheme_part(parts.scheme)
         && is_host_part(parts.host)
