@@ -22,7 +22,7 @@ decided_so suffixes state read request verdict reads same = record { request = r
 pub ends_later : {T : Type 0} (blamed : RuleName → Type 0) (before now : ℕ) (result : Result T DecideRefusal) → before < 2 ^ 64 → Ends blamed before now result → before ≤ now
 ends_later blamed before now (Ok x) small ends = omega (arith, ends)
 ends_later blamed before now (Err (HostFault name)) small ends = let rose = ends.0 in omega (arith, rose, small)
-ends_later blamed before now (Err NoMemory) small ends = ends
+ends_later blamed before now (Err NoMemory) small ends = omega (arith, ends)
 
 -- a part at fault
 pub bad_so : (read : Result Request LineFault) (fault : LineFault) → fault ≢ line.NoMemory → IsFaultOf read fault → read ≡ Err fault

@@ -130,7 +130,7 @@ blamed suffixes state left rest hops request place hops_count left_is place_is c
 pub refuses_on : (P Q : ℕ → RuleName → Type 0) (before start now : ℕ) (refusal : FollowRefusal) → before ≡ start
     → ((hop : ℕ) (rule : RuleName) → P hop rule → Q hop rule) → Refuses P before now refusal → Refuses Q start now refusal
 refuses_on P Q before start now (HostFault hop rule) same f h = (subst (λ (n : ℕ). Rose n now) same h.0, f hop rule h.1)
-refuses_on P Q before start now NoMemory same f h = subst (λ (n : ℕ). n ≤ now) same h
+refuses_on P Q before start now NoMemory same f h = h ∙ same
 
 -- the answer of a part of the trace is the answer of the whole
 pub ends_in : {T : Type 0} (P Q : ℕ → RuleName → Type 0) (before start now : ℕ) (result : Result T FollowRefusal) → before ≡ start

@@ -1,5 +1,5 @@
 -- Why a request is not followed to its end.
-use Rattle.std.specs.Prelude.{◌≡◌, ℕ, ◌<◌, ◌≤◌, Result, Ok, Err}
+use Rattle.std.specs.Prelude.{◌≡◌, ℕ, ◌<◌, Result, Ok, Err}
 use Rattle.dnr_base.specs.declared.rule_name.RuleName.{RuleName}
 use Rattle.dnr_base.specs.Faults.{Rose}
 use Rattle.rule_spec.specs.PatternRule.{NamesPattern}
@@ -12,10 +12,10 @@ pub record IsBlamed (state : State) (hops : ℕ) (hop : ℕ) (rule : RuleName) :
   pub within : hop < hops
   pub pattern : NamesPattern state rule
 
--- A host's count of faults rises only where its fault is answered, or memory ran out.
+-- a host's count of faults rises only where its fault is answered
 abbrev pub Refuses : (ℕ → RuleName → Type 0) → ℕ → ℕ → FollowRefusal → Type 0
 Refuses blamed before now (HostFault hop rule) = Rose before now × blamed hop rule
-Refuses blamed before now NoMemory = before ≤ now
+Refuses blamed before now NoMemory = now ≡ before
 
 abbrev pub Ends : {T : Type 0} → (ℕ → RuleName → Type 0) → ℕ → ℕ → Result T FollowRefusal → Type 0
 Ends blamed before now (Ok x) = now ≡ before

@@ -28,7 +28,7 @@ use std::sync::ledger::Ledger;
 ///
 /// - `HostFault`: the host failed at this hop, which is one of the trace and counted from 0, on the `regexFilter` of
 ///   the rule that is named, which is in force. Its count of faults rose in this call; without such an answer it
-///   stays, unless memory ran out.
+///   stays.
 /// - `NoMemory`: memory ran out.
 pub fn follow<H: RegexHost, L: Ledger>(
     alloc: Global,

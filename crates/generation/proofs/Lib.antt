@@ -22,4 +22,5 @@ mod Pieces
 mod PlainHits
 mod Levels
 mod PlainScanned
+mod MostSegments
 pub mod LongFrames

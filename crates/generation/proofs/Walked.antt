@@ -1,5 +1,5 @@
 -- A walk over rules in force: what is kept, and which rule a fault names.
-use Rattle.std.proofs.Common.{◌≡◌, ℕ, ◌≤◌, List, [], ◌∷◌, ◌++◌, fold, option_to_list, Option, Some, None, Result, Ok, Err, refl, sym, ap, ◌∙◌, subst, ⊎_elim, append_assoc, append-nil}
+use Rattle.std.proofs.Common.{◌≡◌, ℕ, List, [], ◌∷◌, ◌++◌, fold, option_to_list, Option, Some, None, Result, Ok, Err, refl, sym, ap, ◌∙◌, subst, ⊎_elim, append_assoc, append-nil}
 use Rattle.std.specs.List.{cons_option, Contains}
 use Rattle.std.proofs.lemmas.Bool.{cases_Bool, cond-true, cond-false}
 use Rattle.std.proofs.lemmas.List.Elements.{Contains-append_left, Contains-append_right}
@@ -102,7 +102,7 @@ walked_pattern suffixes request start lives chunk rest more kept h cut =
 pub ends_on : (P Q : RuleName → Type 0) (before start now : ℕ) (refusal : DecideRefusal) → before ≡ start → ((rule : RuleName) → P rule → Q rule)
     → Refuses P before now refusal → Refuses Q start now refusal
 ends_on P Q before start now (HostFault rule) same f h = (subst (λ (n : ℕ). Rose n now) same h.0, f rule h.1)
-ends_on P Q before start now NoMemory same f h = subst (λ (n : ℕ). n ≤ now) same h
+ends_on P Q before start now NoMemory same f h = h ∙ same
 
 -- what the last call answers is answered
 pub ends_in : {T : Type 0} (P Q : RuleName → Type 0) (before start now : ℕ) (result : Result T DecideRefusal) → before ≡ start → ((rule : RuleName) → P rule → Q rule)

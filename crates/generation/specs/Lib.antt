@@ -9,3 +9,4 @@ pub mod Plain
 pub mod Choice
 pub mod Explained
 pub mod LongFrames
+pub mod Segments

@@ -1,5 +1,5 @@
 -- Why no verdict is given.
-use Rattle.std.specs.Prelude.{◌≡◌, ℕ, ◌≤◌, List, IsSome, Result, Ok, Err}
+use Rattle.std.specs.Prelude.{◌≡◌, ℕ, List, IsSome, Result, Ok, Err}
 use Rattle.std.specs.List.{Contains}
 use Rattle.dnr_base.specs.declared.rule_name.RuleName.{RuleName}
 use Rattle.dnr_base.specs.Faults.{Rose}
@@ -23,18 +23,16 @@ pub record IsPatternOf (extensions : List Extension) (name : RuleName) : Type 0 
   pub installed : Contains extensions extension
   pub rule : IsPattern extension.name (live_rules extension) name
 
--- A host's count of faults rises only where its fault is answered, or memory ran out for the name of the rule that
--- is blamed.
+-- a host's count of faults rises only where its fault is answered
 abbrev pub Refuses : (RuleName → Type 0) → ℕ → ℕ → DecideRefusal → Type 0
 Refuses blamed before now (HostFault name) = Rose before now × blamed name
-Refuses blamed before now NoMemory = before ≤ now
+Refuses blamed before now NoMemory = now ≡ before
 
 abbrev pub Ends : {T : Type 0} → (RuleName → Type 0) → ℕ → ℕ → Result T DecideRefusal → Type 0
 Ends blamed before now (Ok x) = now ≡ before
 Ends blamed before now (Err refusal) = Refuses blamed before now refusal
 
--- the answer where the test of this rule was refused
-abbrev pub IsRefusalAt : MatchRefusal → List ℕ → Live → DecideRefusal → Type 0
-IsRefusalAt tested.HostFault extension live (HostFault name) = name ≡ name_of extension live
-IsRefusalAt tested.NoMemory extension live (HostFault name) = ⊥
-IsRefusalAt refusal extension live NoMemory = Unit {0}
+-- the answer where the test of the rule of this name was refused
+abbrev pub refusal_by : MatchRefusal → RuleName → DecideRefusal
+refusal_by tested.HostFault name = HostFault name
+refusal_by tested.NoMemory name = NoMemory

@@ -5,11 +5,11 @@ ghost use Rattle.generation.specs.Refused.{Ends, IsPattern};
 ghost use Rattle.rule_match.specs.Answers.{IsCalm};
 ghost use Rattle.rule_spec.specs.Scan as spec;
 
+use crate::blame::refusal_by;
 use crate::decision::{Decision, deciding};
 use crate::kept::Kept;
 use crate::operations::{list_after, operations};
 use crate::refusal::DecideRefusal;
-use crate::scan::refusal_at;
 use crate::targets::target_by;
 use dnr_base::{Direction, Items, NoMemory, Request, RuleName, Text, Verb};
 use dnr_rules::Action;
@@ -108,12 +108,12 @@ fn sent<H: RegexHost>(
     ensures verdict { IfOk result (λ verdict. verdict ≡ choice.sent outcome request.now decision.now) }
     ensures ends { Ends (IsPattern decision.now.extension (decision.now.live ∷ [])) (H.faults host.old) (H.faults host.new) result }
 {
+    let Ok(rule) = decision.rule(alloc) else {
+        return Err(DecideRefusal::NoMemory);
+    };
     match decided_target(alloc, decision, request, host) {
-        Ok(target) => match decision.rule(alloc) {
-            Ok(rule) => Ok(plain(alloc, outcome, Some(rule), target)),
-            Err(_) => Err(DecideRefusal::NoMemory),
-        },
-        Err(refusal) => Err(refusal_at(alloc, refusal, decision.extension, &decision.live)),
+        Ok(target) => Ok(plain(alloc, outcome, Some(rule), target)),
+        Err(refusal) => Err(refusal_by(refusal, rule)),
     }
 }
 

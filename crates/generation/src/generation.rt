@@ -5,6 +5,7 @@ ghost use Rattle.generation.specs.First.{IsFirstRefusal};
 ghost use Rattle.generation.specs.Kept.{kept_from};
 ghost use Rattle.generation.specs.Plain.{is_plain};
 ghost use Rattle.generation.specs.Refused.{Ends};
+ghost use Rattle.generation.specs.Segments.{AreMost, added_lists};
 ghost use Rattle.index_spec.specs.Pairs.{pairs_of, rules_in};
 ghost use Rattle.ruleset_store.specs.Seen.{IsBatchRefusal, IsRefusalOf, update_seen, updates_seen};
 ghost use Rattle.update_spec.specs.Entries as entries;
@@ -140,7 +141,7 @@ impl Generation {
     /// # Errors
     ///
     /// - `HostFault`: the host failed on the `regexFilter` of the rule that is named, which is in force. Its count of
-    ///   faults rose in this call; without such an answer it stays, unless memory ran out.
+    ///   faults rose in this call; without such an answer it stays.
     /// - `NoMemory`: memory ran out.
     pub fn decide<H: RegexHost, L: Ledger>(
         &self,
@@ -216,7 +217,8 @@ impl Generation {
     /// such list. There are few for so many rules in force. It takes no memory.
     #[tactic(auto, using(crate::proofs::PlainRules::all_in_force))]
     pub fn segments(&self) -> usize
-        ensures { 2 ^ result ≤ 2 * length (rules_in self.now.state) + 1 }
+        ensures most { AreMost (added_lists self.now.state.extensions) result }
+        ensures few { 2 ^ result ≤ 2 * length (rules_in self.now.state) + 1 }
     {
         most_segments(self.extensions())
     }

@@ -1,8 +1,10 @@
 ghost use Rattle.std.specs.Prelude.{◌≡◌, ℕ, Option, IsTrue, OnOk, max};
 ghost use Rattle.generation.specs.Kept as spec;
+ghost use Rattle.rule_spec.specs.Access.{has_access};
 
+use crate::access::Access;
 use crate::live::Live;
-use dnr_base::{Candidate, NoMemory, Verb};
+use dnr_base::{Candidate, NoMemory, Request, Verb};
 use precedence::beats;
 use ruleset_store::InstalledExtension;
 use std::alloc::Global;
@@ -30,7 +32,7 @@ impl<'a> Model for Found<'a> {
 pub(crate) struct Kept<'a> {
     pub name: &'a str,
     pub age: u32,
-    pub access: bool,
+    pub access: Access<'a>,
     pub best: Option<Found<'a>>,
     pub changing: Vec<Live<'a>>,
     pub allowed: u32,
@@ -68,19 +70,20 @@ fn greater(a: u32, b: u32) -> u32
 }
 
 impl<'a> Kept<'a> {
-    // What is kept of the extension, which has this age and access to the request or not, before its first rule.
+    // What is kept of the extension, which has this age, before its first rule.
     pub(crate) fn new(
         alloc: Global,
         extension: &'a InstalledExtension,
         age: u32,
-        access: bool,
+        request: &'a Request,
     ) -> Kept<'a>
-        ensures { result ≡ spec.nothing_of extension.now.name age access }
+        ensures { result
+            ≡ spec.nothing_of extension.now.name age (has_access extension.now.access request.now) }
     {
         Kept {
             name: extension.name(),
             age,
-            access,
+            access: Access::of(extension, request),
             best: None,
             changing: Vec::new(alloc),
             allowed: 0,

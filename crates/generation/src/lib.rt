@@ -4,6 +4,7 @@
 #![tactic(auto)]
 
 mod access;
+mod blame;
 mod block;
 mod conclusion;
 mod decision;

@@ -8,18 +8,18 @@ ghost use Rattle.rule_spec.specs.State.{live_rules, live_with};
 ghost use Rattle.generation.specs.Block.{added_to, live_there, lives_in};
 ghost use Rattle.generation.specs.Hits.{acts_by, live_count, pairs_by, pairs_in, part_at, with_hit, with_part};
 ghost use Rattle.generation.specs.Kept as spec;
-ghost use Rattle.generation.specs.Refused.{Ends, IsPattern, IsPatternOf, IsRefusalAt};
+ghost use Rattle.generation.specs.Refused.{Ends, IsPattern, IsPatternOf};
 ghost use Rattle.dnr_base.specs.Request.{max_frames};
 
 use crate::DecideRefusal;
-use crate::access::has_access;
+use crate::blame::{name_asked, no_name, refusal_by};
 use crate::block::Block;
 use crate::hits::{Hit, find, no_hits};
 use crate::kept::Kept;
 use crate::live::Live;
 use crate::long_frames::long_frames;
 use crate::targets::may_act;
-use dnr_base::{NoMemory, Rank, Request, Steps};
+use dnr_base::{NoMemory, Rank, Request, RuleName, Steps};
 use dnr_rules::Rule;
 use regex_host::RegexHost;
 use rule_index::ListedPart;
@@ -27,6 +27,7 @@ use rule_match::{MatchRefusal, PreparedRequest, Reach};
 use ruleset_store::{InstalledExtension, Segment};
 use std::alloc::Global;
 use std::marker::Model;
+use std::mem::replace;
 use std::sync::ledger::Ledger;
 use suffix_list::SuffixList;
 
@@ -56,6 +57,13 @@ impl<'r> Model for Scan<'r> {
         × AreLong s.long.items s.request.now };
 }
 
+// What is written into while rules are walked: the hits of a block, and the name of the rule for which the host is asked.
+#[derive(Drop)]
+pub(crate) struct Scratch {
+    hits: Vec<Hit>,
+    asked: RuleName,
+}
+
 // The number, if it fits.
 fn narrow(n: usize) -> Option<u32>
     ensures { IfSome result (λ narrow. narrow ≡ n) }
@@ -70,24 +78,6 @@ fn frame_of(reach: Reach) -> Option<u32>
     match reach {
         Reach::Own => None,
         Reach::Frame(place) => Some(place),
-    }
-}
-
-// The refusal of a scan whose test of a rule was refused.
-pub(crate) fn refusal_at(
-    alloc: Global,
-    refusal: MatchRefusal,
-    extension: &str,
-    live: &Live<'_>,
-) -> DecideRefusal
-    ensures { IsRefusalAt refusal extension.now live.now result }
-{
-    match refusal {
-        MatchRefusal::NoMemory => DecideRefusal::NoMemory,
-        MatchRefusal::HostFault => match live.name(alloc, extension) {
-            Ok(name) => DecideRefusal::HostFault(name),
-            Err(_) => DecideRefusal::NoMemory,
-        },
     }
 }
 
@@ -123,13 +113,14 @@ impl<'r> Scan<'r> {
     // Whether the rule reaches the request by this part and may act on it.
     fn acts_by<H: RegexHost, L: Ledger>(
         &self,
-        kept: &Kept<'_>,
+        kept: &mut Kept<'_>,
         rule: &Rule,
         part: Reach,
         host: &mut H,
         steps: &mut Steps<L>,
     ) -> Result<bool, MatchRefusal>
-        ensures value { IfOk result (λ acts. acts ≡ acts_by self.now.suffixes self.now.request part kept.now rule.now) }
+        ensures value { IfOk result (λ acts. acts ≡ acts_by self.now.suffixes self.now.request part kept.old rule.now) }
+        ensures kept { kept.new ≡ kept.old }
         ensures few { steps.new ≤ steps.old + 1 }
         ensures asked { IsErrOf result MatchRefusal.HostFault → IsSome rule.now.condition.regex_filter }
         ensures cause { HasCauseOf MatchRefusal.HostFault (H.faults host.old) (H.faults host.new) result }
@@ -141,7 +132,7 @@ impl<'r> Scan<'r> {
         may_act(
             self.alloc,
             kept.name,
-            kept.access,
+            &mut kept.access,
             rule,
             &self.request.view,
             host,
@@ -154,6 +145,7 @@ impl<'r> Scan<'r> {
         kept: &mut Kept<'a>,
         live: Live<'a>,
         part: Reach,
+        asked: &mut RuleName,
         host: &mut H,
         steps: &mut Steps<L>,
     ) -> Result<(), DecideRefusal>
@@ -164,13 +156,16 @@ impl<'r> Scan<'r> {
         if kept.outdoes(&live) {
             return Ok(());
         }
+        if name_asked(self.alloc, asked, kept.name, &live).is_err() {
+            return Err(DecideRefusal::NoMemory);
+        }
         match self.acts_by(kept, live.rule, part, host, steps) {
             Ok(true) => match kept.add(live, frame_of(part)) {
                 Ok(()) => Ok(()),
                 Err(_) => Err(DecideRefusal::NoMemory),
             },
             Ok(false) => Ok(()),
-            Err(refusal) => Err(refusal_at(self.alloc, refusal, kept.name, &live)),
+            Err(refusal) => Err(refusal_by(refusal, replace(asked, no_name(self.alloc)))),
         }
     }
 
@@ -180,6 +175,7 @@ impl<'r> Scan<'r> {
         kept: &mut Kept<'a>,
         block: &Block<'a>,
         hit: Hit,
+        asked: &mut RuleName,
         host: &mut H,
         steps: &mut Steps<L>,
     ) -> Result<(), DecideRefusal>
@@ -188,7 +184,7 @@ impl<'r> Scan<'r> {
         ensures ends { Ends (IsPattern kept.old.name (option_to_list (live_there block.now hit.0))) (H.faults host.old) (H.faults host.new) result }
     {
         match block.live_at(hit.0 as usize) {
-            Some(live) => self.take_live(kept, live, part_at(hit.1), host, steps),
+            Some(live) => self.take_live(kept, live, part_at(hit.1), asked, host, steps),
             None => Ok(()),
         }
     }
@@ -199,6 +195,7 @@ impl<'r> Scan<'r> {
         kept: Kept<'a>,
         block: &Block<'a>,
         hits: &[Hit],
+        asked: &mut RuleName,
         host: &mut H,
         steps: &mut Steps<L>,
     ) -> Result<Kept<'a>, DecideRefusal>
@@ -208,7 +205,7 @@ impl<'r> Scan<'r> {
     {
         let mut kept = kept;
         for hit in hits {
-            match self.take_hit(&mut kept, block, *hit, host, steps) {
+            match self.take_hit(&mut kept, block, *hit, asked, host, steps) {
                 Ok(()) => {}
                 Err(refusal) => return Err(refusal),
             }
@@ -221,7 +218,7 @@ impl<'r> Scan<'r> {
         &self,
         kept: Kept<'a>,
         block: &Block<'a>,
-        hits: &mut Vec<Hit>,
+        scratch: &mut Scratch,
         host: &mut H,
         steps: &mut Steps<L>,
     ) -> Result<Kept<'a>, DecideRefusal>
@@ -229,8 +226,9 @@ impl<'r> Scan<'r> {
         ensures bound { steps.new ≤ steps.old + pairs_by (lives_in block.now) self.now.request }
         ensures ends { Ends (IsPattern kept.entry.name (lives_in block.now)) (H.faults host.old) (H.faults host.new) result }
     {
+        let Scratch { hits, asked } = scratch;
         match find(hits, block, self.request, &self.own, &self.long) {
-            Ok(()) => self.take_hits(kept, block, hits.as_slice(), host, steps),
+            Ok(()) => self.take_hits(kept, block, hits.as_slice(), asked, host, steps),
             Err(_) => Err(DecideRefusal::NoMemory),
         }
     }
@@ -242,7 +240,7 @@ impl<'r> Scan<'r> {
         rank: Rank,
         set: &'a str,
         segments: &'a [Segment],
-        hits: &mut Vec<Hit>,
+        scratch: &mut Scratch,
         host: &mut H,
         steps: &mut Steps<L>,
     ) -> Result<Kept<'a>, DecideRefusal>
@@ -253,7 +251,7 @@ impl<'r> Scan<'r> {
         let mut kept = kept;
         for segment in segments {
             let block = Block::of_segment(rank, set, segment);
-            match self.take_block(kept, &block, hits, host, steps) {
+            match self.take_block(kept, &block, scratch, host, steps) {
                 Ok(more) => kept = more,
                 Err(refusal) => return Err(refusal),
             }
@@ -266,7 +264,7 @@ impl<'r> Scan<'r> {
         &self,
         kept: Kept<'a>,
         extension: &'a InstalledExtension,
-        hits: &mut Vec<Hit>,
+        scratch: &mut Scratch,
         host: &mut H,
         steps: &mut Steps<L>,
     ) -> Result<Kept<'a>, DecideRefusal>
@@ -276,23 +274,39 @@ impl<'r> Scan<'r> {
     {
         let session = extension.session().segments();
         let dynamic = extension.dynamic().segments();
-        match self.take_segments(kept, Rank::Session, "_session", session, hits, host, steps) {
+        match self.take_segments(
+            kept,
+            Rank::Session,
+            "_session",
+            session,
+            scratch,
+            host,
+            steps,
+        ) {
             Ok(kept) => {
-                self.take_segments(kept, Rank::Dynamic, "_dynamic", dynamic, hits, host, steps)
+                self.take_segments(
+                    kept,
+                    Rank::Dynamic,
+                    "_dynamic",
+                    dynamic,
+                    scratch,
+                    host,
+                    steps,
+                )
             }
             Err(refusal) => Err(refusal),
         }
     }
 
     // What is kept of an extension.
-    fn take_extension<'a, H: RegexHost, L: Ledger>(
+    fn take_extension<H: RegexHost, L: Ledger>(
         &self,
         age: usize,
-        extension: &'a InstalledExtension,
-        hits: &mut Vec<Hit>,
+        extension: &'r InstalledExtension,
+        scratch: &mut Scratch,
         host: &mut H,
         steps: &mut Steps<L>,
-    ) -> Result<Kept<'a>, DecideRefusal>
+    ) -> Result<Kept<'r>, DecideRefusal>
         ensures kept { IfOk result (λ kept. kept ≡ spec.kept_of self.now.suffixes self.now.request age extension.now) }
         ensures bound { steps.new ≤ steps.old + pairs_by (live_rules extension.now) self.now.request }
         ensures ends { Ends (IsPattern extension.now.name (live_rules extension.now)) (H.faults host.old) (H.faults host.new) result }
@@ -301,31 +315,32 @@ impl<'r> Scan<'r> {
         let Some(age) = narrow(age) else {
             return Err(DecideRefusal::NoMemory);
         };
-        let access = has_access(extension.access(), self.request);
-        let kept = Kept::new(self.alloc, extension, age, access);
-        match self.take_added(kept, extension, hits, host, steps) {
-            Ok(kept) => self.take_block(kept, &Block::of_sets(extension), hits, host, steps),
+        let kept = Kept::new(self.alloc, extension, age, self.request);
+        match self.take_added(kept, extension, scratch, host, steps) {
+            Ok(kept) => self.take_block(kept, &Block::of_sets(extension), scratch, host, steps),
             Err(refusal) => Err(refusal),
         }
     }
 
     // What is kept of each extension.
-    pub(crate) fn take_all<'a, H: RegexHost, L: Ledger>(
+    pub(crate) fn take_all<H: RegexHost, L: Ledger>(
         &self,
-        extensions: &'a [InstalledExtension],
+        extensions: &'r [InstalledExtension],
         host: &mut H,
         steps: &mut Steps<L>,
-    ) -> Result<Vec<Kept<'a>>, DecideRefusal>
+    ) -> Result<Vec<Kept<'r>>, DecideRefusal>
         ensures kept { IfOk result (λ kepts. kepts.items ≡ spec.kept_from self.now.suffixes self.now.request 0 extensions.now) }
         ensures bound { steps.new ≤ steps.old + pairs_in extensions.now self.now.request }
         ensures ends { Ends (IsPatternOf extensions.now) (H.faults host.old) (H.faults host.new) result }
     {
-        let Some(mut hits) = no_hits(self.alloc) else {
+        let Some(hits) = no_hits(self.alloc) else {
             return Err(DecideRefusal::NoMemory);
         };
+        let asked = no_name(self.alloc);
+        let mut scratch = Scratch { hits, asked };
         let mut kepts = Vec::new(self.alloc);
         for (age, extension) in extensions.iter().enumerate() {
-            match self.take_extension(age, extension, &mut hits, host, steps) {
+            match self.take_extension(age, extension, &mut scratch, host, steps) {
                 Ok(kept) => {
                     if kepts.push(kept).is_err() {
                         return Err(DecideRefusal::NoMemory);

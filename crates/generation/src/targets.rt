@@ -8,6 +8,7 @@ ghost use Rattle.generation.specs.Targets.{IsPlain};
 ghost use Rattle.rule_match.specs.Answers.{IsCalm};
 ghost use Rattle.rule_spec.specs.Scan as spec;
 
+use crate::access::Access;
 use dnr_base::{NoMemory, Redirect, Scheme, Span, Text, View};
 use dnr_rules::{Action, Condition, Rule};
 use redirect_transform::target;
@@ -88,25 +89,27 @@ pub(crate) fn target_by<H: RegexHost>(
     }
 }
 
-// Whether a rule that reaches a request of this view may act on it, where its extension has access or not.
+// Whether a rule that reaches a request of this view may act on it.
 pub(crate) fn may_act<H: RegexHost>(
     alloc: Global,
     extension: &str,
-    access: bool,
+    access: &mut Access<'_>,
     rule: &Rule,
     view: &View,
     host: &mut H,
 ) -> Result<bool, MatchRefusal>
-    ensures value { IfOk result (λ may. may ≡ spec.may_act extension.now access rule.now rule.now.action view.now) }
+    ensures value { IfOk result (λ may. may ≡ spec.may_act extension.now access.old rule.now rule.now.action view.now) }
+    ensures access { access.new ≡ access.old }
     ensures asked { IsErrOf result MatchRefusal.HostFault → IsSome rule.now.condition.regex_filter }
     ensures cause { HasCauseOf MatchRefusal.HostFault (H.faults host.old) (H.faults host.new) result }
     ensures calm { IsCalm (H.faults host.old) (H.faults host.new) result }
 {
     match rule.action() {
-        Action::Redirect(redirect) if access => {
+        Action::Redirect(redirect) if access.is_given() => {
             Ok(target_by(alloc, extension, rule, redirect, view, host)?.is_some())
         }
-        Action::Redirect(_) | Action::ModifyHeaders(_) => Ok(access),
+        Action::Redirect(_) => Ok(false),
+        Action::ModifyHeaders(_) => Ok(access.is_given()),
         Action::UpgradeScheme => Ok(matches!(view.scheme(), Scheme::Http | Scheme::Ftp)),
         _ => Ok(true),
     }
