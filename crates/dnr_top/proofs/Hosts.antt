@@ -3,7 +3,7 @@ use Rattle.std.proofs.Common.{◌≡◌, ℕ, zero, suc, ◌≤◌, List, [], �
 use Rattle.std.specs.Prelude.{IfSome, slice_get, slice_index_or, slice_set}
 use Rattle.std.specs.List.{AllZip}
 use Rattle.std.proofs.lemmas.List.{take_all, drop_all, map-append}
-use Rattle.dnr_base.specs.Faults.{Rose, Count, next_count}
+use Rattle.dnr_base.specs.Faults.{Rose, Count}
 use Rattle.dnr_spec.specs.declared.status.Status.{Status}
 use Rattle.load_spec.specs.Files.{Files}
 use Rattle.dnr_spec.specs.Lines.{lines_of}
@@ -46,10 +46,6 @@ since_before first checked now finders later earlier (suc place) times rises = r
 
 pub rose_since : (first middle last : ℕ) → first ≤ middle → Rose middle last → Rose first last
 rose_since first middle last earlier rose = omega (arith, earlier, rose)
-
--- a start is counted, and what is read after it starts nothing
-pub rose_by_start : (before started now : ℕ) → started ≡ next_count before → now ≡ started → Rose before now
-rose_by_start before started now counted same = subst (λ (n : ℕ). next_count before ≤ n) (sym (same ∙ counted)) (omega arith)
 
 -- ---- what was served with some of the hosts
 

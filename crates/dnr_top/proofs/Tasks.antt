@@ -2,7 +2,7 @@
 use Rattle.std.proofs.Common.{◌≡◌, ℕ, List, [], ◌∷◌, ◌++◌, length, codes, true, false, Bool, Option, Some, None, Result, Err, refl, sym, ap, ◌∙◌, inl, inr, subst, arith}
 use Rattle.std.specs.Prelude.{IfSome, is_some, unwrap_or}
 use Rattle.std.specs.Io.KnownBytes.{Appends}
-use Rattle.dnr_base.specs.Faults.{Rose, Count}
+use Rattle.dnr_base.specs.Faults.{Rose, Count, next_count}
 use Rattle.dnr_io.specs.Shelf.{IsStarted}
 use Rattle.dnr_spec.specs.declared.status.Status.{Status}
 use Rattle.dnr_spec.specs.declared.status.Status.TheVariants as status
@@ -93,7 +93,7 @@ not_started_too : (whole part : Outside) → SaysNoLess whole part → HasNotSta
 not_started_too whole part less unstarted = subst (λ (c : Count). c.now ≡ c.before) (sym less.same_started) unstarted
 
 started_too : (whole part : Outside) → SaysNoLess whole part → HasStarted part → HasStarted whole
-started_too whole part less started = subst (λ (c : Count). Rose c.before c.now) (sym less.same_started) started
+started_too whole part less started = subst (λ (c : Count). c.now ≡ next_count c.before) (sym less.same_started) started
 
 -- an extension is not installed
 pub not_installed : (known : Option Files) (loaded : Loaded) (updates follows : Bool) (workers : ℕ) (script : List ℕ) (before now : Option (List ℕ)) (part : Outside) (s : Stop) (ended : Status)

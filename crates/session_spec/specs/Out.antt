@@ -5,7 +5,7 @@ use Rattle.dnr_spec.specs.declared.status.Status.{Status}
 use Rattle.dnr_spec.specs.declared.status.Status.TheVariants as status
 use Rattle.dnr_spec.specs.Lines.{lines_of, is_within_limits}
 use Rattle.dnr_spec.specs.Suffixes.{SuffixRule}
-use Rattle.dnr_base.specs.Faults.{Rose, Count}
+use Rattle.dnr_base.specs.Faults.{Rose, Count, next_count}
 use Rattle.rule_spec.specs.declared.rule_kind.RuleKind.{RuleKind}
 use Rattle.rule_spec.specs.declared.rule_kind.RuleKind.TheVariants.{Static}
 use Rattle.rule_spec.specs.Rule.{Rule}
@@ -168,8 +168,9 @@ ServesToEnd files outside session name =
 abbrev pub HasNotStarted : Outside → Type 0
 HasNotStarted outside = outside.started.now ≡ outside.started.before
 
+-- the script was started, once, and nothing else
 abbrev pub HasStarted : Outside → Type 0
-HasStarted outside = Rose outside.started.before outside.started.now
+HasStarted outside = outside.started.now ≡ next_count outside.started.before
 
 -- what is written where a file can't be read on: nothing before the script was started, and then its whole rounds
 abbrev pub WritesUnread : Files → Outside → Session → List ℕ → List ℕ → Type 0

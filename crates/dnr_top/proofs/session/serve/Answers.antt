@@ -1,8 +1,8 @@
-use Rattle.std.proofs.Common.{◌∷◌, map, ap, Err, refl}
+use Rattle.std.proofs.Common.{◌∷◌, ◌∙◌, map, ap, Err, refl}
 use Rattle.session_laws.proofs.Rises.{none_fell_yet}
 use Rattle.text_commands.specs.Ends.{count, outside}
 use Rattle.dnr_top.proofs.Fresh.{nothing_counted}
-use Rattle.dnr_top.proofs.Hosts.{rose_since, rose_by_start}
+use Rattle.dnr_top.proofs.Hosts.{rose_since}
 use Rattle.dnr_top.proofs.Tasks.{not_installed, not_started, script_served}
 use Rattle.dnr_top.proofs.session.serve.Goals as goal
 
@@ -26,7 +26,7 @@ returns-in-Ok-start-clause-allowed g c =
     (outside (count (g.F.Source.faults c.args.shelf.now) (g.F.Source.faults c.serve_started.new.source)) (count (g.F.Source.starts c.args.shelf.now) (g.F.Source.starts c.serve_started.new.source)) (count (g.O.Sink.faults c.args.out.now) (g.O.Sink.faults c.serve_started.new.out))
     (g.H.RegexHost.faults c.args.checker.now ∷ map g.H.RegexHost.faults c.args.finders.now) (g.H.RegexHost.faults c.serve_started.new.checker ∷ map g.H.RegexHost.faults c.serve_started.new.finders) (g.F.Source.left c.serve_started.new.source))
     c.serve_started.result c.ended.result c.in-Ok.ensures.opens c.in-Ok-start.ensures.started c.serve_started.ensures.told refl
-    (rose_by_start (g.F.Source.starts c.args.shelf.now) (g.F.Source.starts c.start.new.self) (g.F.Source.starts c.serve_started.new.source) c.in-Ok-start.ensures.counted c.serve_started.ensures.starts)
+    (c.serve_started.ensures.starts ∙ c.in-Ok-start.ensures.counted)
     (λ is. rose_since (g.F.Source.faults c.args.shelf.now) (g.F.Source.faults c.start.new.self) (g.F.Source.faults c.serve_started.new.source) c.in-Ok-start.ensures.cause.later (c.serve_started.ensures.read_fault.failed is))
     (λ is. c.serve_started.ensures.write_fault.failed is) c.serve_started.ensures.served c.ended.ensures.status
 
