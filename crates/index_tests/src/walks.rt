@@ -1,6 +1,6 @@
 //! Which places share a word with a text, and which have a domain over a host.
 use key_table::{Draft, Table};
-use key_walk::{DomainWalk, ListedDomains, ListedWords, TaggedWalk, WordWalk, Words};
+use key_walk::{DomainWalk, ListedWords, TaggedWalk, WordWalk, Words};
 use std::alloc::{AllocError, Global};
 use std::test::Fail;
 
@@ -50,53 +50,6 @@ fn a_host_lies_in_its_rests(rt: HostRuntime) -> Result<(), Fail> {
     assert!(rt; walk.next() == None);
     assert!(rt; DomainWalk::asked(&table, "x.b.com", Some(1)).next() == Some(1));
     assert!(rt; DomainWalk::new(&table, "B.COM").next() == None);
-    Ok(())
-}
-
-// The places that have one of the domains over a host.
-fn places_over(alloc: Global, table: &Table, host: &str) -> Result<Vec<u32>, AllocError> {
-    let domains = ListedDomains::of_host(host);
-    let mut places = Vec::new(alloc);
-    for place in DomainWalk::listed(table, &domains, None) {
-        places.push(place)?;
-    }
-    Ok(places)
-}
-
-#[test]
-fn a_host_lies_in_its_listed_rests(rt: HostRuntime) -> Result<(), Fail> {
-    let rows = [("com", 1), ("b.com", 2), ("4", 4), ("1.2.3.4", 8)];
-    let table = table_of(rt.alloc(), rows.as_slice())?;
-    let places = places_over(rt.alloc(), &table, "b.com")?;
-    assert!(rt; places.as_slice() == [2, 1].as_slice());
-    let deep = "1.2.3.4.5.6.7.8.9.a.b.com";
-    let places = places_over(rt.alloc(), &table, deep)?;
-    assert!(rt; places.as_slice() == [2, 1].as_slice());
-    let places = places_over(rt.alloc(), &table, "1.2.3.4")?;
-    assert!(rt; places.as_slice() == [8].as_slice());
-    let mut long = String::new(rt.alloc());
-    for _ in 0..30 {
-        long.push_str("0123456789.")?;
-    }
-    long.push_str("b.com")?;
-    let places = places_over(rt.alloc(), &table, &long)?;
-    assert!(rt; places.as_slice() == [2, 1].as_slice());
-    Ok(())
-}
-
-#[test]
-fn a_long_host_finds_what_its_last_domains_find(rt: HostRuntime) -> Result<(), Fail> {
-    let rows = [("com", 1), ("b.com", 2), ("a.a.b.com", 4)];
-    let table = table_of(rt.alloc(), rows.as_slice())?;
-    let mut long = String::new(rt.alloc());
-    for _ in 0..30_000 {
-        long.push_str("a.")?;
-    }
-    long.push_str("b.com")?;
-    let places = places_over(rt.alloc(), &table, &long)?;
-    assert!(rt; places.as_slice() == [4, 2, 1].as_slice());
-    let places = places_over(rt.alloc(), &table, "a.a.a.b.com")?;
-    assert!(rt; places.as_slice() == [4, 2, 1].as_slice());
     Ok(())
 }
 

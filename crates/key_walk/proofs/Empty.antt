@@ -1,7 +1,8 @@
 -- A table without pairs has no places.
 use Rattle.std.proofs.Common.{◌≡◌, ℕ, List, [], ◌∷◌, ◌++◌, length, Bool, true, false, cond, Option, refl, sym, ap, ◌∙◌, arith}
-use Rattle.key_table.specs.Pairs.{Pair}
+use Rattle.key_table.specs.Pairs.{Pair, lower_case, near_of}
 use Rattle.index_spec.specs.Words.{has_word, words_of}
+use Rattle.index_spec.specs.Keys.{domains_over}
 use Rattle.key_walk.specs.Met.{near_text, places_behind}
 use Rattle.key_walk.specs.Over.{near_each}
 

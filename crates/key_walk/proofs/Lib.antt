@@ -2,4 +2,3 @@ pub mod Runs
 pub mod Passed
 pub mod Empty
 pub mod Repeats
-pub mod Ends

@@ -1,4 +1,3 @@
 pub mod Listed
 pub mod Met
 pub mod Over
-pub mod Tagged

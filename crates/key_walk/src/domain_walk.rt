@@ -3,8 +3,6 @@ ghost use Rattle.std.specs.Iterator.{YieldsFirst, item_count};
 ghost use Rattle.key_walk.specs.Over as spec;
 
 use crate::domains::Domains;
-use crate::listed_domains::ListedDomains;
-use crate::tagged_domains::TaggedDomains;
 use key_table::{Asked, Places, Table};
 use std::marker::Model;
 
@@ -14,7 +12,7 @@ use std::marker::Model;
 pub struct DomainWalk<'a> {
     table: &'a Table,
     shown: Option<u128>,
-    domains: TaggedDomains<'a>,
+    domains: Domains<'a>,
     places: Places<'a>,
 }
 
@@ -28,24 +26,13 @@ impl<'a> Model for DomainWalk<'a> {
 }
 
 // The domains over a host that are asked for: none in a table without pairs.
-fn domains_for<'a>(table: &Table, host: &'a str) -> TaggedDomains<'a>
+fn domains_for<'a>(table: &Table, host: &'a str) -> Domains<'a>
     ensures { (shown : Option ℕ) → spec.near_each table.now shown result ≡ spec.near_host table.now shown host.now }
 {
     if table.is_empty() {
-        TaggedDomains::unlisted(Domains::none())
+        Domains::none()
     } else {
-        TaggedDomains::unlisted(Domains::new(host))
-    }
-}
-
-// Those of the listed domains that are asked for.
-fn listed_for<'a>(table: &Table, domains: &'a ListedDomains<'a>) -> TaggedDomains<'a>
-    ensures { (shown : Option ℕ) → spec.near_each table.now shown result ≡ spec.near_each table.now shown domains.now }
-{
-    if table.is_empty() {
-        TaggedDomains::unlisted(Domains::none())
-    } else {
-        domains.tagged()
+        Domains::new(host)
     }
 }
 
@@ -68,23 +55,6 @@ impl<'a> DomainWalk<'a> {
             places: table.no_places(),
         }
     }
-
-    /// The places that have one of the listed domains or, where it is told what is shown, those of them that need no
-    /// more. It hashes none of the domains for which the list has room.
-    pub fn listed(
-        table: &'a Table,
-        domains: &'a ListedDomains<'a>,
-        shown: Option<u128>,
-    ) -> DomainWalk<'a>
-        ensures { result ≡ spec.near_each table.now shown domains.now }
-    {
-        DomainWalk {
-            table,
-            shown,
-            domains: listed_for(table, domains),
-            places: table.no_places(),
-        }
-    }
 }
 
 impl<'a> Iterator for DomainWalk<'a> {
@@ -99,15 +69,15 @@ impl<'a> Iterator for DomainWalk<'a> {
             return Some(place);
         }
         while let Some(domain) = self.domains.next() {
-            // Before its tag is asked for, so that a long host is not hashed from each of its dots on.
-            if !self.table.may_have_length(domain.text().len()) {
+            // Before it is hashed, so that a long host is not hashed from each of its dots on.
+            if !self.table.may_have_length(domain.len()) {
                 continue;
             }
-            let tag = domain.tag();
+            let asked = Asked::exactly(domain);
+            let tag = asked.tag();
             if !self.table.may_have(tag) {
                 continue;
             }
-            let asked = Asked::exactly(domain.text());
             let mut places = self.table.in_bucket(asked, tag, self.shown);
             if let Some(place) = places.next() {
                 self.places = places;

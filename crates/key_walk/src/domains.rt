@@ -45,16 +45,6 @@ impl<'a> Domains<'a> {
             whole: true,
         }
     }
-
-    // Those that are left, once more.
-    pub(crate) fn again(&self) -> Domains<'a>
-        ensures { result ≡ self.now }
-    {
-        Domains {
-            left: self.left,
-            whole: self.whole,
-        }
-    }
 }
 
 // What follows the first dot.

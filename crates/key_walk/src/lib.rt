@@ -4,10 +4,7 @@
 
 mod domain_walk;
 mod domains;
-mod listed_domains;
 mod listed_words;
-mod tagged_domain;
-mod tagged_domains;
 mod tagged_walk;
 mod tagged_word;
 mod word_walk;
@@ -15,7 +12,6 @@ mod words;
 
 pub use domain_walk::DomainWalk;
 pub use domains::Domains;
-pub use listed_domains::ListedDomains;
 pub use listed_words::ListedWords;
 pub use tagged_walk::TaggedWalk;
 pub use tagged_word::TaggedWord;

@@ -1,32 +1,26 @@
-ghost use Rattle.std.specs.Prelude.{◌≡◌, option_map, IfOk};
-ghost use Rattle.std.specs.Option.{option_copied};
-ghost use Rattle.dnr_base.specs.View.{text_of, host_of};
-ghost use Rattle.index_spec.specs.Keys.{domains_over};
+ghost use Rattle.std.specs.Prelude.{◌≡◌, IfOk};
+ghost use Rattle.dnr_base.specs.View.{text_of};
 ghost use Rattle.index_spec.specs.Words.{words_of};
 ghost use Rattle.rule_index.specs.Needs as needs;
 
 use crate::needs::shown_with;
 use dnr_base::{NoMemory, Part};
-use key_walk::{ListedDomains, ListedWords};
+use key_walk::ListedWords;
 use std::alloc::Global;
 use std::marker::Model;
 
-/// A part of a request that several indexes are asked about. Its words are listed, and the domains over its host and its
-/// initiator, and hashed once. A clause sees the part.
+/// A part of a request that several indexes are asked about. Its words are listed, and hashed once. A clause sees the part.
 #[derive(Debug, Drop)]
 pub struct ListedPart<'a> {
     part: Part<'a>,
     words: ListedWords<'a>,
-    hosts: ListedDomains<'a>,
-    initiators: Option<ListedDomains<'a>>,
     shown: u128,
 }
 
 impl<'a> Model for ListedPart<'a> {
-    ghost use Rattle.std.specs.Prelude.{◌≡◌, option_map};
+    ghost use Rattle.std.specs.Prelude.{◌≡◌};
     ghost use Rattle.dnr_base.specs.Request.{Part};
-    ghost use Rattle.dnr_base.specs.View.{text_of, host_of};
-    ghost use Rattle.index_spec.specs.Keys.{domains_over};
+    ghost use Rattle.dnr_base.specs.View.{text_of};
     ghost use Rattle.index_spec.specs.Words.{words_of};
     ghost use Rattle.rule_index.specs.Needs.{shown_by};
 
@@ -35,13 +29,11 @@ impl<'a> Model for ListedPart<'a> {
     ghost view = { λ p. p.part };
 
     ghost invariant = { λ p. (p.words ≡ words_of (text_of p.part.view))
-        × (p.hosts ≡ domains_over (host_of p.part.view))
-        × (p.initiators ≡ option_map domains_over p.part.initiator)
         × (p.shown ≡ shown_by p.part) };
 }
 
 impl<'a> ListedPart<'a> {
-    /// Lists the words of a part, and the domains over its host and its initiator.
+    /// Lists the words of a part.
     ///
     /// `NoMemory`: no memory is left for them.
     pub fn new(alloc: Global, part: Part<'a>) -> Result<ListedPart<'a>, NoMemory>
@@ -49,17 +41,7 @@ impl<'a> ListedPart<'a> {
     {
         let words = ListedWords::of_text(alloc, part.view.text().as_bytes())?;
         let shown = shown_with(&part, words.words());
-        let hosts = ListedDomains::of_host(part.view.host());
-        let initiators = part
-            .initiator
-            .map(|host| ListedDomains::of_host(host.as_str()));
-        Ok(ListedPart {
-            part,
-            words,
-            hosts,
-            initiators,
-            shown,
-        })
+        Ok(ListedPart { part, words, shown })
     }
 
     /// The part.
@@ -74,20 +56,6 @@ impl<'a> ListedPart<'a> {
         ensures { result.now ≡ words_of (text_of self.now.view) }
     {
         &self.words
-    }
-
-    /// The domains over its host.
-    pub(crate) fn hosts(&self) -> &ListedDomains<'a>
-        ensures { result.now ≡ domains_over (host_of self.now.view) }
-    {
-        &self.hosts
-    }
-
-    /// The domains over its initiator, if it has one.
-    pub(crate) fn initiators(&self) -> Option<&ListedDomains<'a>>
-        ensures { option_copied result ≡ option_map domains_over self.now.initiator }
-    {
-        self.initiators.as_ref()
     }
 
     /// What it shows of what rules need, as bits.

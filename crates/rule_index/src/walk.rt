@@ -47,18 +47,6 @@ fn from_initiator<'a>(
     initiator.map(|host| DomainWalk::asked(table, host.as_str(), shown))
 }
 
-// The same of a part whose domains are listed.
-fn from_listed<'a>(
-    table: &'a Table,
-    listed: &'a ListedPart<'a>,
-    shown: Option<u128>,
-) -> Option<DomainWalk<'a>>
-    ensures { places_left result ≡ near_initiator table.now shown listed.now.initiator }
-{
-    let domains = listed.initiators()?;
-    Some(DomainWalk::listed(table, domains, shown))
-}
-
 impl<'a> Walk<'a> {
     pub(crate) fn new(
         others: &'a Table,
@@ -81,7 +69,7 @@ impl<'a> Walk<'a> {
         }
     }
 
-    // The same of a part whose words and domains are listed.
+    // The same of a part whose words are listed.
     pub(crate) fn listed(
         others: &'a Table,
         hosts: &'a Table,
@@ -95,12 +83,13 @@ impl<'a> Walk<'a> {
             ++ near_text words.now shown (text_of listed.now.view)
             ++ near_initiator initiators.now shown listed.now.initiator }
     {
+        let part = listed.part();
         Walk {
             others: Some(others.asked(Asked::exactly(&[]), shown)),
-            hosts: Some(DomainWalk::listed(hosts, listed.hosts(), shown)),
+            hosts: Some(DomainWalk::asked(hosts, part.view.host(), shown)),
             words: None,
             tagged: Some(TaggedWalk::asked(words, listed.words(), shown)),
-            initiators: from_listed(initiators, listed, shown),
+            initiators: from_initiator(initiators, part.initiator, shown),
         }
     }
 }

@@ -1,4 +1,4 @@
-use Rattle.std.proofs.Common.{ap, ◌∙◌, not}
+use Rattle.std.proofs.Common.{rules, ap, ◌∙◌, not}
 use Rattle.key_walk.proofs.Repeats.{has_it, with_it}
 use Rattle.key_walk.proofs.listed_words.meet.Goals as goal
 
