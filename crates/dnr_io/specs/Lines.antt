@@ -6,7 +6,7 @@ use Rattle.dnr_io.specs.Ahead.{HasNoLf}
 use Rattle.dnr_spec.specs.Lines.{RawLine, raw_lines_of, line_of, is_short, max_line, max_lines}
 
 -- a reader of lines: the bytes that were read and not yet given, how many lines were given, and whether
--- another may be asked for
+-- another may follow
 pub record Reading : Type 0 where
   pub pending : List ℕ
   pub count : ℕ
@@ -28,6 +28,17 @@ pub record GivesLine (all rest : Option (List ℕ)) (line : List ℕ) : Type 0 w
   pub first : TakesRaw all rest raw
   pub text : line ≡ line_of raw
   pub short : is_short raw ≡ true
+
+-- each of these lines has its LF
+abbrev pub HaveEnded : List RawLine → Type 0
+HaveEnded [] = Unit {0}
+HaveEnded (raw ∷ raws) = (raw.ended ≡ true) × HaveEnded raws
+
+-- where nothing is left behind them, the lines of what stood ahead have their LF, also the last
+abbrev pub AreEnded : Option (List ℕ) → Option (List ℕ) → Type 0
+AreEnded None rest = Unit {0}
+AreEnded (Some all) None = Unit {0}
+AreEnded (Some all) (Some rest) = rest ≡ [] → HaveEnded (raw_lines_of all)
 
 -- the first line of `all` is too long
 pub record StartsTooLong (all : List ℕ) : Type 0 where

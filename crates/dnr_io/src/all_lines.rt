@@ -1,5 +1,5 @@
 ghost use Rattle.std.specs.Prelude.{◌≡◌, ◌+◌, ◌<◌, ◌≤◌, true, false, None, length, map, is_some};
-ghost use Rattle.std.specs.Prelude.{IfOk, OnOk, IfSome, IsErrOf, IsTrue};
+ghost use Rattle.std.specs.Prelude.{IfOk, OnOk, IfSome, IsErrOf, IsFalse};
 ghost use Rattle.std.specs.Io.KnownBytes.{IsAtEnd};
 ghost use Rattle.dnr_spec.specs.Lines.{lines_of, is_within_limits, max_lines};
 ghost use Rattle.dnr_base.specs.Faults.{HasCauseOf};
@@ -37,11 +37,13 @@ fn next_line<S: Source>(
     lines: &mut Lines,
     source: &mut S,
 ) -> Result<Option<Vec<u8>>, LineRefusal>
-    requires { IsTrue lines.old.live }
+    requires ended { IsFalse lines.old.live → IsAtEnd (ahead lines.old (S.left source.old)) }
     ensures line { IfOk result (λ line. IfSome line (λ line.
         GivesLine (ahead lines.old (S.left source.old)) (ahead lines.new (S.left source.new)) line.items)) }
     ensures counted { IfOk result (λ line. IfSome line (λ line.
-        (lines.old.count < max_lines) × (lines.new.count ≡ lines.old.count + 1) × IsTrue lines.new.live)) }
+        (lines.old.count < max_lines) × (lines.new.count ≡ lines.old.count + 1))) }
+    ensures last { IfOk result (λ line. IfSome line (λ line.
+        IsFalse lines.new.live → IsAtEnd (ahead lines.new (S.left source.new)))) }
     ensures end { result ≡ Ok None →
         IsAtEnd (ahead lines.old (S.left source.old)) × IsAtEnd (S.left source.new) }
     ensures too_long { IsErrOf result LineRefusal.LineTooLong →

@@ -1,9 +1,9 @@
-ghost use Rattle.std.specs.Prelude.{◌≡◌, ◌+◌, ◌<◌, ◌≤◌, [], ◌↔◌, length, is_some, true, IfOk, OnOk, OnErr};
+ghost use Rattle.std.specs.Prelude.{◌≡◌, ◌+◌, ◌<◌, ◌≤◌, [], length, is_some, true, IfOk, OnOk, OnErr};
 ghost use Rattle.std.specs.Prelude.{IfSome, IsErrOf, IsTrue, IsFalse};
 ghost use Rattle.std.specs.Io.KnownBytes.{IsAtEnd, prepend_known};
 ghost use Rattle.dnr_spec.specs.Lines.{max_line, max_lines, without_cr};
 ghost use Rattle.dnr_base.specs.Faults.{HasCauseOf};
-ghost use Rattle.dnr_io.specs.Lines.{ahead, GivesLine, IsBeyond, StartsTooLong, StopsIn, TakesRaw};
+ghost use Rattle.dnr_io.specs.Lines.{ahead, AreEnded, GivesLine, IsBeyond, StartsTooLong, StopsIn, TakesRaw};
 
 use crate::ahead::Ahead;
 use crate::{LineRefusal, NoMemory, Source};
@@ -48,7 +48,7 @@ impl Lines {
         })
     }
 
-    /// Whether another line may be asked for: until a refusal or the end.
+    /// Whether another line may follow: until a refusal, or until the end was told.
     pub fn live(&self) -> bool
         ensures { result ≡ self.now.live }
     {
@@ -57,13 +57,15 @@ impl Lines {
 
     /// Puts the next line, without its LF and a CR before that, in place of what `line` has. `Ok(false)`
     /// is the end, and leaves `line` empty. So does a refusal, after which no line may be asked for any more. Where the
-    /// source fails, all lines that it gave whole were given.
+    /// source fails, all lines that it gave whole were given, and each of them has its LF.
+    ///
+    /// Once the source has told its end, as it does before a last line without an LF is given, it is not read again.
     pub fn next<S: Source>(
         &mut self,
         source: &mut S,
         line: &mut Vec<u8>,
     ) -> Result<bool, LineRefusal>
-        requires { IsTrue self.old.live }
+        requires ended { IsFalse self.old.live → IsAtEnd (ahead self.old (S.left source.old)) }
 
         ensures line { IfOk result (λ given. IsTrue given →
             GivesLine (ahead self.old (S.left source.old)) (ahead self.new (S.left source.new)) line.new.items) }
@@ -78,15 +80,22 @@ impl Lines {
             IfSome (ahead self.old (S.left source.old)) (IsBeyond self.old.count) }
         ensures stopped { IsErrOf result LineRefusal.ReadFault →
             StopsIn (ahead self.old (S.left source.old)) (S.left source.new) }
-        ensures live { IsTrue self.new.live ↔ (result ≡ Ok true) }
+        ensures going { IsErrOf result LineRefusal.ReadFault → IsTrue self.old.live }
+        ensures live { IsTrue self.new.live → result ≡ Ok true }
+        ensures lf { IsTrue self.new.live →
+            AreEnded (ahead self.old (S.left source.old)) (ahead self.new (S.left source.new)) }
+        ensures last { result ≡ Ok true → IsFalse self.new.live → IsAtEnd (ahead self.new (S.left source.new)) }
 
         ensures told { is_some (S.left source.new) ≡ is_some (S.left source.old) }
         ensures files { S.files source.new ≡ S.files source.old }
         ensures starts { S.starts source.new ≡ S.starts source.old }
         ensures cause { HasCauseOf LineRefusal.ReadFault (S.faults source.old) (S.faults source.new) result }
     {
-        self.live = false;
         line.clear();
+        if !self.live {
+            return Ok(false);
+        }
+        self.live = false;
         if !self.ahead.look(source)? {
             return Ok(false);
         }
@@ -94,7 +103,10 @@ impl Lines {
             return Err(LineRefusal::LineTooLong);
         }
         match take_raw_line(&mut self.ahead, source, line) {
-            Ok(true) => drop_cr(line),
+            Ok(true) => {
+                drop_cr(line);
+                self.live = true;
+            }
             Ok(false) => {}
             Err(refusal) => {
                 line.clear();
@@ -102,7 +114,6 @@ impl Lines {
             }
         }
         self.count += 1;
-        self.live = true;
         Ok(true)
     }
 }
@@ -118,6 +129,7 @@ fn take_raw_line<S: Source>(
     requires empty { line.old.items ≡ [] }
     ensures raw { IfOk result (λ ended. TakesRaw (prepend_known ahead.old (S.left source.old))
         (prepend_known ahead.new (S.left source.new)) (record { bytes = line.new.items; ended = ended })) }
+    ensures last { IfOk result (λ ended. IsFalse ended → IsAtEnd (prepend_known ahead.new (S.left source.new))) }
     ensures within { OnOk result (length line.new.items ≤ max_line) }
     ensures too_long { IsErrOf result LineRefusal.LineTooLong →
         IfSome (prepend_known ahead.old (S.left source.old)) StartsTooLong }
