@@ -81,7 +81,7 @@ impl Lines {
         ensures stopped { IsErrOf result LineRefusal.ReadFault →
             StopsIn (ahead self.old (S.left source.old)) (S.left source.new) }
         ensures going { IsErrOf result LineRefusal.ReadFault → IsTrue self.old.live }
-        ensures live { IsTrue self.new.live → result ≡ Ok true }
+        ensures live { IsTrue self.new.live → IsTrue self.old.live × (result ≡ Ok true) }
         ensures lf { IsTrue self.new.live →
             AreEnded (ahead self.old (S.left source.old)) (ahead self.new (S.left source.new)) }
         ensures last { result ≡ Ok true → IsFalse self.new.live → IsAtEnd (ahead self.new (S.left source.new)) }

@@ -14,7 +14,7 @@ use Rattle.session_spec.specs.Answers as spec
 use Rattle.session_spec.specs.Loading.{Loaded}
 use Rattle.session_spec.specs.Out.{Outside, Session, LoadsFor, takes_updates, follows_requests, workers_of, setting_of, HoldsScript, HoldsTooMuch, HoldsGiven, IsServed, HasStarted, ServesAll, ServesSome, Conduct, in_rounds, IsBeginning, EndsBy}
 use Rattle.session_spec.specs.Rounds.{rounds_of, whole_rounds_of, short_lines, ended_lines}
-use Rattle.session_serve.specs.Serving.{some_rounds, EndsUnread, EndsServing}
+use Rattle.session_serve.specs.Serving.{some_rounds, WritesGiven, EndsServing}
 use Rattle.session_serve.specs.declared.stop.ServeStop.{ServeStop}
 use Rattle.session_serve.specs.declared.stop.ServeStop.TheVariants as serve
 use Rattle.text_commands.specs.Ends.{IsRun}
@@ -67,27 +67,17 @@ served files session whole part loaded basis updates follows workers Script roun
 
 unread_ends : (files : Files) (session : Session) (whole part : Outside) (loaded : Loaded) (basis : Basis) (updates follows : Bool) (workers : ℕ) (name script : List ℕ) (before now : Option (List ℕ)) (left : Option (List ℕ))
     → IsSession files session whole part loaded basis updates follows workers → files name ≡ Some script → left ≡ Some whole.left → HasStarted whole
-    → IfSome left (λ rest. EndsUnread before now part.hosts (record { suffixes = basis.suffixes; workers = workers; updates = updates; follows = follows }) basis.state script rest)
+    → IfSome left (λ rest. WritesGiven before now part.hosts (record { suffixes = basis.suffixes; workers = workers; updates = updates; follows = follows }) basis.state script rest)
     → IsRun before now ((in_rounds files whole session name).Unread)
 unread_ends files session whole part loaded basis updates follows workers name script before now None is held known started ends = absurd (cc known)
-unread_ends files session whole part loaded basis updates follows workers name script before now (Some left) is held known started (inl gave) =
+unread_ends files session whole part loaded basis updates follows workers name script before now (Some left) is held known started gave =
     let same : left ≡ whole.left = cc known in (
       gave.writes.written,
       gave.writes.taken,
       inr (
         started,
-        inl (served files session whole part loaded basis updates follows workers (λ given. HoldsGiven files name given whole.left) (λ given. whole_rounds_of (ended_lines given)) gave.given gave.writes.written is
-            (record { script = script; held = held; split = subst (λ (l : List ℕ). script ≡ gave.given ++ l) same gave.split }) gave.writes.serves),
-      ),
-    )
-unread_ends files session whole part loaded basis updates follows workers name script before now (Some left) is held known started (inr all) =
-    let same : left ≡ whole.left = cc known in (
-      all.1.written,
-      all.1.taken,
-      inr (
-        started,
-        inr (served files session whole part loaded basis updates follows workers (λ s. (files name ≡ Some s) × (whole.left ≡ [])) (λ s. whole_rounds_of (short_lines s)) script all.1.written is
-            (held, sym same ∙ all.0) all.1.serves),
+        served files session whole part loaded basis updates follows workers (λ given. HoldsGiven files name given whole.left) (λ given. whole_rounds_of (ended_lines given)) gave.given gave.writes.written is
+            (record { script = script; held = held; split = subst (λ (l : List ℕ). script ≡ gave.given ++ l) same gave.split }) gave.writes.serves,
       ),
     )
 

@@ -8,7 +8,7 @@ use Rattle.dnr_spec.specs.declared.status.Status.{Status}
 use Rattle.load_spec.specs.Files.{Files}
 use Rattle.dnr_spec.specs.Lines.{lines_of}
 use Rattle.rule_spec.specs.State.{State}
-use Rattle.session_serve.specs.Serving.{WritesRounds, WritesPart, EndsUnread, EndsServing, some_rounds}
+use Rattle.session_serve.specs.Serving.{WritesRounds, WritesPart, WritesGiven, EndsServing, some_rounds}
 use Rattle.session_serve.specs.declared.stop.ServeStop.{ServeStop}
 use Rattle.session_serve.specs.declared.stop.ServeStop.TheVariants as serve
 use Rattle.session_spec.specs.Rounds.{rounds_of, whole_rounds_of, short_lines, ended_lines}
@@ -70,14 +70,13 @@ writes_too before now some all setting first rounds rise writes = record { writt
 part_too : (before now : Option (List ℕ)) (some all : List Count) (setting : Setting) (first : State) (rounds : List (List (List ℕ))) → RiseToo some all → WritesPart before now some setting first rounds → WritesPart before now all setting first rounds
 part_too before now some all setting first rounds rise part = record { sent = part.sent; rest = part.rest; taken = part.taken; serves = serves_too some all setting first rounds (part.sent ++ part.rest) rise part.serves }
 
-unread_too : (before now : Option (List ℕ)) (some all : List Count) (setting : Setting) (first : State) (script left : List ℕ) → RiseToo some all → EndsUnread before now some setting first script left → EndsUnread before now all setting first script left
-unread_too before now some all setting first script left rise (inl gave) = inl (record { given = gave.given; split = gave.split; writes = writes_too before now some all setting first (whole_rounds_of (ended_lines gave.given)) rise gave.writes })
-unread_too before now some all setting first script left rise (inr whole) = inr (whole.0, writes_too before now some all setting first (whole_rounds_of (short_lines script)) rise whole.1)
+given_too : (before now : Option (List ℕ)) (some all : List Count) (setting : Setting) (first : State) (script left : List ℕ) → RiseToo some all → WritesGiven before now some setting first script left → WritesGiven before now all setting first script left
+given_too before now some all setting first script left rise gave = record { given = gave.given; split = gave.split; writes = writes_too before now some all setting first (whole_rounds_of (ended_lines gave.given)) rise gave.writes }
 
 if_left : (before now : Option (List ℕ)) (some all : List Count) (setting : Setting) (first : State) (script : List ℕ) (left : Option (List ℕ)) → RiseToo some all
-    → IfSome left (λ rest. EndsUnread before now some setting first script rest) → IfSome left (λ rest. EndsUnread before now all setting first script rest)
+    → IfSome left (λ rest. WritesGiven before now some setting first script rest) → IfSome left (λ rest. WritesGiven before now all setting first script rest)
 if_left before now some all setting first script None rise ends = tt
-if_left before now some all setting first script (Some left) rise ends = unread_too before now some all setting first script left rise ends
+if_left before now some all setting first script (Some left) rise ends = given_too before now some all setting first script left rise ends
 
 ends_too : (before now : Option (List ℕ)) (some all : List Count) (setting : Setting) (first : State) (script : List ℕ) (left : Option (List ℕ)) (result : Result (Unit {0}) ServeStop) → RiseToo some all
     → EndsServing before now some setting first script left result → EndsServing before now all setting first script left result

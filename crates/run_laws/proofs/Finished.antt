@@ -158,13 +158,10 @@ module _ (files : Files) (outside : Outside) (session : Session) (name : List �
   stands status.Refused written ends = inr (as_it_is (WholeBy (in_rounds files outside session name)) written (inr (inl ends)))
   stands status.Usage written ends = absurd ends
   stands status.ReadFault written (shelf, inl none) = inl none.1
-  stands status.ReadFault written (shelf, inr (started, inl given)) =
+  stands status.ReadFault written (shelf, inr (started, given)) =
       let all = given.holds in
       inr (rounds_finished (given.script ++ outside.left) written _ given.loaded given.first
       (all.held ∙ ap Some all.split) given.opens (rounds_given given.script outside.left) given.serves)
-  stands status.ReadFault written (shelf, inr (started, inr whole)) =
-      inr (rounds_finished whole.script written (whole_rounds_of (short_lines whole.script)) whole.loaded whole.first whole.holds.0 whole.opens
-      (begins_all (List (List ℕ)) (whole_rounds_of (short_lines whole.script))) whole.serves)
   stands status.WriteFault written ends = inr (beginning_stands written ends.1)
   stands status.NoMemory written (inl none) = inl none
   stands status.NoMemory written (inr begins) = inr (beginning_stands written begins)

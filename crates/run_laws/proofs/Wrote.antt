@@ -38,8 +38,7 @@ module _ (Told : OfRounds) (files : Files) (outside : Outside) (session : Sessio
   wrote_so status.Refused written ends = ends
   wrote_so status.Usage written ends = ends
   wrote_so status.ReadFault written (shelf, inl none) = inl none
-  wrote_so status.ReadFault written (shelf, inr (started, inl given)) = inr (started, inl (tells _ _ written given))
-  wrote_so status.ReadFault written (shelf, inr (started, inr whole)) = inr (started, inr (tells _ _ written whole))
+  wrote_so status.ReadFault written (shelf, inr (started, given)) = inr (started, tells _ _ written given)
   wrote_so status.WriteFault written ends = beginning_so written ends.1
   wrote_so status.NoMemory written (inl none) = inl none
   wrote_so status.NoMemory written (inr begins) = inr (beginning_so written begins)

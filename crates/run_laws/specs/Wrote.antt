@@ -50,11 +50,6 @@ ShortRounds Told files name = Told (HoldsTooMuch files name) (λ script. whole_r
 abbrev pub GivenRounds : OfRounds → Files → Outside → List ℕ → List ℕ → Type 0
 GivenRounds Told files outside name = Told (λ given. HoldsGiven files name given outside.left) (λ given. whole_rounds_of (ended_lines given))
 
--- the same where it gave all, and its end was told before the fault: then its last line needs no LF
-abbrev pub RoundsToEnd : OfRounds → Files → Outside → List ℕ → List ℕ → Type 0
-RoundsToEnd Told files outside name =
-    Told (λ script. (files name ≡ Some script) × (outside.left ≡ [])) (λ script. whole_rounds_of (short_lines script))
-
 -- some first of those that are whole
 pub record FirstRounds (Told : OfRounds) (files : Files) (name written : List ℕ) : Type 0 where
   pub count : ℕ
@@ -74,7 +69,7 @@ WroteSo Told files outside session name status.Refused written = RefusesSession 
 WroteSo Told files outside session name status.Usage written = ⊥
 WroteSo Told files outside session name status.ReadFault written =
     (HasNotStarted outside × (written ≡ []))
-    ⊎ (HasStarted outside × (GivenRounds Told files outside name written ⊎ RoundsToEnd Told files outside name written))
+    ⊎ (HasStarted outside × GivenRounds Told files outside name written)
 WroteSo Told files outside session name status.WriteFault written = IsBeginning (Meanwhile Told files outside session name) written
 WroteSo Told files outside session name status.NoMemory written = (written ≡ []) ⊎ IsBeginning (Meanwhile Told files outside session name) written
 WroteSo Told files outside session name status.FileTooLong written =

@@ -7,9 +7,9 @@ use Rattle.std.proofs.lemmas.List.{map-append}
 use Rattle.std.proofs.lemmas.List.Sums.{take_while-cons}
 use Rattle.dnr_spec.specs.Lines.{RawLine, raw_lines_of, onto_first, line_of, lines_of, is_short, is_within_limits, max_line, max_lines}
 use Rattle.dnr_io.specs.Ahead.{HasNoLf, after_end}
-use Rattle.dnr_io.specs.Lines.{IsBeyond, StopsWithin}
+use Rattle.dnr_io.specs.Lines.{AreEnded, HaveEnded, IsBeyond, StopsWithin}
 use Rattle.dnr_io.proofs.RawLines.{raw_ended, raw_last}
-use Rattle.dnr_io.proofs.ReadSoFar.{IsReadSoFar}
+use Rattle.dnr_io.proofs.ReadSoFar.{IsReadSoFar, ReadSoFar}
 use Rattle.session_spec.specs.Rounds.{short_lines, has_end, ended_lines}
 
 take_past : {X : Type 0} (n : ℕ) (xs ys : List X) → length xs ≤ n → take n (xs ++ ys) ≡ xs ++ take (n - length xs) ys
@@ -110,11 +110,6 @@ bytes_append (raw ∷ raws) more =
 abbrev pub ArePlain : List RawLine → Type 0
 ArePlain [] = Unit {0}
 ArePlain (raw ∷ raws) = HasNoLf raw.bytes × ArePlain raws
-
--- each has its LF
-abbrev pub HaveEnded : List RawLine → Type 0
-HaveEnded [] = Unit {0}
-HaveEnded (raw ∷ raws) = (raw.ended ≡ true) × HaveEnded raws
 
 no_lf : HasNoLf []
 no_lf i inside = absurd (omega (arith, inside))
@@ -228,7 +223,7 @@ ended_of raws part short few plain ended none =
     ∙ ap (λ rs. map line_of (raws ++ rs)) (no_end _ (part_taken (max_lines - length raws) _ (part_short _ (part_lines part none))))
     ∙ ap (map line_of) (append-nil raws)
 
--- The bytes that a script gave before a fault, of which these lines had ended; or it gave all, and its end was told.
+-- the bytes that a script gave before a fault, of which these lines had ended
 pub record GaveLines (script left : List ℕ) (lines : List (List ℕ)) : Type 0 where
   pub given : List ℕ
   pub split : script ≡ given ++ left
@@ -238,31 +233,33 @@ some_raws : (bytes : List ℕ) (raws : List RawLine) → raw_lines_of bytes ≡ 
 some_raws bytes [] is some = absurd (some (sym (bytes_back bytes) ∙ ap bytes_of is))
 some_raws bytes (raw ∷ later) is some = (raw, later, refl)
 
-gave_before : (script rest part left : List ℕ) (lines : List (List ℕ)) (count : ℕ) → IsReadSoFar script rest lines count → count ≤ max_lines → rest ≢ []
-    → HasNoLf part → rest ≡ part ++ left → GaveLines script left lines
-gave_before script rest part left lines count read few some none split =
-    let behind = some_raws rest (raw_lines_of rest) refl some in
-    let ended = first_end read.raws behind.0 behind.1 (subst EndBefore (read.first ∙ ap (λ rs. read.raws ++ rs) behind.2) (all_end script)) in
+-- the lines that were read have ended: where bytes are left behind them in any case
+ended_so_far : (script rest : List ℕ) (lines : List (List ℕ)) (count : ℕ) (read : IsReadSoFar script rest lines count) → AreEnded (Some script) (Some rest) → HaveEnded read.raws
+ended_so_far script [] lines count read ended = subst HaveEnded (read.first ∙ append-nil read.raws) (ended refl)
+ended_so_far script (b ∷ rest) lines count read ended =
+    let behind = some_raws (b ∷ rest) (raw_lines_of (b ∷ rest)) refl (λ none. absurd (cc none)) in
+    first_end read.raws behind.0 behind.1 (subst EndBefore (read.first ∙ ap (λ rs. read.raws ++ rs) behind.2) (all_end script))
+
+pub gave_lines : (script rest left : List ℕ) (lines : List (List ℕ)) (count : ℕ) → IsReadSoFar script rest lines count → count ≤ max_lines → AreEnded (Some script) (Some rest)
+    → StopsWithin rest left → GaveLines script left lines
+gave_lines script rest left lines count read few last stops =
+    let ended = ended_so_far script rest lines count read last in
     let plain = first_plain read.raws (raw_lines_of rest) (subst ArePlain read.first (all_plain script)) in
     let all : script ≡ bytes_of read.raws ++ rest = sym (bytes_back script) ∙ ap bytes_of read.first ∙ bytes_append read.raws (raw_lines_of rest) ∙ ap (λ bs. bytes_of read.raws ++ bs) (bytes_back rest) in
     record {
-      given = bytes_of read.raws ++ part;
-      split = all ∙ ap (λ bs. bytes_of read.raws ++ bs) split ∙ sym (append_assoc (bytes_of read.raws) part left);
-      same = ended_of read.raws part read.short (omega (arith, read.counted, few)) plain ended none ∙ sym read.texts;
+      given = bytes_of read.raws ++ stops.part;
+      split = all ∙ ap (λ bs. bytes_of read.raws ++ bs) stops.split ∙ sym (append_assoc (bytes_of read.raws) stops.part left);
+      same = ended_of read.raws stops.part read.short (omega (arith, read.counted, few)) plain ended stops.plain ∙ sym read.texts;
     }
 
-left_of_nothing : (rest part left : List ℕ) → rest ≡ [] → rest ≡ part ++ left → left ≡ []
-left_of_nothing rest [] left none split = sym split ∙ none
-left_of_nothing rest (b ∷ part) left none split = absurd (cc (none, split))
+-- lines that have ended, and more of them
+both_ended : (raws more : List RawLine) → HaveEnded raws → HaveEnded more → HaveEnded (raws ++ more)
+both_ended [] more ended later = later
+both_ended (raw ∷ raws) more ended later = (ended.0, both_ended raws more ended.1 later)
 
-all_given : (script rest : List ℕ) (lines : List (List ℕ)) (count : ℕ) → IsReadSoFar script rest lines count → count ≤ max_lines → rest ≡ [] → short_lines script ≡ lines
-all_given script rest lines count read few none =
-    short_raws script rest lines count read few
-    ∙ ap (λ bs. lines ++ map line_of (take (max_lines - length read.raws) (take_while is_short (raw_lines_of bs)))) none
-    ∙ ap (λ rs. lines ++ map line_of rs) (take_nothing (max_lines - length read.raws)) ∙ append-nil lines
-
-pub gave_lines : (script rest left : List ℕ) (lines : List (List ℕ)) (count : ℕ) → IsReadSoFar script rest lines count → count ≤ max_lines → StopsWithin rest left
-    → GaveLines script left lines ⊎ ((left ≡ []) × (short_lines script ≡ lines))
-gave_lines script [] left lines count read few stops = inr (left_of_nothing [] stops.part left refl stops.split, all_given script [] lines count read few refl)
-gave_lines script (b ∷ rest) left lines count read few stops =
-    inl (gave_before script (b ∷ rest) stops.part left lines count read few (λ none. absurd (cc none)) stops.plain stops.split)
+pub ended_on : (known rest next : Option (List ℕ)) (lines : List (List ℕ)) (count : ℕ) → ReadSoFar known rest lines count → AreEnded known rest → AreEnded rest next → AreEnded known next
+ended_on None rest next lines count read ended later = tt
+ended_on (Some script) None next lines count read ended later = absurd read
+ended_on (Some script) (Some rest) None lines count read ended later = tt
+ended_on (Some script) (Some rest) (Some next) lines count read ended later = λ none.
+    subst HaveEnded (sym read.first) (both_ended read.raws (raw_lines_of rest) (ended_so_far script rest lines count read ended) (later none))

@@ -4,7 +4,7 @@ use Rattle.std.proofs.Math.Seq.{take-append_seam}
 use Rattle.std.specs.Prelude.{IfSome, IsErrAnd}
 use Rattle.std.specs.Io.KnownBytes.{Appends, IsAtEnd, prepend_known}
 use Rattle.dnr_base.specs.Faults.{Count}
-use Rattle.dnr_io.specs.Lines.{Reading, ahead, GivesLine, IsBeyond, StopsIn, StopsWithin}
+use Rattle.dnr_io.specs.Lines.{Reading, ahead, AreEnded, GivesLine, IsBeyond, StopsIn, StopsWithin}
 use Rattle.dnr_io.specs.Sink.{AppendsPart}
 use Rattle.dnr_io.specs.declared.line_refusal.LineRefusal.{LineRefusal}
 use Rattle.dnr_io.specs.declared.line_refusal.LineRefusal.TheVariants as refusal
@@ -19,10 +19,10 @@ use Rattle.session_laws.proofs.Rises.{rises_with, nothing_risen, none_fell_yet, 
 use Rattle.session_laws.proofs.Served.{Served, served_first, served_more, served_round, serves_rounds, serves_all}
 use Rattle.session_serve.specs.Position.{Position}
 use Rattle.session_serve.specs.Round.{setting_with, Kept, nothing_kept, Closes, LineServed, RoundCut, StopsAtLine}
-use Rattle.session_serve.specs.Serving.{stop_of, WritesRounds, WritesPart, WritesGiven, some_rounds, EndsUnread, EndsServing}
+use Rattle.session_serve.specs.Serving.{stop_of, WritesRounds, WritesPart, WritesGiven, some_rounds, EndsServing}
 use Rattle.session_serve.specs.declared.stop.ServeStop.{ServeStop}
 use Rattle.session_serve.specs.declared.stop.ServeStop.TheVariants as stop
-use Rattle.session_serve.proofs.Short.{first_short, all_short, GaveLines, gave_lines}
+use Rattle.session_serve.proofs.Short.{first_short, all_short, GaveLines, gave_lines, ended_on}
 
 -- So many lines of the script were served, and `rest` is left; the counts of the hosts were these first, and are those.
 pub record IsServedSoFar (setting : Setting) (first : State) (before now : Option (List ℕ)) (was is : List ℕ) (script rest : List ℕ) (count : ℕ) (kept : Kept) (state : State) : Type 0 where
@@ -145,6 +145,19 @@ one_line_more setting first before middle now was at is (Some script) (Some rest
     closed setting first before middle now was at is script rest next count later number kept left line state after served.grown (ends_round kept.held number line) refl (as_long was at fell) place up so_far
     (line_read script rest next so_far.done count later line so_far.read gives up) served.answer served.closes
 
+-- the lines that were read have ended, and one more
+pub ended_too : (setting : Setting) (first : State) (before now : Option (List ℕ)) (was is : List ℕ) (known rest next : Option (List ℕ)) (count : ℕ) (kept : Kept) (state : State)
+    → SoFar setting first before now was is known rest count kept state → AreEnded known rest → AreEnded rest next → AreEnded known next
+ended_too setting first before now was is None rest next count kept state so_far ended later = tt
+ended_too setting first before now was is (Some script) None next count kept state so_far ended later = absurd so_far
+ended_too setting first before now was is (Some script) (Some rest) next count kept state so_far ended later =
+    ended_on (Some script) (Some rest) next so_far.done count so_far.read ended later
+
+-- none was read
+pub none_ended : (known : Option (List ℕ)) (lines : Reading) → lines ≡ record { pending = []; count = 0; live = true } → AreEnded known (ahead lines known)
+none_ended None lines fresh = tt
+none_ended (Some script) lines fresh = subst (λ (l : Reading). AreEnded (Some script) (ahead l (Some script))) (sym fresh) (λ none. rw none tt)
+
 -- ---- how it ends
 
 -- what was allowed is allowed after further faults
@@ -220,12 +233,10 @@ whole_written setting first before now was is script rest count kept state so_fa
 }
 
 fault_written : (setting : Setting) (first : State) (before now : Option (List ℕ)) (was is : List ℕ) (script rest left : List ℕ) (count : ℕ) (kept : Kept) (state : State)
-    (so_far : IsServedSoFar setting first before now was is script rest count kept state) → GaveLines script left so_far.done ⊎ ((left ≡ []) × (short_lines script ≡ so_far.done))
-    → EndsUnread before now (counts_between was is) setting first script left
-fault_written setting first before now was is script rest left count kept state so_far (inl gave) =
-    inl (record { given = gave.given; split = gave.split; writes = whole_written setting first before now was is script rest count kept state so_far (ended_lines gave.given) gave.same })
-fault_written setting first before now was is script rest left count kept state so_far (inr all) =
-    inr (all.0, whole_written setting first before now was is script rest count kept state so_far (short_lines script) all.1)
+    (so_far : IsServedSoFar setting first before now was is script rest count kept state) → GaveLines script left so_far.done
+    → WritesGiven before now (counts_between was is) setting first script left
+fault_written setting first before now was is script rest left count kept state so_far gave =
+    record { given = gave.given; split = gave.split; writes = whole_written setting first before now was is script rest count kept state so_far (ended_lines gave.given) gave.same }
 
 -- what the source says of a refusal
 abbrev pub Refuses : LineRefusal → List ℕ → Option (List ℕ) → ℕ → Type 0
@@ -234,18 +245,18 @@ Refuses refusal.LineTooLong rest left count = IsBeyond count rest
 Refuses refusal.NoMemory rest left count = Unit {0}
 
 if_left : (setting : Setting) (first : State) (before now : Option (List ℕ)) (was is : List ℕ) (script rest : List ℕ) (left : Option (List ℕ)) (count : ℕ) (kept : Kept) (state : State)
-    → count ≤ max_lines → IfSome left (StopsWithin rest) → IsServedSoFar setting first before now was is script rest count kept state
-    → IfSome left (λ l. EndsUnread before now (counts_between was is) setting first script l)
-if_left setting first before now was is script rest None count kept state few stops so_far = tt
-if_left setting first before now was is script rest (Some left) count kept state few stops so_far =
-    fault_written setting first before now was is script rest left count kept state so_far (gave_lines script rest left so_far.done count so_far.read few stops)
+    → count ≤ max_lines → AreEnded (Some script) (Some rest) → IfSome left (StopsWithin rest) → IsServedSoFar setting first before now was is script rest count kept state
+    → IfSome left (λ l. WritesGiven before now (counts_between was is) setting first script l)
+if_left setting first before now was is script rest None count kept state few ended stops so_far = tt
+if_left setting first before now was is script rest (Some left) count kept state few ended stops so_far =
+    fault_written setting first before now was is script rest left count kept state so_far (gave_lines script rest left so_far.done count so_far.read few ended stops)
 
 not_read : (setting : Setting) (first : State) (before now : Option (List ℕ)) (was is : List ℕ) (script rest : List ℕ) (left : Option (List ℕ)) (count : ℕ) (kept : Kept) (state : State) (why : LineRefusal)
-    → NoneFell was is → count ≤ max_lines → Refuses why rest left count → IsServedSoFar setting first before now was is script rest count kept state
+    → NoneFell was is → count ≤ max_lines → (why ≡ refusal.ReadFault → AreEnded (Some script) (Some rest)) → Refuses why rest left count → IsServedSoFar setting first before now was is script rest count kept state
     → EndsServing before now (counts_between was is) setting first script left (Err (stop_of why))
-not_read setting first before now was is script rest left count kept state refusal.ReadFault fell few why so_far = if_left setting first before now was is script rest left count kept state few why so_far
-not_read setting first before now was is script rest left count kept state refusal.LineTooLong fell few why so_far = long_written setting first before now was is script rest left count kept state few why so_far
-not_read setting first before now was is script rest left count kept state refusal.NoMemory fell few why so_far =
+not_read setting first before now was is script rest left count kept state refusal.ReadFault fell few ended why so_far = if_left setting first before now was is script rest left count kept state few (ended refl) why so_far
+not_read setting first before now was is script rest left count kept state refusal.LineTooLong fell few ended why so_far = long_written setting first before now was is script rest left count kept state few why so_far
+not_read setting first before now was is script rest left count kept state refusal.NoMemory fell few ended why so_far =
     some_written setting first before now now was is is script rest count kept state fell (none_fell_yet is) few refl so_far
 
 fault_known : (rest : List ℕ) (left : Option (List ℕ)) → StopsIn (Some rest) left → IfSome left (StopsWithin rest)
@@ -259,13 +270,14 @@ refuses_so rest left count refusal.NoMemory beyond stops = tt
 
 -- the next line can't be read
 pub stops_reading : (setting : Setting) (first : State) (before now : Option (List ℕ)) (was is : List ℕ) (known rest left : Option (List ℕ)) (count : ℕ) (kept : Kept) (state : State) (why : LineRefusal) (e : ServeStop)
-    → e ≡ stop_of why → NoneFell was is → count ≤ max_lines → (why ≡ refusal.LineTooLong → IfSome rest (IsBeyond count)) → (why ≡ refusal.ReadFault → StopsIn rest left) → SoFar setting first before now was is known rest count kept state
+    → e ≡ stop_of why → NoneFell was is → count ≤ max_lines → (why ≡ refusal.LineTooLong → IfSome rest (IsBeyond count)) → (why ≡ refusal.ReadFault → StopsIn rest left) → (why ≡ refusal.ReadFault → AreEnded known rest)
+    → SoFar setting first before now was is known rest count kept state
     → IfSome known (λ script. EndsServing before now (counts_between was is) setting first script left (Err e))
-stops_reading setting first before now was is None rest left count kept state why e same fell few beyond stops so_far = tt
-stops_reading setting first before now was is (Some script) None left count kept state why e same fell few beyond stops so_far = absurd so_far
-stops_reading setting first before now was is (Some script) (Some rest) left count kept state why e same fell few beyond stops so_far =
+stops_reading setting first before now was is None rest left count kept state why e same fell few beyond stops ended so_far = tt
+stops_reading setting first before now was is (Some script) None left count kept state why e same fell few beyond stops ended so_far = absurd so_far
+stops_reading setting first before now was is (Some script) (Some rest) left count kept state why e same fell few beyond stops ended so_far =
     subst (λ (s : ServeStop). EndsServing before now (counts_between was is) setting first script left (Err s)) (sym same)
-    (not_read setting first before now was is script rest left count kept state why fell few (refuses_so rest left count why beyond stops) so_far)
+    (not_read setting first before now was is script rest left count kept state why fell few ended (refuses_so rest left count why beyond stops) so_far)
 
 -- ---- a line that is not served
 

@@ -34,24 +34,18 @@ pub record WritesPart (before now : Option (List ℕ)) (hosts : List Count) (set
 abbrev pub some_rounds : ℕ → List ℕ → List (List (List ℕ))
 some_rounds count script = take count (whole_rounds_of (short_lines script))
 
--- the rounds were served that are whole in what the script gave before a fault; where it gave all and its end was told,
--- its last line needs no LF
+-- the rounds were served that are whole in what the script gave before a fault
 pub record WritesGiven (before now : Option (List ℕ)) (hosts : List Count) (setting : Setting) (first : State) (script left : List ℕ) : Type 0 where
   pub given : List ℕ
   pub split : script ≡ given ++ left
   pub writes : WritesRounds before now hosts setting first (whole_rounds_of (ended_lines given))
-
-abbrev pub EndsUnread : Option (List ℕ) → Option (List ℕ) → List Count → Setting → State → List ℕ → List ℕ → Type 0
-EndsUnread before now hosts setting first script left =
-    WritesGiven before now hosts setting first script left
-    ⊎ ((left ≡ []) × WritesRounds before now hosts setting first (whole_rounds_of (short_lines script)))
 
 -- how it ends, and what was written: all rounds, those before what is too long, or some first ones; `left` is what the
 -- script has left, where that is told
 abbrev pub EndsServing : Option (List ℕ) → Option (List ℕ) → List Count → Setting → State → List ℕ → Option (List ℕ) → Result (Unit {0}) ServeStop → Type 0
 EndsServing before now hosts setting first script left (Ok done) =
     (is_within_limits script ≡ true) × WritesRounds before now hosts setting first (rounds_of (lines_of script))
-EndsServing before now hosts setting first script left (Err stop.ReadFault) = IfSome left (λ rest. EndsUnread before now hosts setting first script rest)
+EndsServing before now hosts setting first script left (Err stop.ReadFault) = IfSome left (λ rest. WritesGiven before now hosts setting first script rest)
 EndsServing before now hosts setting first script left (Err stop.TooLong) =
     (is_within_limits script ≡ false) × WritesRounds before now hosts setting first (whole_rounds_of (short_lines script))
 EndsServing before now hosts setting first script left (Err stop.WriteFault) =

@@ -159,11 +159,6 @@ abbrev pub ServesGiven : Files → Outside → Session → List ℕ → List ℕ
 ServesGiven files outside session name =
     IsServed files outside session (λ given. HoldsGiven files name given outside.left) (λ given. whole_rounds_of (ended_lines given))
 
--- the same where it gave all, and its end was told before the fault: then its last line needs no LF
-abbrev pub ServesToEnd : Files → Outside → Session → List ℕ → List ℕ → Type 0
-ServesToEnd files outside session name =
-    IsServed files outside session (λ script. (files name ≡ Some script) × (outside.left ≡ [])) (λ script. whole_rounds_of (short_lines script))
-
 -- Nothing was started, so what can't be read is a file that is read before the script, or the script can't be started.
 abbrev pub HasNotStarted : Outside → Type 0
 HasNotStarted outside = outside.started.now ≡ outside.started.before
@@ -176,7 +171,7 @@ HasStarted outside = outside.started.now ≡ next_count outside.started.before
 abbrev pub WritesUnread : Files → Outside → Session → List ℕ → List ℕ → Type 0
 WritesUnread files outside session name written =
     (HasNotStarted outside × (written ≡ []))
-    ⊎ (HasStarted outside × (ServesGiven files outside session name written ⊎ ServesToEnd files outside session name written))
+    ⊎ (HasStarted outside × ServesGiven files outside session name written)
 
 -- some first rounds were served of those that are whole, of a script that may be too long
 pub record ServesSome (files : Files) (outside : Outside) (session : Session) (name written : List ℕ) : Type 0 where

@@ -1,5 +1,6 @@
 use Rattle.std.proofs.Common.{◌≡◌, ◌-◌, ◌≤◌}
-use Rattle.std.specs.Prelude.{IsTrue}
+use Rattle.std.specs.Io.KnownBytes.{IsAtEnd}
+use Rattle.std.specs.Prelude.{IsTrue, IsFalse}
 use Rattle.dnr_io.specs.Lines.{ahead}
 use Rattle.dnr_spec.specs.Lines.{max_lines}
 use Rattle.keep_spec.specs.Agrees.{Agrees, Sound}
@@ -15,7 +16,7 @@ invariant-loop-memo g l = record {
   name : l.keep.name ≡ l.fn.keep.name;
   here : l.number ≡ l.lines.count;
   few : l.lines.count ≤ max_lines;
-  live : IsTrue l.lines.live;
+  ended : IsFalse l.lines.live → IsAtEnd (ahead l.lines (g.S.Source.left l.source));
   later : g.H.RegexHost.faults l.fn.host ≤ g.H.RegexHost.faults l.host;
   sound : IsTrue (g.D.Disk.tells l.fn.disk) → Sound l.fn.keep.name (g.D.Disk.images l.fn.disk) → Sound l.fn.keep.name (g.D.Disk.images l.disk);
   tells : g.D.Disk.tells l.disk ≡ g.D.Disk.tells l.fn.disk;

@@ -2,7 +2,7 @@ use Rattle.std.proofs.Common.{◌≡◌, Err, ◌∷◌, ◌+◌, length, map, a
 use Rattle.dnr_io.specs.Lines.{ahead}
 use Rattle.session_laws.proofs.Rises.{none_fell_on, none_fell_yet}
 use Rattle.session_serve.specs.Round.{setting_with, LineServed, StopsAtLine}
-use Rattle.session_serve.proofs.SoFar.{started, one_line_more, stops_reading, stops_serving, all_served, last_round_cut, nothing_served, stop_said, same_setting}
+use Rattle.session_serve.proofs.SoFar.{started, one_line_more, ended_too, none_ended, stops_reading, stops_serving, all_served, last_round_cut, nothing_served, stop_said, same_setting}
 use Rattle.session_serve.proofs.serving.serve_lines.Goals as goal
 
 pub returns-in_err-lines-clause-served : goal.returns-in_err-lines-clause-served
@@ -24,7 +24,8 @@ loop-round-init g c = record {
   seats = refl;
   here = search rules;
   few = search rules;
-  live = search rules;
+  ended = search rules;
+  lf = λ live. none_ended (g.S.Source.left c.args.source.now) c.in_ok-lines.lines c.in_ok-lines.ensures;
   fell = none_fell_yet (g.H.RegexHost.faults c.args.checker.now ∷ map g.H.RegexHost.faults c.args.finders.now);
   told = refl;
   starts = refl;
@@ -40,7 +41,7 @@ returns-in_err-next-clause-served g c =
     (g.O.Sink.taken c.args.out.now) (g.O.Sink.taken c.loop-round.out) (g.H.RegexHost.faults c.args.checker.now ∷ map g.H.RegexHost.faults c.args.finders.now)
     (g.H.RegexHost.faults c.loop-round.checker ∷ map g.H.RegexHost.faults c.loop-round.finders) (g.S.Source.left c.args.source.now)
     (ahead c.loop-round.lines (g.S.Source.left c.loop-round.source)) (g.S.Source.left c.next.new.source) c.loop-round.lines.count c.loop-round.round c.loop-round.session.state
-    c.in_err-next.field-0.0 e same was.fell was.few (λ is. next.too_long (ap Err is)) (λ is. next.stopped (ap Err is)) was.so_far)
+    c.in_err-next.field-0.0 e same was.fell was.few (λ is. next.too_long (ap Err is)) (λ is. next.stopped (ap Err is)) (λ is. was.lf (next.going (ap Err is))) was.so_far)
 
 pub loop-round-preserved : goal.loop-round-preserved
 loop-round-preserved g c =
@@ -62,7 +63,11 @@ loop-round-preserved g c =
       seats = one.seats ∙ was.seats;
       here = omega (arith, was.here, counted.1);
       few = omega (arith, counted.0, counted.1);
-      live = search rules;
+      ended = next.last (search rules);
+      lf = λ live. ended_too (setting_with c.args.session (length c.args.finders.now)) c.args.session.state (g.O.Sink.taken c.args.out.now) (g.O.Sink.taken c.loop-round.out)
+          (g.H.RegexHost.faults c.args.checker.now ∷ map g.H.RegexHost.faults c.args.finders.now) (g.H.RegexHost.faults c.loop-round.checker ∷ map g.H.RegexHost.faults c.loop-round.finders) (g.S.Source.left c.args.source.now)
+          (ahead c.loop-round.lines (g.S.Source.left c.loop-round.source)) (ahead c.next.new.self (g.S.Source.left c.next.new.source)) c.loop-round.lines.count c.loop-round.round c.loop-round.session.state
+          was.so_far (was.lf ((next.live live).0)) (next.lf live);
       fell = none_fell_on (g.H.RegexHost.faults c.args.checker.now ∷ map g.H.RegexHost.faults c.args.finders.now) (g.H.RegexHost.faults c.loop-round.checker ∷ map g.H.RegexHost.faults c.loop-round.finders) (g.H.RegexHost.faults c.serve_line.new.checker ∷ map g.H.RegexHost.faults c.serve_line.new.finders) was.fell one.later;
       told = next.told ∙ was.told;
       starts = next.starts ∙ was.starts;

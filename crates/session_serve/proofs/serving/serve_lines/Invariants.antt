@@ -1,6 +1,7 @@
 use Rattle.std.proofs.Common.{◌≡◌, ◌∷◌, ◌-◌, ◌≤◌, length, map, is_some}
-use Rattle.std.specs.Prelude.{IsTrue}
-use Rattle.dnr_io.specs.Lines.{ahead}
+use Rattle.std.specs.Io.KnownBytes.{IsAtEnd}
+use Rattle.std.specs.Prelude.{IsTrue, IsFalse}
+use Rattle.dnr_io.specs.Lines.{ahead, AreEnded}
 use Rattle.dnr_spec.specs.Lines.{max_lines}
 use Rattle.session_laws.specs.Turns.{NoneFell}
 use Rattle.session_serve.specs.Round.{setting_with}
@@ -18,7 +19,8 @@ invariant-loop-round g l = record {
   seats : length l.finders ≡ length l.fn.finders;
   here : l.number ≡ l.lines.count;
   few : l.lines.count ≤ max_lines;
-  live : IsTrue l.lines.live;
+  ended : IsFalse l.lines.live → IsAtEnd (ahead l.lines (g.S.Source.left l.source));
+  lf : IsTrue l.lines.live → AreEnded (g.S.Source.left l.fn.source) (ahead l.lines (g.S.Source.left l.source));
   fell : NoneFell (g.H.RegexHost.faults l.fn.checker ∷ map g.H.RegexHost.faults l.fn.finders) (g.H.RegexHost.faults l.checker ∷ map g.H.RegexHost.faults l.finders);
   told : is_some (g.S.Source.left l.source) ≡ is_some (g.S.Source.left l.fn.source);
   starts : g.S.Source.starts l.source ≡ g.S.Source.starts l.fn.source;
