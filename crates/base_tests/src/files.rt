@@ -38,6 +38,16 @@ fn a_failed_read_ends_the_lines(rt: HostRuntime) -> Result<(), Fail> {
 }
 
 #[test]
+fn a_source_is_not_read_behind_its_end(rt: HostRuntime) -> Result<(), Fail> {
+    let alloc = rt.alloc();
+    let bytes = Vec::from_slice(alloc, b"one\ntwo")?;
+    let mut source = MemorySource::new(bytes, 8, vec![in alloc; 3]?);
+    let lines = read_lines(alloc, &mut source).ok().ok_or("not read")?;
+    assert!(rt; lines.len() == 2 && source.faults() == 0);
+    Ok(())
+}
+
+#[test]
 fn a_failed_write_leaves_what_was_taken_before(rt: HostRuntime) -> Result<(), Fail> {
     let alloc = rt.alloc();
     let mut sink = MemorySink::new(alloc, 4, vec![in alloc; 3]?);
