@@ -246,6 +246,18 @@ What the compiler put into the loop around the phases is counted with the rest.
     return head + table(["phase", *columns], told)
 
 
+def answers_part(rows, of):
+    head = """
+## One request, and its answer
+
+By the clock, from the line that a program writes into a named pipe, with a `sync` behind it, to the answer that it reads, by `bench/answers`: 20,000 questions, one after another, of `serve` with the lists.
+`echo` is a program in C that only writes as many lines for each question. A ratio is the figure of a row by that of `echo`.
+
+"""
+    told = [[it["program"], f"{it['answer_us']} µs", it["ratio"], f"{it['slow_us']} µs"] for it in rows]
+    return head + table(["program", "an answer in the median", "ratio", "99 of 100"], told)
+
+
 def broker_part(rows, of):
     head = """
 ## Through the broker and the proxies
@@ -293,6 +305,7 @@ PARTS = {
     "rulesets": rulesets_part,
     "workers": workers_part,
     "phases": phases_part,
+    "answers": answers_part,
     "broker": broker_part,
 }
 
