@@ -4,7 +4,7 @@ use Rattle.std.proofs.Math.Seq.{take-append_seam}
 use Rattle.std.specs.Prelude.{IfSome, IfErr, OnOk, IsErrAnd, IsErrOf}
 use Rattle.std.specs.Io.KnownBytes.{Appends, IsAtEnd}
 use Rattle.dnr_base.specs.Faults.{Count}
-use Rattle.dnr_io.specs.Lines.{IsBeyond, StopsIn}
+use Rattle.dnr_io.specs.Lines.{AreEnded, IsBeyond, StopsIn}
 use Rattle.dnr_io.specs.Sink.{AppendsPart}
 use Rattle.dnr_io.specs.declared.line_refusal.LineRefusal.{LineRefusal}
 use Rattle.dnr_io.specs.declared.line_refusal.LineRefusal.TheVariants as refusal
@@ -20,7 +20,7 @@ use Rattle.session_rounds.specs.Read.{LinesRead, serving}
 use Rattle.session_rounds.specs.Rounds.{RoundAnswered}
 use Rattle.session_rounds.specs.declared.read_line.ReadLine.{ReadLine}
 use Rattle.session_serve.proofs.Short.{first_short, all_short, GaveLines, gave_lines}
-use Rattle.session_serve.specs.Serving.{stop_of, WritesRounds, WritesPart, some_rounds, EndsUnread, EndsServing}
+use Rattle.session_serve.specs.Serving.{stop_of, WritesRounds, WritesPart, WritesGiven, some_rounds, EndsServing}
 use Rattle.session_serve.specs.declared.stop.ServeStop.{ServeStop}
 use Rattle.session_serve.specs.declared.stop.ServeStop.TheVariants as stop
 use Rattle.session_spec.specs.Answers.{Setting, Serves}
@@ -123,31 +123,29 @@ long_written opening seats before now was checker finders script rest left given
 )
 
 fault_written : (opening : Basis) (seats : ℕ) (before now : Option (List ℕ)) (was : List ℕ) (checker : ℕ) (finders : List ℕ) (script rest left : List ℕ) (given : ℕ) (round : ReadRound) (list : List Entry)
-    (so_far : IsServedSoFar opening seats before now was checker finders script rest given [] round list) → GaveLines script left so_far.done ⊎ ((left ≡ []) × (short_lines script ≡ so_far.done))
-    → EndsUnread before now (counts_between was (checker ∷ finders)) (serving opening.suffixes seats) opening.state script left
-fault_written opening seats before now was checker finders script rest left given round list so_far (inl gave) =
-    inl (record { given = gave.given; split = gave.split; writes = whole_written opening seats before now was checker finders script rest given round list so_far (ended_lines gave.given) gave.same })
-fault_written opening seats before now was checker finders script rest left given round list so_far (inr all) =
-    inr (all.0, whole_written opening seats before now was checker finders script rest given round list so_far (short_lines script) all.1)
+    (so_far : IsServedSoFar opening seats before now was checker finders script rest given [] round list) → GaveLines script left so_far.done
+    → WritesGiven before now (counts_between was (checker ∷ finders)) (serving opening.suffixes seats) opening.state script left
+fault_written opening seats before now was checker finders script rest left given round list so_far gave =
+    record { given = gave.given; split = gave.split; writes = whole_written opening seats before now was checker finders script rest given round list so_far (ended_lines gave.given) gave.same }
 
 if_left : (opening : Basis) (seats : ℕ) (before now : Option (List ℕ)) (was : List ℕ) (checker : ℕ) (finders : List ℕ) (script rest : List ℕ) (left : Option (List ℕ)) (given : ℕ) (round : ReadRound) (list : List Entry)
-    → given ≤ max_lines → StopsIn (Some rest) left → IsServedSoFar opening seats before now was checker finders script rest given [] round list
-    → IfSome left (λ l. EndsUnread before now (counts_between was (checker ∷ finders)) (serving opening.suffixes seats) opening.state script l)
-if_left opening seats before now was checker finders script rest None given round list few stops so_far = tt
-if_left opening seats before now was checker finders script rest (Some left) given round list few stops so_far =
-    fault_written opening seats before now was checker finders script rest left given round list so_far (gave_lines script rest left so_far.done given (plain_read script rest so_far.done given so_far.read) few stops)
+    → given ≤ max_lines → AreEnded (Some script) (Some rest) → StopsIn (Some rest) left → IsServedSoFar opening seats before now was checker finders script rest given [] round list
+    → IfSome left (λ l. WritesGiven before now (counts_between was (checker ∷ finders)) (serving opening.suffixes seats) opening.state script l)
+if_left opening seats before now was checker finders script rest None given round list few ended stops so_far = tt
+if_left opening seats before now was checker finders script rest (Some left) given round list few ended stops so_far =
+    fault_written opening seats before now was checker finders script rest left given round list so_far (gave_lines script rest left so_far.done given (plain_read script rest so_far.done given so_far.read) few ended stops)
 
 not_read : (opening : Basis) (seats : ℕ) (before now : Option (List ℕ)) (was : List ℕ) (checker : ℕ) (finders : List ℕ) (script rest : List ℕ) (left : Option (List ℕ)) (given : ℕ) (round : ReadRound) (list : List Entry) (why : LineRefusal)
-    → given ≤ max_lines → (why ≡ refusal.LineTooLong → IsBeyond given rest) → (why ≡ refusal.ReadFault → StopsIn (Some rest) left) → IsServedSoFar opening seats before now was checker finders script rest given [] round list
+    → given ≤ max_lines → (why ≡ refusal.LineTooLong → IsBeyond given rest) → (why ≡ refusal.ReadFault → StopsIn (Some rest) left × AreEnded (Some script) (Some rest)) → IsServedSoFar opening seats before now was checker finders script rest given [] round list
     → EndsServing before now (counts_between was (checker ∷ finders)) (serving opening.suffixes seats) opening.state script left (Err (stop_of why))
-not_read opening seats before now was checker finders script rest left given round list refusal.ReadFault few beyond stops so_far = if_left opening seats before now was checker finders script rest left given round list few (stops refl) so_far
+not_read opening seats before now was checker finders script rest left given round list refusal.ReadFault few beyond stops so_far = if_left opening seats before now was checker finders script rest left given round list few (stops refl).1 (stops refl).0 so_far
 not_read opening seats before now was checker finders script rest left given round list refusal.LineTooLong few beyond stops so_far = long_written opening seats before now was checker finders script rest left given round list few (beyond refl) so_far
 not_read opening seats before now was checker finders script rest left given round list refusal.NoMemory few beyond stops so_far =
     some_written opening seats before now now was checker checker finders finders script rest given [] round list (omega arith) (none_fell_yet finders) (omega (arith, few)) refl so_far
 
 -- the next line can't be read
 pub stops_reading : (opening : Basis) (seats : ℕ) (before now : Option (List ℕ)) (was : List ℕ) (checker : ℕ) (finders : List ℕ) (known rest left : Option (List ℕ)) (given : ℕ) (round : ReadRound) (list : List Entry) (why : LineRefusal) (e : ServeStop)
-    → e ≡ stop_of why → given ≤ max_lines → (why ≡ refusal.LineTooLong → IfSome rest (IsBeyond given)) → (why ≡ refusal.ReadFault → StopsIn rest left) → SoFar opening seats before now was checker finders known rest given [] round list
+    → e ≡ stop_of why → given ≤ max_lines → (why ≡ refusal.LineTooLong → IfSome rest (IsBeyond given)) → (why ≡ refusal.ReadFault → StopsIn rest left × AreEnded known rest) → SoFar opening seats before now was checker finders known rest given [] round list
     → IfSome known (λ script. EndsServing before now (counts_between was (checker ∷ finders)) (serving opening.suffixes seats) opening.state script left (Err e))
 stops_reading opening seats before now was checker finders None rest left given round list why e same few beyond stops so_far = tt
 stops_reading opening seats before now was checker finders (Some script) None left given round list why e same few beyond stops so_far = absurd so_far

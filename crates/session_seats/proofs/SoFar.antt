@@ -3,7 +3,7 @@ use Rattle.std.proofs.Common.{◌≡◌, ℕ, zero, suc, ◌+◌, ◌≤◌, Lis
 use Rattle.std.proofs.lemmas.Bool.{or_parts}
 use Rattle.std.specs.Prelude.{IfOk, OnOk, ◌||◌}
 use Rattle.std.specs.Io.KnownBytes.{Appends, prepend_known}
-use Rattle.dnr_io.specs.Lines.{Reading, ahead, GivesLine}
+use Rattle.dnr_io.specs.Lines.{AreEnded, Reading, ahead, GivesLine}
 use Rattle.dnr_io.proofs.ReadSoFar.{IsReadSoFar, one_read}
 use Rattle.generation.specs.Basis.{Basis}
 use Rattle.session_laws.proofs.Cut.{Cut, cut_first, cut_on, cut_end}
@@ -16,6 +16,7 @@ use Rattle.session_rounds.specs.Lines.{read_seen}
 use Rattle.session_rounds.specs.Read.{LinesRead, serving}
 use Rattle.session_rounds.specs.Rounds.{RoundAnswered}
 use Rattle.session_rounds.specs.declared.read_line.ReadLine.{ReadLine}
+use Rattle.session_serve.proofs.Short.{ended_on}
 use Rattle.session_spec.specs.Answers.{RisesBy}
 use Rattle.session_spec.specs.Rounds.{Held, holds_nothing, with_line, ends_round, is_sync, is_full}
 use Rattle.update_spec.specs.Entries.{Entry, replay}
@@ -127,6 +128,19 @@ line_gathered opening seats before now was checker finders (Some script) None ne
 line_gathered opening seats before now was checker finders (Some script) (Some rest) None given queue round list line so_far gives = absurd gives.first
 line_gathered opening seats before now was checker finders (Some script) (Some rest) (Some next) given queue round list line so_far gives =
     gathered opening seats before now was checker finders script rest next given queue round list line so_far gives
+
+-- the lines that were read have ended, and so have more of them
+pub ended_too : (opening : Basis) (seats : ℕ) (before now : Option (List ℕ)) (was : List ℕ) (checker : ℕ) (finders : List ℕ) (known rest next : Option (List ℕ)) (given : ℕ) (queue : List (List ℕ)) (round : ReadRound) (list : List Entry)
+    → SoFar opening seats before now was checker finders known rest given queue round list → AreEnded known rest → AreEnded rest next → AreEnded known next
+ended_too opening seats before now was checker finders None rest next given queue round list so_far ended later = tt
+ended_too opening seats before now was checker finders (Some script) None next given queue round list so_far ended later = absurd so_far
+ended_too opening seats before now was checker finders (Some script) (Some rest) next given queue round list so_far ended later =
+    ended_on (Some script) (Some rest) next (so_far.done ++ queue) (given + length queue) so_far.read ended later
+
+-- none was read
+pub none_ended : (known : Option (List ℕ)) (reading : Reading) → reading ≡ record { pending = []; count = 0; live = true } → AreEnded known (ahead reading known)
+none_ended None reading fresh = tt
+none_ended (Some script) reading fresh = subst (λ (r : Reading). AreEnded (Some script) (ahead r (Some script))) (sym fresh) (λ none. rw none tt)
 
 -- the first line of the queue was given to its round, which goes on with it, or ends
 pub record LineTaken (script rest : List ℕ) (done : List (List ℕ)) (queue : List (List ℕ)) (begun : List (List ℕ)) (line : List ℕ) (start given stops checked is : ℕ) (reads : List ReadLine) : Type 0 where

@@ -1,7 +1,7 @@
 -- Lines that were cut, taken into their rounds one after another.
 use Rattle.std.proofs.Common.{◌≡◌, ℕ, suc, ◌+◌, ◌≤◌, List, [], ◌∷◌, length, true, false, Option, Result, Ok, Err, refl, sym, ap, ◌∙◌, inl, inr, subst, arith}
 use Rattle.std.specs.Prelude.{IfSome, IfErr, IsErrAnd, IsErrOf}
-use Rattle.dnr_io.specs.Lines.{IsBeyond, StopsIn}
+use Rattle.dnr_io.specs.Lines.{AreEnded, IsBeyond, StopsIn}
 use Rattle.dnr_io.specs.declared.line_refusal.LineRefusal.{LineRefusal}
 use Rattle.dnr_io.specs.declared.line_refusal.LineRefusal.TheVariants as refusal
 use Rattle.dnr_spec.specs.Lines.{max_lines}
@@ -193,11 +193,11 @@ cut_stopped opening seats many before now was is others known rest left given la
     (subst (λ (n : ℕ). StopsLines opening n from now is others why lines) all (subst (λ (ls : List CutSeen). StopsLines opening many from now is others why ls) same stops))
 
 -- why the line behind it is not given
-pub behind_long : (count : ℕ) (now left behind : Option (List ℕ)) (why : LineRefusal) → StandsBehind count now left (Err why) behind → why ≡ refusal.LineTooLong → IfSome behind (IsBeyond count)
-behind_long count now left behind why stands is = subst (λ (w : LineRefusal). StandsBehind count now left (Err w) behind) is stands
+pub behind_long : (count : ℕ) (was now left behind : Option (List ℕ)) (why : LineRefusal) → StandsBehind count was now left (Err why) behind → why ≡ refusal.LineTooLong → IfSome behind (IsBeyond count)
+behind_long count was now left behind why stands is = subst (λ (w : LineRefusal). StandsBehind count was now left (Err w) behind) is stands
 
-pub behind_fault : (count : ℕ) (now left behind : Option (List ℕ)) (why : LineRefusal) → StandsBehind count now left (Err why) behind → why ≡ refusal.ReadFault → StopsIn behind left
-behind_fault count now left behind why stands is = subst (λ (w : LineRefusal). StandsBehind count now left (Err w) behind) is stands
+pub behind_fault : (count : ℕ) (was now left behind : Option (List ℕ)) (why : LineRefusal) → StandsBehind count was now left (Err why) behind → why ≡ refusal.ReadFault → StopsIn behind left × AreEnded was behind
+behind_fault count was now left behind why stands is = subst (λ (w : LineRefusal). StandsBehind count was now left (Err w) behind) is stands
 
 -- no fault of the source is blamed where one is not
 pub not_of_cut : (opening : Basis) (seats : ℕ) (from : Standing) (now : Option (List ℕ)) (is : ℕ) (others : List ℕ) (why : ServeStop) (lines : List CutSeen) (result : Result (Unit {0}) ServeStop) → IsErrAnd result (λ e. e ≡ why)

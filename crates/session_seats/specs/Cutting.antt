@@ -1,7 +1,7 @@
 -- Lines that are cut from a source ahead of their turn.
 use Rattle.std.specs.Prelude.{◌≡◌, ℕ, ◌+◌, ◌≤◌, List, [], ◌∷◌, map, length, Bool, true, false, Option, Result, Ok, Err, IfSome}
 use Rattle.std.specs.Io.KnownBytes.{IsAtEnd}
-use Rattle.dnr_io.specs.Lines.{GivesLine, IsBeyond, StopsIn}
+use Rattle.dnr_io.specs.Lines.{AreEnded, GivesLine, IsBeyond, StopsIn}
 use Rattle.dnr_io.specs.declared.line_refusal.LineRefusal.{LineRefusal}
 use Rattle.dnr_io.specs.declared.line_refusal.LineRefusal.TheVariants as refusal
 use Rattle.dnr_spec.specs.Lines.{max_line}
@@ -34,13 +34,13 @@ EndsAtSync (line ∷ []) = Unit {0}
 EndsAtSync (line ∷ next ∷ lines) = IsNoSync line × EndsAtSync (next ∷ lines)
 
 -- What stands behind the lines that were cut, after so many of the script: more, or its end, or why the next line is not
--- given.
-abbrev pub StandsBehind : ℕ → Option (List ℕ) → Option (List ℕ) → Result Bool LineRefusal → Option (List ℕ) → Type 0
-StandsBehind count now left (Ok true) behind = now ≡ behind
-StandsBehind count now left (Ok false) behind = IsAtEnd behind
-StandsBehind count now left (Err refusal.ReadFault) behind = StopsIn behind left
-StandsBehind count now left (Err refusal.LineTooLong) behind = IfSome behind (IsBeyond count)
-StandsBehind count now left (Err refusal.NoMemory) behind = Unit {0}
+-- given. Before more, and before a fault, the lines that were cut of what stood ahead have their LF.
+abbrev pub StandsBehind : ℕ → Option (List ℕ) → Option (List ℕ) → Option (List ℕ) → Result Bool LineRefusal → Option (List ℕ) → Type 0
+StandsBehind count was now left (Ok true) behind = (now ≡ behind) × AreEnded was behind
+StandsBehind count was now left (Ok false) behind = IsAtEnd behind
+StandsBehind count was now left (Err refusal.ReadFault) behind = StopsIn behind left × AreEnded was behind
+StandsBehind count was now left (Err refusal.LineTooLong) behind = IfSome behind (IsBeyond count)
+StandsBehind count was now left (Err refusal.NoMemory) behind = Unit {0}
 
 -- these are the first lines of what stands ahead, and follow this number; of what stands behind them this holds
 pub record CutsLines (rest : Option (List ℕ)) (given : ℕ) (lines : List CutSeen) (Holds : Option (List ℕ) → Type 0) : Type 0 where

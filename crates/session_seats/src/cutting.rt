@@ -13,7 +13,7 @@ use std::thread::Threads;
 
 /// Cuts the lines that may be the rest of the round: to the end of the script, to one that may be a sync, or
 /// until there is no more room. `Ok(false)` is the end of the script, before which lines may have been cut, and `Ok(true)`
-/// has cut one at least.
+/// has cut one at least, and more may follow.
 ///
 /// No line but the last one is a sync. So a program that ends its lines by a sync is answered before more is cut.
 ///
@@ -33,7 +33,7 @@ pub fn cut_lines<S: Source>(
     requires none { cut.old.items ≡ [] }
     ensures round { round.new ≡ round.old }
     ensures cut { CutsLines (ahead lines.old (S.left source.old)) number.old cut.new.items
-        (StandsBehind number.new (ahead lines.new (S.left source.new)) (S.left source.new) result) }
+        (StandsBehind number.new (ahead lines.old (S.left source.old)) (ahead lines.new (S.left source.new)) (S.left source.new) result) }
     ensures syncs { EndsAtSync cut.new.items }
     ensures number { number.new ≡ number.old + length cut.new.items }
     ensures few { number.old ≤ max_lines → number.new ≤ max_lines }
@@ -59,7 +59,7 @@ pub fn cut_lines<S: Source>(
         cut.push(line)?;
         *number = place;
     }
-    Ok(true)
+    Ok(lines.live())
 }
 
 /// Asks the lines that were cut what they ask for, in at most so many threads. Plain lines are left to the seats.

@@ -1,9 +1,10 @@
 use Rattle.std.proofs.Common.{◌∷◌, [], Ok, Err, refl, sym, subst, ap, ◌∙◌, List, length, length-append, arith}
+use Rattle.std.proofs.lemmas.Bool.{true≢false}
 use Rattle.std.specs.Prelude.{IfSome}
 use Rattle.dnr_io.specs.Lines.{ahead, IsBeyond}
 use Rattle.lines_ahead.specs.Cut.{CutSeen}
 use Rattle.session_seats.specs.Cutting.{bytes_of, EndsAtSync, GivesLines, FollowOn}
-use Rattle.session_seats.proofs.Cuts.{gives_one_more, follows_one_more, stands_refused, stands_unread}
+use Rattle.session_seats.proofs.Cuts.{gives_one_more, follows_one_more, ended_behind, ended_yet, stands_cut, stands_refused, stands_unread}
 use Rattle.session_seats.proofs.Syncs.{AreNoSync, ends_at_sync, no_sync_more}
 use Rattle.session_seats.proofs.cutting.cut_lines.Goals as goal
 
@@ -17,7 +18,8 @@ loop-going-init g c =
       syncs = subst EndsAtSync (sym c.requires.none) tt;
       none = λ is. subst AreNoSync (sym c.requires.none) tt;
       here = c.requires.here;
-      live = c.requires.live;
+      ended = λ not. absurd (true≢false (sym c.requires.live ∙ not));
+      lf = λ live. ended_yet all;
       few = λ before. before;
       some = λ is. absurd (cc is);
       told = refl;
@@ -36,8 +38,8 @@ returns-in_err-next-clause-cut g c =
       behind = behind;
       gives = inv.gives;
       follow = inv.follow;
-      holds = stands_refused c.loop-going.number (ahead c.next.new.self (g.S.Source.left c.next.new.source)) (g.S.Source.left c.next.new.source) behind _ c.in_err-next.field-0.0 c.from_residual.ensures.1
-          (λ is. subst (λ n. IfSome behind (IsBeyond n)) (sym inv.here) (next.too_long (ap Err is))) (λ is. next.stopped (ap Err is));
+      holds = stands_refused c.loop-going.number (ahead c.args.lines.now (g.S.Source.left c.args.source.now)) (ahead c.next.new.self (g.S.Source.left c.next.new.source)) (g.S.Source.left c.next.new.source) behind _ c.in_err-next.field-0.0 c.from_residual.ensures.1
+          (λ is. subst (λ n. IfSome behind (IsBeyond n)) (sym inv.here) (next.too_long (ap Err is))) (λ is. (next.stopped (ap Err is), inv.lf (next.going (ap Err is))));
     }
 
 pub returns-then-not-branch-clause-cut : goal.returns-then-not-branch-clause-cut
@@ -60,7 +62,7 @@ returns-in_err-push-clause-cut g c =
       behind = behind;
       gives = subst (λ (ls : List CutSeen). GivesLines (ahead c.args.lines.now (g.S.Source.left c.args.source.now)) behind (bytes_of ls)) (sym same) inv.gives;
       follow = subst (λ (ls : List CutSeen). FollowOn c.args.number.now ls) (sym same) inv.follow;
-      holds = stands_unread c.loop-going.number (ahead c.next.new.self (g.S.Source.left c.next.new.source)) (g.S.Source.left c.next.new.source) behind _ c.from_residual-in_err-push.ensures.1;
+      holds = stands_unread c.loop-going.number (ahead c.args.lines.now (g.S.Source.left c.args.source.now)) (ahead c.next.new.self (g.S.Source.left c.next.new.source)) (g.S.Source.left c.next.new.source) behind _ c.from_residual-in_err-push.ensures.1;
     }
 
 pub returns-in_err-push-clause-syncs : goal.returns-in_err-push-clause-syncs
@@ -82,7 +84,9 @@ loop-going-preserved g c =
       syncs = ends_at_sync c.loop-going.cut.items c.push.new.self.items c.new-line.result longer (inv.none c.loop-going-test.true);
       none = λ is. no_sync_more c.loop-going.cut.items c.push.new.self.items c.new-line.result longer (inv.none c.loop-going-test.true) (c.goes_on-going.ensures is);
       here = omega (arith, inv.here, counted.1);
-      live = next.live.1 (ap Ok c.if-not-branch.false);
+      ended = next.last (ap Ok c.if-not-branch.false);
+      lf = λ live. ended_behind (ahead c.args.lines.now (g.S.Source.left c.args.source.now)) (ahead c.loop-going.lines (g.S.Source.left c.loop-going.source)) (ahead c.next.new.self (g.S.Source.left c.next.new.source))
+          (bytes_of c.loop-going.cut.items) inv.gives (inv.lf ((next.live live).0)) (next.lf live);
       few = λ before. omega (arith, inv.here, counted.0, counted.1);
       some = λ is. omega (arith, inv.more);
       told = next.told ∙ inv.told;
@@ -95,4 +99,11 @@ loop-going-preserved g c =
 pub returns-clause-cut : goal.returns-clause-cut
 returns-clause-cut g c =
     let inv = c.loop-going.invariant in
-    record { behind = ahead c.loop-going.lines (g.S.Source.left c.loop-going.source); gives = inv.gives; follow = inv.follow; holds = refl }
+    let behind = ahead c.loop-going.lines (g.S.Source.left c.loop-going.source) in
+    record {
+      behind = behind;
+      gives = inv.gives;
+      follow = inv.follow;
+      holds = stands_cut c.loop-going.number (ahead c.args.lines.now (g.S.Source.left c.args.source.now)) behind (g.S.Source.left c.loop-going.source) c.live.result
+          (λ live. inv.lf (sym c.live.ensures ∙ live)) (λ over. inv.ended (sym c.live.ensures ∙ over));
+    }

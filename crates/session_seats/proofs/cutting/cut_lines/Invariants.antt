@@ -1,6 +1,7 @@
 use Rattle.std.proofs.Common.{◌≡◌, ◌+◌, ◌-◌, ◌<◌, ◌≤◌, true, false, length, is_some}
-use Rattle.std.specs.Prelude.{IsTrue}
-use Rattle.dnr_io.specs.Lines.{ahead}
+use Rattle.std.specs.Prelude.{IsTrue, IsFalse}
+use Rattle.std.specs.Io.KnownBytes.{IsAtEnd}
+use Rattle.dnr_io.specs.Lines.{ahead, AreEnded}
 use Rattle.dnr_spec.specs.Lines.{max_lines}
 use Rattle.session_seats.specs.Cutting.{bytes_of, EndsAtSync, GivesLines, FollowOn}
 use Rattle.session_seats.proofs.Syncs.{AreNoSync}
@@ -12,7 +13,8 @@ invariant-loop-going g l = record {
   follow : FollowOn l.fn.number l.cut.items;
   more : l.number ≡ l.fn.number + length l.cut.items;
   here : l.number ≡ l.lines.count;
-  live : IsTrue l.lines.live;
+  ended : IsFalse l.lines.live → IsAtEnd (ahead l.lines (g.S.Source.left l.source));
+  lf : IsTrue l.lines.live → AreEnded (ahead l.fn.lines (g.S.Source.left l.fn.source)) (ahead l.lines (g.S.Source.left l.source));
   few : l.fn.number ≤ max_lines → l.number ≤ max_lines;
   syncs : EndsAtSync l.cut.items;
   none : l.going ≡ true → AreNoSync l.cut.items;

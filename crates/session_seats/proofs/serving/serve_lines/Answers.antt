@@ -1,6 +1,6 @@
 use Rattle.std.proofs.Common.{◌≡◌, [], Ok, Err, ℕ, ◌∷◌, List, Option, length, map, ap, sym, ◌∙◌, rules, arith, refl, subst, false}
 use Rattle.std.specs.Io.KnownBytes.{IsAtEnd}
-use Rattle.dnr_io.specs.Lines.{Reading, ahead}
+use Rattle.dnr_io.specs.Lines.{AreEnded, Reading, ahead}
 use Rattle.lines_ahead.specs.Cut.{CutSeen}
 use Rattle.session_laws.proofs.Rises.{none_fell_on, none_fell_yet}
 use Rattle.session_spec.specs.Rounds.{is_full}
@@ -8,7 +8,7 @@ use Rattle.session_seats.specs.Cutting.{StandsBehind}
 use Rattle.session_seats.specs.Reading.{ReadRound}
 use Rattle.session_seats.specs.Seats.{AreSeats}
 use Rattle.session_seats.specs.Taking.{AreShort, standing}
-use Rattle.session_seats.proofs.SoFar.{SoFar, started}
+use Rattle.session_seats.proofs.SoFar.{SoFar, ended_too, none_ended, started}
 use Rattle.session_seats.proofs.Taken.{short_of, cut_taken, cut_stopped, behind_long, behind_fault, not_of_cut}
 use Rattle.session_seats.proofs.Endings.{nothing_served, stops_reading, all_served, last_round, not_of_source, stop_said}
 use Rattle.session_seats.proofs.serving.serve_lines.Goals as goal
@@ -38,6 +38,7 @@ rounds-init g c =
       here = sym none;
       few = omega arith;
       live = search rules;
+      lf = none_ended (g.S.Source.left c.args.source.now) c.in_ok-lines.lines c.in_ok-lines.ensures;
       checker = omega arith;
       fell = none_fell_yet (map g.H.RegexHost.faults c.args.finders.now);
       told = refl;
@@ -63,7 +64,7 @@ returns-in_err-serve_cut-clause-served g c =
     stop_said _ _ _ _ _ _ _ _ _ c.from_residual-in_err-serve_cut.ensures.1 (λ e same. cut_stopped g.P.Pair.opening (length c.args.finders.now) (length at.desks) (g.O.Sink.taken c.args.out.now) (g.O.Sink.taken c.serve_cut.new.out)
     (g.H.RegexHost.faults c.args.checker.now ∷ map g.H.RegexHost.faults c.args.finders.now) (g.H.RegexHost.faults c.serve_cut.new.checker) (map g.H.RegexHost.faults c.serve_cut.new.finders) (g.S.Source.left c.args.source.now)
     (ahead at.lines (g.S.Source.left at.source)) (g.S.Source.left c.cut_lines-more.new.source) at.number c.cut_lines-more.new.number c.cut_lines-more.new.cut.items c.ask_cut.new.cut.items
-    (StandsBehind c.cut_lines-more.new.number (ahead c.cut_lines-more.new.lines (g.S.Source.left c.cut_lines-more.new.source)) (g.S.Source.left c.cut_lines-more.new.source) c.cut_lines-more.result)
+    (StandsBehind c.cut_lines-more.new.number (ahead at.lines (g.S.Source.left at.source)) (ahead c.cut_lines-more.new.lines (g.S.Source.left c.cut_lines-more.new.source)) (g.S.Source.left c.cut_lines-more.new.source) c.cut_lines-more.result)
     (standing (g.O.Sink.taken at.out) (g.H.RegexHost.faults at.checker) (map g.H.RegexHost.faults at.finders) c.cut_lines-more.new.round at.office.list) c.in_err-serve_cut.field-0.0 e same
     c.requires.fresh (inv.count ∙ sym c.requires.finders) c.ask_cut.ensures cut.number (cut.few inv.few) cut.cut so c.in_err-serve_cut.ensures.stops)
 
@@ -83,12 +84,18 @@ returns-in_err-more-clause-served g c =
     (g.S.Source.left c.args.source.now) (ahead at.lines (g.S.Source.left at.source)) at.number [] r at.office.list) (sym cut.round) inv.so_far in
     let served = c.in_ok-serve_cut.ensures in
     let left = g.S.Source.left c.cut_lines-more.new.source in
+    let was = ahead at.lines (g.S.Source.left at.source) in
     let now = ahead c.cut_lines-more.new.lines left in
     let why = c.in_err-more.field-0.0 in
-    let Holds = StandsBehind c.cut_lines-more.new.number now left (Err why) in
+    let Holds = StandsBehind c.cut_lines-more.new.number was now left (Err why) in
     stop_said _ _ _ _ _ _ _ _ _ c.from_residual-in_err-more.ensures.1 (λ e same. stops_reading g.P.Pair.opening (length c.args.finders.now) (g.O.Sink.taken c.args.out.now) (g.O.Sink.taken c.serve_cut.new.out)
     (g.H.RegexHost.faults c.args.checker.now ∷ map g.H.RegexHost.faults c.args.finders.now) (g.H.RegexHost.faults c.serve_cut.new.checker) (map g.H.RegexHost.faults c.serve_cut.new.finders) (g.S.Source.left c.args.source.now)
-    cut.cut.behind left c.cut_lines-more.new.number c.serve_cut.new.round c.serve_cut.new.office.list why e same (cut.few inv.few) (behind_long c.cut_lines-more.new.number now left cut.cut.behind why cut.cut.holds) (behind_fault c.cut_lines-more.new.number now left cut.cut.behind why cut.cut.holds)
+    cut.cut.behind left c.cut_lines-more.new.number c.serve_cut.new.round c.serve_cut.new.office.list why e same (cut.few inv.few) (behind_long c.cut_lines-more.new.number was now left cut.cut.behind why cut.cut.holds)
+    (λ is. let fault = behind_fault c.cut_lines-more.new.number was now left cut.cut.behind why cut.cut.holds is in (
+      fault.0,
+      ended_too g.P.Pair.opening (length c.args.finders.now) (g.O.Sink.taken c.args.out.now) (g.O.Sink.taken at.out) (g.H.RegexHost.faults c.args.checker.now ∷ map g.H.RegexHost.faults c.args.finders.now)
+          (g.H.RegexHost.faults at.checker) (map g.H.RegexHost.faults at.finders) (g.S.Source.left c.args.source.now) was cut.cut.behind at.number [] at.round at.office.list inv.so_far inv.lf fault.1,
+    ))
     (cut_taken g.P.Pair.opening (length c.args.finders.now) (length at.desks) (g.O.Sink.taken c.args.out.now) (g.H.RegexHost.faults c.args.checker.now ∷ map g.H.RegexHost.faults c.args.finders.now) (g.S.Source.left c.args.source.now)
     (ahead at.lines (g.S.Source.left at.source)) at.number c.cut_lines-more.new.number c.cut_lines-more.new.cut.items c.ask_cut.new.cut.items Holds
     (standing (g.O.Sink.taken at.out) (g.H.RegexHost.faults at.checker) (map g.H.RegexHost.faults at.finders) c.cut_lines-more.new.round at.office.list)
@@ -111,10 +118,12 @@ rounds-preserved g c =
     (g.S.Source.left c.args.source.now) (ahead at.lines (g.S.Source.left at.source)) at.number [] r at.office.list) (sym cut.round) inv.so_far in
     let served = c.in_ok-serve_cut.ensures in
     let left = g.S.Source.left c.cut_lines-more.new.source in
+    let was = ahead at.lines (g.S.Source.left at.source) in
     let now = ahead c.cut_lines-more.new.lines left in
     let more = c.in_ok-more.field-0 in
-    let Holds = StandsBehind c.cut_lines-more.new.number now left (Ok more) in
-    let stands : now ≡ cut.cut.behind = subst (λ b. StandsBehind c.cut_lines-more.new.number now left (Ok b) cut.cut.behind) c.if-not-branch.false cut.cut.holds in
+    let Holds = StandsBehind c.cut_lines-more.new.number was now left (Ok more) in
+    let holds : (now ≡ cut.cut.behind) × AreEnded was cut.cut.behind = subst (λ b. StandsBehind c.cut_lines-more.new.number was now left (Ok b) cut.cut.behind) c.if-not-branch.false cut.cut.holds in
+    let stands = holds.0 in
     let given = ap Ok c.if-not-branch.false in
     record {
       so_far = subst (λ (rest : Option (List ℕ)). SoFar g.P.Pair.opening (length c.args.finders.now) (g.O.Sink.taken c.args.out.now) (g.O.Sink.taken c.serve_cut.new.out)
@@ -133,6 +142,9 @@ rounds-preserved g c =
       here = cut.here given;
       few = cut.few inv.few;
       live = cut.live given;
+      lf = subst (λ (rest : Option (List ℕ)). AreEnded (g.S.Source.left c.args.source.now) rest) (sym stands)
+          (ended_too g.P.Pair.opening (length c.args.finders.now) (g.O.Sink.taken c.args.out.now) (g.O.Sink.taken at.out) (g.H.RegexHost.faults c.args.checker.now ∷ map g.H.RegexHost.faults c.args.finders.now)
+          (g.H.RegexHost.faults at.checker) (map g.H.RegexHost.faults at.finders) (g.S.Source.left c.args.source.now) was cut.cut.behind at.number [] at.round at.office.list inv.so_far inv.lf holds.1);
       checker = omega (arith, inv.checker, served.later);
       fell = none_fell_on (map g.H.RegexHost.faults c.args.finders.now) (map g.H.RegexHost.faults at.finders) (map g.H.RegexHost.faults c.serve_cut.new.finders) inv.fell served.fell;
       told = cut.told ∙ inv.told;
@@ -151,10 +163,11 @@ returns-then-is_empty-clause-served g c =
     (g.S.Source.left c.args.source.now) (ahead at.lines (g.S.Source.left at.source)) at.number [] r at.office.list) (sym cut.round) inv.so_far in
     let served = c.in_ok-serve_cut.ensures in
     let left = g.S.Source.left c.cut_lines-more.new.source in
+    let was = ahead at.lines (g.S.Source.left at.source) in
     let now = ahead c.cut_lines-more.new.lines left in
     let more = c.in_ok-more.field-0 in
-    let Holds = StandsBehind c.cut_lines-more.new.number now left (Ok more) in
-    let stands : IsAtEnd cut.cut.behind = subst (λ b. StandsBehind c.cut_lines-more.new.number now left (Ok b) cut.cut.behind) c.if-not-branch.true cut.cut.holds in
+    let Holds = StandsBehind c.cut_lines-more.new.number was now left (Ok more) in
+    let stands : IsAtEnd cut.cut.behind = subst (λ b. StandsBehind c.cut_lines-more.new.number was now left (Ok b) cut.cut.behind) c.if-not-branch.true cut.cut.holds in
     all_served g.P.Pair.opening (length c.args.finders.now) (g.O.Sink.taken c.args.out.now) (g.O.Sink.taken c.serve_cut.new.out)
     (g.H.RegexHost.faults c.args.checker.now ∷ map g.H.RegexHost.faults c.args.finders.now) (g.H.RegexHost.faults c.serve_cut.new.checker) (map g.H.RegexHost.faults c.serve_cut.new.finders) (g.S.Source.left c.args.source.now)
     cut.cut.behind left c.cut_lines-more.new.number c.serve_cut.new.round c.serve_cut.new.office.list (cut.few inv.few) stands (c.if-is_empty.ensures.none refl)
@@ -186,10 +199,11 @@ returns-clause-served g c =
     let served = c.in_ok-serve_cut.ensures in
     let round = c.serve_round.ensures in
     let left = g.S.Source.left c.cut_lines-more.new.source in
+    let was = ahead at.lines (g.S.Source.left at.source) in
     let now = ahead c.cut_lines-more.new.lines left in
     let more = c.in_ok-more.field-0 in
-    let Holds = StandsBehind c.cut_lines-more.new.number now left (Ok more) in
-    let stands : IsAtEnd cut.cut.behind = subst (λ b. StandsBehind c.cut_lines-more.new.number now left (Ok b) cut.cut.behind) c.if-not-branch.true cut.cut.holds in
+    let Holds = StandsBehind c.cut_lines-more.new.number was now left (Ok more) in
+    let stands : IsAtEnd cut.cut.behind = subst (λ b. StandsBehind c.cut_lines-more.new.number was now left (Ok b) cut.cut.behind) c.if-not-branch.true cut.cut.holds in
     last_round g.P.Pair.opening (length c.args.finders.now) (length c.serve_cut.new.desks) (g.O.Sink.taken c.args.out.now) (g.O.Sink.taken c.serve_cut.new.out) (g.O.Sink.taken c.serve_round.new.out)
     (g.H.RegexHost.faults c.args.checker.now ∷ map g.H.RegexHost.faults c.args.finders.now) (g.H.RegexHost.faults c.serve_cut.new.checker) (map g.H.RegexHost.faults c.serve_cut.new.finders) (map g.H.RegexHost.faults c.serve_round.new.finders)
     (g.S.Source.left c.args.source.now) cut.cut.behind left c.cut_lines-more.new.number c.serve_cut.new.round c.serve_cut.new.office.list c.serve_round.new.office.list

@@ -1,6 +1,6 @@
 use Rattle.std.proofs.Common.{◌≡◌, ◌∷◌, ◌-◌, ◌≤◌, [], length, map, is_some, false}
 use Rattle.std.specs.Prelude.{IsTrue}
-use Rattle.dnr_io.specs.Lines.{ahead}
+use Rattle.dnr_io.specs.Lines.{AreEnded, ahead}
 use Rattle.dnr_spec.specs.Lines.{max_lines}
 use Rattle.session_laws.specs.Turns.{NoneFell}
 use Rattle.session_spec.specs.Rounds.{is_full}
@@ -21,6 +21,7 @@ invariant-rounds g l = record {
   here : l.number ≡ l.lines.count;
   few : l.number ≤ max_lines;
   live : IsTrue l.lines.live;
+  lf : AreEnded (g.S.Source.left l.fn.source) (ahead l.lines (g.S.Source.left l.source));
   checker : g.H.RegexHost.faults l.fn.checker ≤ g.H.RegexHost.faults l.checker;
   fell : NoneFell (map g.H.RegexHost.faults l.fn.finders) (map g.H.RegexHost.faults l.finders);
   told : is_some (g.S.Source.left l.source) ≡ is_some (g.S.Source.left l.fn.source);
