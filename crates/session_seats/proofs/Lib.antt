@@ -4,7 +4,7 @@ pub mod SoFar
 pub mod Endings
 pub mod Seats
 pub mod Settled
-pub mod Said
+pub mod Gathered
 pub mod Parts
 pub mod Replies
 pub mod Desks

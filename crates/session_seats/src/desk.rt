@@ -1,30 +1,28 @@
 //! A seat: what it answers in a round.
-ghost use Rattle.std.specs.Prelude.{◌≡◌, ◌≤◌, ◌<◌, ◌++◌, ◌∷◌, [], Ok, None, true, false, length, get_or, IfOk, IfSome, IsSome, IsNone, IsTrue, IsFalse, string_bytes};
+ghost use Rattle.std.specs.Prelude.{◌≡◌, ◌≤◌, ◌<◌, ◌∷◌, true, false, length, get_or, IfSome, IsSome, IsNone, IsTrue, IsFalse};
 ghost use Rattle.std.specs.List.{Contains};
 ghost use mathlib.Core.List.{IsPrefix};
-ghost use Rattle.dnr_base.specs.Faults.{Rose};
 ghost use Rattle.lines_ahead.specs.Cut.{IsPlainLine};
 ghost use Rattle.line_spec.specs.Line.{command_of};
-ghost use Rattle.session_rounds.specs.Lines.{IsLine, is_asked, is_asking, read_seen};
+ghost use Rattle.session_rounds.specs.Lines.{IsLine, is_asked, is_asking};
 ghost use Rattle.session_seats.specs.Reading.{PlainReads};
-ghost use Rattle.session_seats.specs.Seats.{Answers, HasAnswered, HasBegun, HasEnded, HasPassedOver, HasServed, IsUntold, SaysAt, is_at_work, seen_of, with_answers, with_pass};
+ghost use Rattle.session_seats.specs.Seats.{HasAnswered, HasBegun, HasEnded, HasPassedOver, HasServed, IsUntold, is_at_work, seen_of, with_pass};
 
 use crate::answer_log::AnswerLog;
-use crate::answered::{Answered, Said};
-use crate::gathering::{decided, explained};
+use crate::gathering::answer_by;
 use crate::round_line::RoundLine;
 use crate::round_lines::RoundLines;
+use crate::said::Said;
 use crossbeam_utils::CachePadded;
 use dnr_base::NoMemory;
 use lines_ahead::CutLine;
 use lookup_pool::{Gate, ToolSeat};
 use published::{Note, Pair, ReaderPass};
 use regex_host::RegexHost;
-use script_read::{Command, LineFault, Memo};
+use script_read::{LineFault, Memo};
 use session_rounds::ReadLine;
 use std::alloc::Global;
 use std::marker::Model;
-use std::mem;
 
 /// A seat between two rounds, or after one.
 #[derive(Drop)]
@@ -41,8 +39,6 @@ pub struct Desk<P: Pair> {
     // round, whether it has learnt what the round ended with.
     ready: bool,
     answers: AnswerLog,
-    // The memory in which one answer after another is written.
-    text: String,
     memo: Memo,
     // Memory ran out.
     stopped: bool,
@@ -79,7 +75,6 @@ impl<P: Pair> Desk<P> {
             pass,
             ready: false,
             answers: AnswerLog::new(alloc),
-            text: String::new(alloc),
             memo: Memo::new(alloc),
             stopped: false,
             alloc,
@@ -229,24 +224,11 @@ impl<P: Pair> Desk<P> {
             self.ready = false;
             return;
         };
-        let text = emptied(self.alloc, &mut self.text);
-        match answer_by(self.alloc, text, pass, place, line, host) {
-            Ok(Some(answered)) => self.keep(answered, round),
-            Ok(None) => self.ready = false,
+        match answer_by(self.alloc, &mut self.answers, pass, place, line, host) {
+            Ok(true) => {}
+            Ok(false) => self.ready = false,
             Err(NoMemory) => self.stopped = true,
         }
-    }
-
-    // Keeps one answer more, if there is memory for it.
-    fn keep(&mut self, answered: Answered, _round: &RoundLines)
-        requires answer { Answers P.opening _round.now.reads (seen_of self.old.pass) answered }
-        requires so_far { HasAnswered P.opening _round.now.reads self.old }
-        ensures answers { HasAnswered P.opening _round.now.reads self.new }
-        ensures rest { self.new ≡ with_answers self.old self.new.stopped self.new.answers }
-        ensures more { IsFalse self.new.stopped → self.new.answers ≡ self.old.answers ++ answered ∷ [] }
-    {
-        self.stopped = self.answers.push(&answered).is_err();
-        self.text = answered.text;
     }
 }
 
@@ -281,62 +263,4 @@ fn asking_alone(line: ReadLine) -> Option<ReadLine>
     ensures none { IsNone result → is_asking line ≡ false }
 {
     if line.asks() { Some(line) } else { None }
-}
-
-// The memory of a longer text is let go: a session may last, and one of its texts may once be long.
-const KEPT_BYTES: usize = 4_096;
-
-// An empty text, in the memory of this one.
-fn emptied(alloc: Global, text: &mut String) -> String
-    ensures { string_bytes result ≡ [] }
-{
-    let mut taken = mem::replace(text, String::new(alloc));
-    if taken.len() > KEPT_BYTES {
-        return String::new(alloc);
-    }
-    taken.clear();
-    taken
-}
-
-// What a pass answers to a line, unless there is no copy to enter. The empty text is used for it.
-fn answer_by<P: Pair, H: RegexHost>(
-    alloc: Global,
-    text: String,
-    pass: &mut ReaderPass<P>,
-    place: usize,
-    line: &ReadLine,
-    host: &mut H,
-) -> Result<Option<Answered>, NoMemory>
-    requires line { IsLine line.now }
-    requires asks { is_asking line.now ≡ true }
-    requires empty { string_bytes text ≡ [] }
-    ensures later { IsPrefix pass.old.seen pass.new.seen }
-    ensures missed { pass.old.missed ≤ pass.new.missed }
-    ensures cause { result ≡ Ok None → Rose pass.old.missed pass.new.missed }
-    ensures says { IfOk result (λ found. IfSome found (SaysAt P.opening place line.now.number (read_seen line.now.read) pass.new.seen)) }
-    ensures host { H.faults host.old ≤ H.faults host.new }
-{
-    match &line.read {
-        Ok(Command::Request(request)) => decided(
-            alloc,
-            text,
-            pass,
-            place,
-            line.number,
-            request,
-            host,
-        ),
-        Ok(Command::Explain(request)) => explained(
-            alloc,
-            text,
-            pass,
-            place,
-            line.number,
-            request,
-            host,
-        ),
-        Ok(Command::Blank | Command::Sync | Command::Update(_) | Command::Batch(_)) | Err(_) => Ok(
-            None,
-        ),
-    }
 }

@@ -15,7 +15,6 @@
 #![tactic(auto)]
 
 mod answer_log;
-mod answered;
 mod cutting;
 mod desk;
 mod gathering;
@@ -24,8 +23,10 @@ mod reading;
 mod round_line;
 mod round_lines;
 mod rounds;
+mod said;
 mod serving;
 mod settling;
 mod taking;
+mod told;
 
 pub use serving::serve_with_seats;

@@ -12,11 +12,11 @@ ghost use Rattle.session_seats.specs.Rounds.{AnsweredAnew, AreWithin};
 ghost use Rattle.session_seats.specs.Seats.{IsTrusted, MaySay, SaysWithin};
 ghost use Rattle.session_seats.specs.Writing.{WriterSaysAll, plain_text, text_with};
 
-use crate::answered::Said;
 use crate::desk::Desk;
 use crate::office::Office;
 use crate::round_line::RoundLine;
 use crate::round_lines::RoundLines;
+use crate::said::Said;
 use dnr_base::NoMemory;
 use explain_report::write_bad;
 use lines_ahead::CutLine;
