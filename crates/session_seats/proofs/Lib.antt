@@ -16,3 +16,4 @@ pub mod Telling
 pub mod Log
 pub mod Served
 pub mod Syncs
+pub mod Dealt

@@ -1,14 +1,15 @@
 //! A seat: what it answers in a round.
-ghost use Rattle.std.specs.Prelude.{◌≡◌, ◌≤◌, ◌<◌, ◌∷◌, true, false, length, get_or, IfSome, IsSome, IsNone, IsTrue, IsFalse};
-ghost use Rattle.std.specs.List.{Contains};
+ghost use Rattle.std.specs.Prelude.{◌≡◌, ◌≤◌, ◌<◌, ◌∷◌, [], true, false, length, get_or, nat_eq, IfSome, IsSome, IsNone, IsTrue, IsFalse};
+ghost use Rattle.std.specs.List.{Contains, list_any};
 ghost use mathlib.Core.List.{IsPrefix};
 ghost use Rattle.lines_ahead.specs.Cut.{IsPlainLine};
 ghost use Rattle.line_spec.specs.Line.{command_of};
 ghost use Rattle.session_rounds.specs.Lines.{IsLine, is_asked, is_asking};
 ghost use Rattle.session_seats.specs.Reading.{PlainReads};
-ghost use Rattle.session_seats.specs.Seats.{HasAnswered, HasBegun, HasEnded, HasPassedOver, HasServed, IsUntold, is_at_work, seen_of, with_pass};
+ghost use Rattle.session_seats.specs.Seats.{HasAnswered, HasBegun, HasEnded, HasPassedOver, HasReadOver, HasServed, IsUntold, is_at_work, seen_of, with_pass};
 
 use crate::answer_log::AnswerLog;
+use crate::deal::Deal;
 use crate::gathering::answer_by;
 use crate::round_line::RoundLine;
 use crate::round_lines::RoundLines;
@@ -39,6 +40,8 @@ pub struct Desk<P: Pair> {
     // round, whether it has learnt what the round ended with.
     ready: bool,
     answers: AnswerLog,
+    // The places of the lines that it passed over since they ask for no request: few rounds have any.
+    unasked: Vec<usize>,
     memo: Memo,
     // Memory ran out.
     stopped: bool,
@@ -57,6 +60,7 @@ impl<P: Pair> Model for Desk<P> {
       ready = d.ready;
       stopped = d.stopped;
       answers = d.answers;
+      unasked = d.unasked.items;
     } };
 }
 
@@ -75,6 +79,7 @@ impl<P: Pair> Desk<P> {
             pass,
             ready: false,
             answers: AnswerLog::new(alloc),
+            unasked: Vec::new(alloc),
             memo: Memo::new(alloc),
             stopped: false,
             alloc,
@@ -86,6 +91,7 @@ impl<P: Pair> Desk<P> {
         ensures { HasBegun note self.old self.new }
     {
         self.answers.clear(self.alloc);
+        self.unasked.clear();
         self.stopped = false;
         self.ready = self.learn(note);
     }
@@ -118,6 +124,20 @@ impl<P: Pair> Desk<P> {
         self.stopped
     }
 
+    /// Whether it passed over a line.
+    pub fn has_passed_over(&self) -> bool
+        ensures { IsFalse result → self.now.unasked ≡ [] }
+    {
+        !self.unasked.is_empty()
+    }
+
+    /// Whether it passed over the line at this place.
+    pub fn passed_over(&self, place: usize) -> bool
+        ensures { result ≡ list_any (λ other. nat_eq other place) self.now.unasked }
+    {
+        self.unasked.contains(&place)
+    }
+
     /// What the seat answers to the line at this place, if it is its answer of this turn.
     pub fn answer_to(&self, turn: usize, place: usize) -> Option<Said<'_>>
         ensures ready { IsSome result → IsTrue self.now.ready }
@@ -138,7 +158,7 @@ impl<P: Pair> Desk<P> {
     fn serve<H: RegexHost, G: Gate>(
         &mut self,
         place: usize,
-        round: &RoundLines,
+        round: &Deal<'_>,
         host: &mut H,
         gate: &G,
     )
@@ -149,17 +169,22 @@ impl<P: Pair> Desk<P> {
     {
         let lines = round.lines();
         if place >= lines.len() {
+            self.pass_over(place);
             return;
         }
         match &lines[place] {
             RoundLine::Read(line) => {
                 if line.asks() {
                     self.answer(place, line, host, gate, round);
+                } else {
+                    self.pass_over(place);
                 }
             }
             RoundLine::Plain(line) => {
                 if let Some(line) = self.read(line) {
                     self.answer(place, &line, host, gate, round);
+                } else {
+                    self.pass_over(place);
                 }
             }
         }
@@ -171,7 +196,7 @@ impl<P: Pair> Desk<P> {
         ensures read { IfSome result (PlainReads line.now) }
         ensures asks { IfSome result (λ read. is_asking read ≡ true) }
         ensures kept { IsSome result → self.new ≡ self.old }
-        ensures none { IsNone result → HasPassedOver (is_asked (command_of line.now.number line.now.bytes)) self.old self.new }
+        ensures none { IsNone result → HasReadOver (is_asked (command_of line.now.number line.now.bytes)) self.old self.new }
     {
         match line.read_plain(self.alloc, &mut self.memo) {
             Ok(command) => asking_alone(ReadLine {
@@ -183,6 +208,15 @@ impl<P: Pair> Desk<P> {
                 None
             }
             Err(_) => None,
+        }
+    }
+
+    // Passes over the line at this place, which asks for no request.
+    fn pass_over(&mut self, place: usize)
+        ensures { HasPassedOver place self.old self.new }
+    {
+        if self.unasked.push(place).is_err() {
+            self.stopped = true;
         }
     }
 
@@ -205,7 +239,7 @@ impl<P: Pair> Desk<P> {
         line: &ReadLine,
         host: &mut H,
         gate: &G,
-        round: &RoundLines,
+        round: &Deal<'_>,
     )
         requires line { IsLine line.now }
         requires asks { is_asking line.now ≡ true }
@@ -232,7 +266,7 @@ impl<P: Pair> Desk<P> {
     }
 }
 
-impl<P: Pair, H: RegexHost> ToolSeat<RoundLines, H> for Desk<P> {
+impl<'a, P: Pair, H: RegexHost> ToolSeat<Deal<'a>, H> for Desk<P> {
     ghost use Rattle.std.specs.Prelude.{◌≡◌, ◌≤◌, ◌<◌, []};
     ghost use Rattle.session_seats.specs.Seats.{HasWorked};
 
@@ -242,12 +276,12 @@ impl<P: Pair, H: RegexHost> ToolSeat<RoundLines, H> for Desk<P> {
 
     ghost used = { λ before now. H.faults before ≤ H.faults now };
 
-    fn is_idle(&self, round: &RoundLines) -> bool {
-        round.dealt().len() <= self.seat
+    fn is_idle(&self, round: &Deal<'a>) -> bool {
+        round.places().len() <= self.seat
     }
 
-    fn work<G: Gate>(&mut self, round: &RoundLines, host: &mut H, gate: &G) {
-        let dealt = round.dealt();
+    fn work<G: Gate>(&mut self, round: &Deal<'a>, host: &mut H, gate: &G) {
+        let dealt = round.places();
         let seats = self.seats;
         let mut turn = self.seat;
         while turn < dealt.len() {
