@@ -9,7 +9,7 @@ use Rattle.std.proofs.lemmas.List.Elements.{filter-append, All-get_or, All-push,
 use Rattle.session_rounds.specs.Lines.{is_asking}
 use Rattle.session_rounds.specs.declared.read_line.ReadLine.{ReadLine}
 use Rattle.session_serve.proofs.Told.{turn_inside}
-use Rattle.session_seats.specs.Reading.{ReadRound, asking_from, dealt_at, dealt_from, is_dealt, seen_line, seen_lines}
+use Rattle.session_seats.specs.Reading.{ReadRound, asking_from, dealt_at, dealt_from, is_dealt, seen_line, seen_lines, with_dealt}
 use Rattle.session_seats.specs.Seats.{AreSeats, AreSeatsFrom, DeskSeen, HasAnsweredAll, HasAnsweredTurns, HasPassedOverAll, asks_at, asking, share, unasking}
 use Rattle.session_seats.specs.declared.round_line.RoundLine.{RoundLine}
 use Rattle.session_seats.specs.declared.round_line.RoundLine.TheVariants as round
@@ -226,3 +226,32 @@ pub all_turns_alone : (round : ReadRound) (desks : List DeskSeen) → asking rou
 all_turns_alone round desks are one seats answered = λ k d inside.
     let its = seat_from 0 1 desks k d seats inside in
     turns_alone round (get_or desks k d) are (omega (arith, its.0, inside, one)) its.1 (answered k d inside)
+
+-- ---- a round that is dealt
+
+-- dealt as it is
+pub deal_same : (round deal : ReadRound) (places : List ℕ) → deal ≡ with_dealt places round → places ≡ round.dealt → deal ≡ round
+deal_same round deal places is same = is ∙ ap (λ (p : List ℕ). with_dealt p round) same
+
+-- where no seat passed over a line
+pub turns_unpassed : (round : ReadRound) (desks : List DeskSeen) → 0 < length desks → round.reads ≡ seen_lines round.lines → round.dealt ≡ dealt_from 0 round.lines → AreSeats (length desks) desks → All (HasPassedOverAll round) desks → All IsGoing desks
+    → All HasPassedNone desks → All (HasAnsweredAll round) desks → All (HasAnsweredTurns round.reads) desks
+turns_unpassed round [] some seen dealt seats over going none answered = absurd (omega (arith, some))
+turns_unpassed round (desk ∷ desks) some seen dealt seats over going none answered =
+    all_turns round (desk ∷ desks) (asking_round round seen dealt) (none_passed round (desk ∷ desks) desk some seats over going none) answered
+
+-- where there is a single one
+pub turns_single : (round : ReadRound) (desks : List DeskSeen) (count : ℕ) → count ≡ 1 → count ≡ length desks → round.reads ≡ seen_lines round.lines → round.dealt ≡ dealt_from 0 round.lines → AreSeats count desks → All (HasAnsweredAll round) desks
+    → All (HasAnsweredTurns round.reads) desks
+turns_single round desks count one many seen dealt seats answered =
+    all_turns_alone round desks (asking_round round seen dealt) (sym many ∙ one) (subst (λ (n : ℕ). AreSeats n desks) one seats) answered
+
+-- and where the lines that ask are dealt anew
+pub turns_anew : (round deal : ReadRound) (places : List ℕ) (desks : List DeskSeen) → deal ≡ with_dealt places round → places ≡ asking round.reads round.dealt → round.reads ≡ seen_lines round.lines → round.dealt ≡ dealt_from 0 round.lines
+    → All (HasAnsweredAll deal) desks → All (HasAnsweredTurns round.reads) desks
+turns_anew round deal places desks is same seen dealt answered =
+    let asking_are : asking round.reads round.dealt ≡ asking_from 0 round.reads = asking_round round seen dealt in
+    let whole : asking round.reads (asking round.reads round.dealt) ≡ asking round.reads round.dealt = all_asking round.reads (asking round.reads round.dealt) (asking_ask round.reads round.dealt) in
+    let anew : All (HasAnsweredAll (with_dealt (asking round.reads round.dealt) round)) desks =
+    subst (λ (r : ReadRound). All (HasAnsweredAll r) desks) (is ∙ ap (λ (p : List ℕ). with_dealt p round) same) answered in
+    all_turns (with_dealt (asking round.reads round.dealt) round) desks (whole ∙ asking_are) whole anew

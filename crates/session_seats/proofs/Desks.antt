@@ -16,7 +16,8 @@ use Rattle.session_seats.specs.Reading.{IsTaken, ReadRound, asked_in, dealt_at, 
 use Rattle.session_seats.specs.declared.round_line.RoundLine.{RoundLine}
 use Rattle.session_seats.specs.Seats.{Answers, DeskSeen, HasAnswered, HasPassedOver, HasReadOver, IsUntold, seen_of}
 use Rattle.session_seats.specs.Said.{Said}
-use Rattle.session_seats.proofs.Seats.{all_further}
+use Rattle.session_seats.specs.Told.{SaysMore}
+use Rattle.session_seats.proofs.Seats.{all_further, answers_line}
 use Rattle.session_seats.proofs.Settled.{at_map}
 
 -- a seat that has answered nothing
@@ -27,6 +28,11 @@ none_answered opening reads desk none = subst (All (Answers opening reads (seen_
 pub one_kept : (opening : Basis) (reads : List ReadLine) (seen : List Entry) (before now : List Said) (said : Said) → now ≡ before ++ said ∷ [] → Answers opening reads seen said → All (Answers opening reads seen) before
     → All (Answers opening reads seen) now
 one_kept opening reads seen before now said more answers all = subst (All (Answers opening reads seen)) (sym more) (All-push (Answers opening reads seen) before said all answers)
+
+-- what the line at this place is answered was kept
+pub more_kept : (opening : Basis) (reads : List ReadLine) (place : ℕ) (line : ReadLine) (seen : List Entry) (before now : List Said) → place < length reads → line ≡ get_or reads place line
+    → SaysMore opening place line.number (read_seen line.read) seen before now → All (Answers opening reads seen) before → All (Answers opening reads seen) now
+more_kept opening reads place line seen before now inside there more all = one_kept opening reads seen before now more.said more.more (answers_line opening reads seen place line more.said inside there more.says) all
 
 -- what was answered stays so where a line is passed over
 pub passed_on : (opening : Basis) (reads : List ReadLine) (place : ℕ) (before now : DeskSeen) → HasPassedOver place before now → HasAnswered opening reads before → HasAnswered opening reads now

@@ -1,13 +1,18 @@
 -- A seat that serves the lines of its share, one after another.
-use Rattle.std.proofs.Common.{◌≡◌, ◌⊎◌, ◌<◌, ◌≤◌, ◌-◌, ◌+◌, ◌++◌, ℕ, zero, suc, List, [], ◌∷◌, length, drop, get_or, min, leb, Bool, true, false, cond, not, ◌&&◌, Option, Some, None, refl, sym, ap, ◌∙◌, subst, ⊎_elim, arith, append-nil, append_assoc}
+use Rattle.std.proofs.Common.{◌≡◌, ◌⊎◌, ◌<◌, ◌≤◌, ◌-◌, ◌+◌, ◌++◌, ℕ, zero, suc, List, [], ◌∷◌, length, drop, get_or, min, leb, Bool, true, false, cond, not, ◌&&◌, Option, Some, None, Result, refl, sym, ap, ◌∙◌, subst, ⊎_elim, arith, append-nil, append_assoc}
 use Rattle.std.specs.Prelude.{IsTrue, IsFalse}
 use Rattle.std.proofs.lemmas.Bool.{cases_Bool, true≢false, leb-true, leb-false}
 use Rattle.std.proofs.lemmas.List.{map_push}
 use Rattle.std.proofs.lemmas.List.Elements.{filter-append}
+use Rattle.generation.specs.Basis.{Basis}
+use Rattle.line_spec.specs.Line.{Command}
+use Rattle.line_spec.specs.declared.line_fault.LineFault.{LineFault}
 use Rattle.published.specs.Pass.{PassSeen}
 use Rattle.session_rounds.specs.Lines.{is_asking}
 use Rattle.session_rounds.specs.declared.read_line.ReadLine.{ReadLine}
 use Rattle.session_seats.specs.Said.{Said}
+use Rattle.session_seats.specs.Told.{SaysMore}
+use Rattle.update_spec.specs.Entries.{Entry}
 use Rattle.session_seats.specs.Seats.{DeskSeen, IsLater, HadNoCopy, StaysSeat, IsAtWork, HasServed, HasPassedOver, HasReadOver, asks_at, asking, is_at_work, share, places_of, unasking}
 
 -- ---- passes
@@ -263,6 +268,12 @@ served_one reads place before now said asks here stays later ready going more sa
   );
   unasked = λ still. (going, none_more reads place before.unasked now.unasked asks same);
 }
+
+-- the same of what was kept
+pub served_more : (opening : Basis) (reads : List ReadLine) (place number : ℕ) (read : Result Command LineFault) (seen : List Entry) (before now : DeskSeen) → asks_at reads place ≡ true → SaysMore opening place number read seen before.answers now.answers
+    → StaysSeat before now → IsLater before.pass now.pass → now.ready ≡ before.ready → IsFalse before.stopped → now.unasked ≡ before.unasked → HasServed reads (place ∷ []) before now
+served_more opening reads place number read seen before now asks more stays later ready going same =
+    served_one reads place before now more.said asks more.says.here stays later ready going more.more same
 
 -- ---- its share
 

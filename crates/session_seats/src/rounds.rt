@@ -158,7 +158,12 @@ fn work_round<R: Threads + Wait + Sync, P: Pair + Send + Sync, H: RegexHost + Se
 }
 
 // Lets the seats do their work beside the writer.
-fn work_beside<R: Threads + Wait + Sync, P: Pair + Send + Sync, H: RegexHost + Send, G: Gate + Sync>(
+fn work_beside<
+    R: Threads + Wait + Sync,
+    P: Pair + Send + Sync,
+    H: RegexHost + Send,
+    G: Gate + Sync,
+>(
     rt: &R,
     gate: &G,
     deal: &Deal<'_>,

@@ -61,7 +61,8 @@ pub fn settle<P: Pair, H: RegexHost>(
     for place in 0..lines.len() {
         let line = &lines[place];
         let seat = asked % desks.len();
-        let said = said_to(round, office, desks, line, place, asked);
+        let turn = asked / desks.len();
+        let said = said_to(round, office, &desks[seat], line, place, turn);
         let asks = say_line(
             alloc,
             floor,
@@ -82,24 +83,22 @@ pub fn settle<P: Pair, H: RegexHost>(
     Ok(())
 }
 
-// What the seat whose turn it is said to the line at this place, if anything, where so many lines before it asked a seat. The
-// answers of a seat are those to the first lines of its share.
+// What the seat whose turn it is said to the line at this place, if anything. So many lines before it were its own: its answers
+// are those to the first of them.
 fn said_to<'a, P: Pair>(
     _round: &RoundLines,
     _office: &Office<P>,
-    desks: &'a [Desk<P>],
+    desk: &'a Desk<P>,
     _line: &RoundLine,
     place: usize,
-    asked: usize,
+    turn: usize,
 ) -> Option<Said<'a>>
-    requires trusted { All (IsTrusted P.opening _round.now.reads _office.now.list) desks.now }
-    requires some { 0 < length desks.now }
+    requires trusted { IsTrusted P.opening _round.now.reads _office.now.list desk.now }
     requires inside { place < length _round.now.reads }
     requires there { seen_line _line.now ≡ get_or _round.now.reads place (seen_line _line.now) }
     ensures { MaySay P.opening (seen_line _line.now) _office.now.list result }
 {
-    let seat = asked % desks.len();
-    desks[seat].answer_to(asked / desks.len(), place)
+    desk.answer_to(turn, place)
 }
 
 // Appends what a line says, and says whether it asks a seat: what the seat said, if that stands, or else what is decided on

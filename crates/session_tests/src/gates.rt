@@ -327,17 +327,21 @@ fn requests_behind_a_bad_url_are_answered_by_their_own_seats(rt: HostRuntime) ->
         second: AtomicU32::new(9),
         third: AtomicU32::new(9),
     };
-    let written = written(
-        &rt,
-        "serve --workers 2 --ext a fault.jsonl",
-        &flags,
-        &gate,
-    )?;
+    let written = written(&rt, "serve --workers 2 --ext a fault.jsonl", &flags, &gate)?;
     assert_eq!(rt; gate.second.load(Ordering::SeqCst), 0);
     assert_eq!(rt; gate.third.load(Ordering::SeqCst), 1);
     let mut lines = written.as_slice().split(|byte| *byte == b'\n');
-    assert!(rt; lines.next().unwrap_or(b"".as_slice()).starts_with(b"{\"line\":1,\"bad\":"));
-    assert!(rt; lines.next() == Some(b"{\"line\":2,\"generation\":0,\"verdict\":\"none\"}".as_slice()));
-    assert!(rt; lines.next() == Some(b"{\"line\":3,\"generation\":0,\"verdict\":\"none\"}".as_slice()));
+    assert!(rt;
+        lines
+            .next()
+            .unwrap_or(b"".as_slice())
+            .starts_with(b"{\"line\":1,\"bad\":")
+    );
+    assert!(rt;
+        lines.next() == Some(b"{\"line\":2,\"generation\":0,\"verdict\":\"none\"}".as_slice())
+    );
+    assert!(rt;
+        lines.next() == Some(b"{\"line\":3,\"generation\":0,\"verdict\":\"none\"}".as_slice())
+    );
     Ok(())
 }

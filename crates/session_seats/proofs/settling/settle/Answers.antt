@@ -1,8 +1,9 @@
-use Rattle.std.proofs.Common.{◌≤◌, ◌%◌, length, map, string_bytes, refl, ap, ◌∙◌, arith}
+use Rattle.std.proofs.Common.{◌≤◌, ◌%◌, length, map, string_bytes, refl, sym, ap, subst, ◌∙◌, arith}
 use Rattle.std.proofs.lemmas.List.{length-map}
 use Rattle.session_laws.proofs.Rises.{as_long, none_fell_on, none_fell_yet}
 use Rattle.session_rounds.proofs.Steps.{none_settled, all_settled}
 use Rattle.session_seats.specs.Reading.{seen_line}
+use Rattle.session_seats.specs.Seats.{IsTrusted}
 use Rattle.session_seats.specs.Writing.{texts_with}
 use Rattle.session_seats.proofs.Desks.{taken_at, seen_there}
 use Rattle.session_seats.proofs.Offices.{as_many}
@@ -24,6 +25,12 @@ loop-place-init g c = record {
   counted = c.requires.counted;
   later = none_fell_yet (map g.H.RegexHost.faults c.args.finders.now);
 }
+
+pub said_to-said-requires-clause-trusted : goal.said_to-said-requires-clause-trusted
+said_to-said-requires-clause-trusted g c =
+    let inside = turn_inside c.loop-place.asked (length c.args.desks.now) c.requires.some in
+    subst (IsTrusted g.P.Pair.opening c.args.round.now.reads c.args.office.now.list) (sym c.index-desks-seat.is)
+    (c.requires.trusted (c.loop-place.asked % length c.args.desks.now) c.index-desks-seat.result inside)
 
 pub said_to-said-requires-clause-inside : goal.said_to-said-requires-clause-inside
 said_to-said-requires-clause-inside g c =
