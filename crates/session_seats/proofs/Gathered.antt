@@ -1,5 +1,6 @@
 -- What a pass answers to a line that asks a seat.
 use Rattle.std.proofs.Common.{◌≡◌, ℕ, List, [], ◌∷◌, ◌++◌, length, true, Ok, Err, Result, refl, ap, rules}
+use Rattle.std.proofs.lemmas.Bool.{false≢true}
 use Rattle.dnr_base.specs.declared.rule_name.RuleName.{RuleName}
 use Rattle.generation.specs.Basis.{Basis}
 use Rattle.line_spec.specs.Line.{Command, blank, sync, request, explain, update, batch}
@@ -32,10 +33,10 @@ told_kept opening read seen place line told before now is more = record { said =
 -- a fault answers what asks a seat
 pub fault_told : (opening : Basis) (read : Result Command LineFault) (seen : List Entry) (number : ℕ) (rule : RuleName) → is_asked read ≡ true → number ≡ length seen → NamesPattern (replay opening.state seen) rule
     → IsTold opening read seen (told.Failed number rule)
-fault_told opening (Ok blank) seen number rule asks counted names = let wrong : ⊥ = cc in absurd wrong
-fault_told opening (Ok sync) seen number rule asks counted names = let wrong : ⊥ = cc in absurd wrong
+fault_told opening (Ok blank) seen number rule asks counted names = absurd (false≢true asks)
+fault_told opening (Ok sync) seen number rule asks counted names = absurd (false≢true asks)
 fault_told opening (Ok (request r)) seen number rule asks counted names = record { counted = counted; fits = names }
 fault_told opening (Ok (explain r)) seen number rule asks counted names = record { counted = counted; fits = names }
-fault_told opening (Ok (update one)) seen number rule asks counted names = let wrong : ⊥ = cc in absurd wrong
-fault_told opening (Ok (batch all)) seen number rule asks counted names = let wrong : ⊥ = cc in absurd wrong
-fault_told opening (Err fault) seen number rule asks counted names = let wrong : ⊥ = cc in absurd wrong
+fault_told opening (Ok (update one)) seen number rule asks counted names = absurd (false≢true asks)
+fault_told opening (Ok (batch all)) seen number rule asks counted names = absurd (false≢true asks)
+fault_told opening (Err fault) seen number rule asks counted names = absurd (false≢true asks)

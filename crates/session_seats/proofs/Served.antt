@@ -4,6 +4,7 @@ use Rattle.std.specs.Prelude.{IsTrue, IsFalse}
 use Rattle.std.proofs.lemmas.Bool.{cases_Bool, true≢false, leb-true, leb-false}
 use Rattle.std.proofs.lemmas.List.{map_push}
 use Rattle.std.proofs.lemmas.List.Elements.{filter-append}
+use Rattle.dnr_base.specs.Faults.{Rose}
 use Rattle.generation.specs.Basis.{Basis}
 use Rattle.line_spec.specs.Line.{Command}
 use Rattle.line_spec.specs.declared.line_fault.LineFault.{LineFault}
@@ -45,6 +46,18 @@ no_copy_from (Some a) (Some b) (Some c) p q = omega (arith, p, q)
 pub later_of : (view pass now : Option PassSeen) (was next : PassSeen) → pass ≡ view → pass ≡ Some was → now ≡ Some next → was.missed ≤ next.missed → IsLater view now
 later_of view pass now was next same is grown later =
     subst (λ (p : Option PassSeen). IsLater view p) (sym grown) (subst (λ (p : Option PassSeen). IsLater p (Some next)) (sym is ∙ same) later)
+
+pub later_as : (view pass : Option PassSeen) → pass ≡ view → IsLater view pass
+later_as view pass same = subst (λ (p : Option PassSeen). IsLater view p) (sym same) (later_same view)
+
+-- there was no copy to enter, since there is no pass
+pub no_copy_at : (view now : Option PassSeen) → view ≡ None → HadNoCopy view now
+no_copy_at view now none = subst (λ (p : Option PassSeen). HadNoCopy p now) (sym none) tt
+
+-- and as it counted
+pub no_copy_of : (view pass now : Option PassSeen) (was next : PassSeen) → pass ≡ view → pass ≡ Some was → now ≡ Some next → Rose was.missed next.missed → HadNoCopy view now
+no_copy_of view pass now was next same is grown rose =
+    subst (λ (p : Option PassSeen). HadNoCopy view p) (sym grown) (subst (λ (p : Option PassSeen). HadNoCopy p (Some next)) (sym is ∙ same) rose)
 
 -- ---- places
 
