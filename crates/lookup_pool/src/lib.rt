@@ -14,4 +14,4 @@ pub use gate::{Gate, NoGate};
 pub use parts::{RoundWriter, Seat};
 pub use pool::round;
 pub use shared::{SharedWriter, ToolSeat};
-pub use tools::round_with_tools;
+pub use tools::{round_with_tools, seats_with_tools};

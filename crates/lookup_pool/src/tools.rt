@@ -55,6 +55,23 @@ fn are_idle<C, T, S: ToolSeat<C, T>>(shared: &C, seats: &[S]) -> bool
     true
 }
 
+/// Does the work of each seat, each once, beside each other, and returns when all have ended: a round without a writer. Each
+/// seat has the tool at its place.
+pub fn seats_with_tools<
+    R: Threads + Sync,
+    C: Sync,
+    T: Send,
+    S: ToolSeat<C, T> + Send,
+    G: Gate + Sync,
+>(rt: &R, gate: &G, shared: &C, seats: &mut [S], tools: &mut [T])
+    requires seats { All (S.can_work shared.now) seats.old }
+    requires tools { length tools.old ≡ length seats.old }
+    ensures worked { AllZip (S.worked shared.now) seats.old seats.new }
+    ensures used { AllZip S.used tools.old tools.new }
+{
+    work_all(rt, gate, shared, seats, tools);
+}
+
 // The work of each seat with the tool at its place.
 #[cycle(seats)]
 fn work_all<R: Threads + Sync, C: Sync, T: Send, S: ToolSeat<C, T> + Send, G: Gate + Sync>(

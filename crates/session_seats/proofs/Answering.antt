@@ -13,7 +13,7 @@ use Rattle.session_rounds.specs.Rounds.{Settled, RoundAnswered}
 use Rattle.session_rounds.specs.declared.read_line.ReadLine.{ReadLine}
 use Rattle.session_rounds.proofs.Whole.{numbers_from}
 use Rattle.session_seats.specs.Rounds.{AreWithin, WritesRound, CutsRound}
-use Rattle.session_seats.specs.Seats.{DeskSeen, AreSeats, HasBegun, HasAnswered, HasAnsweredAll, HasEnded, HasWorked, IsTrusted, asking, places_of, share}
+use Rattle.session_seats.specs.Seats.{DeskSeen, AreSeats, HasBegun, HasAnswered, HasAnsweredAll, HasEnded, HasPassedOverAll, HasWorked, IsTrusted, asking, places_of, share, unasking}
 use Rattle.session_seats.specs.Reading.{ReadRound}
 use Rattle.session_seats.specs.Said.{Said}
 use Rattle.session_seats.specs.Writing.{OfficeSeen, HasWritten, WriterSaysAll}
@@ -47,6 +47,21 @@ all_answered_all opening round (b ∷ before) (n ∷ now) fresh zip =
     All-cons (HasAnsweredAll round) n now (answered_all opening round b n (All-head (λ (d : DeskSeen). d.answers ≡ []) b before fresh) zip.0)
     (all_answered_all opening round before now (All-rest (λ (d : DeskSeen). d.answers ≡ []) b before (b ∷ before) refl fresh) zip.1)
 
+-- and has passed over the others
+passed_over_all : (opening : Basis) (round : ReadRound) (before now : DeskSeen) → before.unasked ≡ [] → HasWorked opening round before now → HasPassedOverAll round now
+passed_over_all opening round before now fresh worked going =
+    let stays = worked.served.stays in
+    (worked.served.unasked going).1 ∙ ap (λ (places : List ℕ). places ++ unasking round.reads (share before.seats before.seat round.dealt)) fresh
+    ∙ ap (λ (n : ℕ). unasking round.reads (share n before.seat round.dealt)) (sym stays.seats) ∙ ap (λ (n : ℕ). unasking round.reads (share now.seats n round.dealt)) (sym stays.seat)
+
+pub all_passed_over : (opening : Basis) (round : ReadRound) (before now : List DeskSeen) → All (λ d. d.unasked ≡ []) before → AllZip (HasWorked opening round) before now → All (HasPassedOverAll round) now
+all_passed_over opening round [] [] fresh zip = All-nil (HasPassedOverAll round)
+all_passed_over opening round [] (n ∷ now) fresh zip = absurd zip
+all_passed_over opening round (b ∷ before) [] fresh zip = absurd zip
+all_passed_over opening round (b ∷ before) (n ∷ now) fresh zip =
+    All-cons (HasPassedOverAll round) n now (passed_over_all opening round b n (All-head (λ (d : DeskSeen). d.unasked ≡ []) b before fresh) zip.0)
+    (all_passed_over opening round before now (All-rest (λ (d : DeskSeen). d.unasked ≡ []) b before (b ∷ before) refl fresh) zip.1)
+
 pub seats_worked : (opening : Basis) (round : ReadRound) (floor : List Entry) (count : ℕ) (before middle now : List DeskSeen) → AllZip (HasBegun floor) before middle → AllZip (HasWorked opening round) middle now → AreSeats count before
     → AreSeats count now
 seats_worked opening round floor count before middle now begun worked seats =
@@ -58,13 +73,6 @@ seats_ended opening reads end count before now ended seats = still_seats (HasEnd
 -- a writer that goes on from these has written after them
 pub written_from : (opening : Basis) (first list : List Entry) (lines : List RoundLine) (office : OfficeSeen) → list ≡ first → HasWritten opening list lines office → HasWritten opening first lines office
 written_from opening first list lines office same wrote = subst (λ (l : List Entry). HasWritten opening l lines office) same wrote
-
--- what it has said, unless memory ran out
-pub says_of : (opening : Basis) (list : List Entry) (lines : List RoundLine) (office : OfficeSeen) → HasWritten opening list lines office → office.stopped ≡ false → WriterSaysAll opening list lines office.texts office.list
-says_of opening list lines office wrote going = (wrote going).says
-
-pub idle_of : (opening : Basis) (list : List Entry) (lines : List RoundLine) (office : OfficeSeen) → HasWritten opening list lines office → office.stopped ≡ false → office.staged ≡ []
-idle_of opening list lines office wrote going = (wrote going).idle
 
 -- ---- what is handed on to be said
 

@@ -14,20 +14,32 @@ use Rattle.session_rounds.specs.declared.read_line.ReadLine.{ReadLine}
 use Rattle.update_spec.specs.Entries.{Entry}
 use Rattle.session_seats.specs.Reading.{IsTaken, ReadRound, asked_in, dealt_at, dealt_from, held_with, is_dealt, seen_line, seen_lines}
 use Rattle.session_seats.specs.declared.round_line.RoundLine.{RoundLine}
-use Rattle.session_seats.specs.Seats.{Answers, DeskSeen, HasAnswered, IsUntold, seen_of}
+use Rattle.session_seats.specs.Seats.{Answers, DeskSeen, HasAnswered, HasPassedOver, HasReadOver, IsUntold, seen_of}
 use Rattle.session_seats.specs.Said.{Said}
-use Rattle.session_seats.proofs.Seats.{all_further}
+use Rattle.session_seats.specs.Told.{SaysMore}
+use Rattle.session_seats.proofs.Seats.{all_further, answers_line}
 use Rattle.session_seats.proofs.Settled.{at_map}
 
 -- a seat that has answered nothing
 pub none_answered : (opening : Basis) (reads : List ReadLine) (desk : DeskSeen) → desk.answers ≡ [] → HasAnswered opening reads desk
 none_answered opening reads desk none = subst (All (Answers opening reads (seen_of desk.pass))) (sym none) (All-nil (Answers opening reads (seen_of desk.pass)))
 
--- one answer more, where there was memory for it
-pub one_kept : (opening : Basis) (reads : List ReadLine) (seen : List Entry) (before now : List Said) (said : Said) (there : Bool) → now ≡ cond there (before ++ said ∷ []) before
-    → Answers opening reads seen said → All (Answers opening reads seen) before → All (Answers opening reads seen) now
-one_kept opening reads seen before now said true is answers all = subst (All (Answers opening reads seen)) (sym is) (All-push (Answers opening reads seen) before said all answers)
-one_kept opening reads seen before now said false is answers all = subst (All (Answers opening reads seen)) (sym is) all
+-- one answer more
+pub one_kept : (opening : Basis) (reads : List ReadLine) (seen : List Entry) (before now : List Said) (said : Said) → now ≡ before ++ said ∷ [] → Answers opening reads seen said → All (Answers opening reads seen) before
+    → All (Answers opening reads seen) now
+one_kept opening reads seen before now said more answers all = subst (All (Answers opening reads seen)) (sym more) (All-push (Answers opening reads seen) before said all answers)
+
+-- what the line at this place is answered was kept
+pub more_kept : (opening : Basis) (reads : List ReadLine) (place : ℕ) (line : ReadLine) (seen : List Entry) (before now : List Said) → place < length reads → line ≡ get_or reads place line
+    → SaysMore opening place line.number (read_seen line.read) seen before now → All (Answers opening reads seen) before → All (Answers opening reads seen) now
+more_kept opening reads place line seen before now inside there more all = one_kept opening reads seen before now more.said more.more (answers_line opening reads seen place line more.said inside there more.says) all
+
+-- what was answered stays so where a line is passed over
+pub passed_on : (opening : Basis) (reads : List ReadLine) (place : ℕ) (before now : DeskSeen) → HasPassedOver place before now → HasAnswered opening reads before → HasAnswered opening reads now
+passed_on opening reads place before now over all = subst (λ (desk : DeskSeen). HasAnswered opening reads desk) (sym over.rest) all
+
+pub read_on : (opening : Basis) (reads : List ReadLine) (asks : Bool) (before now : DeskSeen) → HasReadOver asks before now → HasAnswered opening reads before → HasAnswered opening reads now
+read_on opening reads asks before now over all = subst (λ (desk : DeskSeen). HasAnswered opening reads desk) (sym over.rest) all
 
 -- what was answered stays answered as the pass sees more
 pub kept_on : (opening : Basis) (reads : List ReadLine) (pass : Option PassSeen) (was now : PassSeen) (said : List Said) → pass ≡ Some was → IsPrefix was.seen now.seen

@@ -4,7 +4,7 @@ pub mod SoFar
 pub mod Endings
 pub mod Seats
 pub mod Settled
-pub mod Said
+pub mod Gathered
 pub mod Parts
 pub mod Replies
 pub mod Desks
@@ -16,3 +16,4 @@ pub mod Telling
 pub mod Log
 pub mod Served
 pub mod Syncs
+pub mod Dealt

@@ -29,6 +29,12 @@ said_more text more marks mark kept start len =
     let last : take mark.len (drop mark.start (text ++ more)) ≡ more = rw (start, len) (part_at_end text more) in
     rw (map-append (said_in (text ++ more)) marks (mark ∷ []), said_in_longer text more marks kept, last) refl
 
+-- the same of what was pushed
+pub said_pushed : (text more whole : List ℕ) (marks all : List Mark) (mark : Mark) (said : Said) → AreKept text marks → whole ≡ text ++ more → all ≡ marks ++ mark ∷ [] → mark.start ≡ length text → mark.len ≡ length more
+    → record { place = mark.place; number = mark.number; failed = mark.failed; text = more } ≡ said → all_said whole all ≡ all_said text marks ++ said ∷ []
+said_pushed text more whole marks all mark said kept longer grown start len same =
+    ap (λ (t : List ℕ). all_said t all) longer ∙ ap (all_said (text ++ more)) grown ∙ said_more text more marks mark kept start len ∙ ap (λ (d : Said). all_said text marks ++ d ∷ []) same
+
 -- the one that stands behind so many
 pub said_there : (text : List ℕ) (marks : List Mark) (turn : ℕ) (mark : Mark) (d : Said) (part : List ℕ) → turn < length marks → mark ≡ get_or marks turn mark → part ≡ take mark.len (drop mark.start text)
     → get_or (all_said text marks) turn d ≡ record { place = mark.place; number = mark.number; failed = mark.failed; text = part }

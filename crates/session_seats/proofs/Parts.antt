@@ -41,6 +41,12 @@ have_begun floor [] (n ∷ now) zip = absurd zip
 have_begun floor (b ∷ before) [] zip = absurd zip
 have_begun floor (b ∷ before) (n ∷ now) zip = All-cons (λ (d : DeskSeen). d.answers ≡ []) n now zip.0.fresh (have_begun floor before now zip.1)
 
+pub have_passed_none : (floor : List Entry) (before now : List DeskSeen) → AllZip (HasBegun floor) before now → All (λ d. d.unasked ≡ []) now
+have_passed_none floor [] [] zip = All-nil (λ (d : DeskSeen). d.unasked ≡ [])
+have_passed_none floor [] (n ∷ now) zip = absurd zip
+have_passed_none floor (b ∷ before) [] zip = absurd zip
+have_passed_none floor (b ∷ before) (n ∷ now) zip = All-cons (λ (d : DeskSeen). d.unasked ≡ []) n now zip.0.unasked (have_passed_none floor before now zip.1)
+
 -- the same seats, each at its place
 still_from : (R : DeskSeen → DeskSeen → Type 0) (seat count : ℕ) (before now : List DeskSeen) → ((b n : DeskSeen) → R b n → StaysSeat b n) → AllZip R before now → AreSeatsFrom seat count before → AreSeatsFrom seat count now
 still_from R seat count [] [] stays zip all = tt

@@ -14,7 +14,7 @@ use Rattle.session_seats.specs.Seats.{SaysAt, Answers, AllAnswer, DeskSeen, IsTr
 use Rattle.session_seats.specs.Said.{Said}
 
 -- the element at a place, whatever stands for one that is not there
-same_at : {X : Type 0} (xs : List X) (i : ℕ) (d e : X) → i < length xs → get_or xs i d ≡ get_or xs i e
+pub same_at : {X : Type 0} (xs : List X) (i : ℕ) (d e : X) → i < length xs → get_or xs i d ≡ get_or xs i e
 same_at [] i d e inside = absurd (omega (arith, inside))
 same_at (x ∷ xs) zero d e inside = refl
 same_at (x ∷ xs) (suc i) d e inside = same_at xs i d e (omega (arith, inside))

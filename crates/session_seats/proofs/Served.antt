@@ -1,13 +1,20 @@
 -- A seat that serves the lines of its share, one after another.
-use Rattle.std.proofs.Common.{◌≡◌, ◌⊎◌, ◌<◌, ◌≤◌, ◌-◌, ◌+◌, ◌++◌, ℕ, zero, suc, List, [], ◌∷◌, length, drop, get_or, min, leb, Bool, true, false, cond, not, ◌&&◌, Option, Some, None, refl, sym, ap, ◌∙◌, subst, ⊎_elim, arith, append-nil, append_assoc}
+use Rattle.std.proofs.Common.{◌≡◌, ◌⊎◌, ◌<◌, ◌≤◌, ◌-◌, ◌+◌, ◌++◌, ℕ, zero, suc, List, [], ◌∷◌, length, drop, get_or, min, leb, Bool, true, false, cond, not, ◌&&◌, Option, Some, None, Result, refl, sym, ap, ◌∙◌, subst, ⊎_elim, arith, append-nil, append_assoc}
 use Rattle.std.specs.Prelude.{IsTrue, IsFalse}
 use Rattle.std.proofs.lemmas.Bool.{cases_Bool, true≢false, leb-true, leb-false}
 use Rattle.std.proofs.lemmas.List.{map_push}
+use Rattle.std.proofs.lemmas.List.Elements.{filter-append}
+use Rattle.dnr_base.specs.Faults.{Rose}
+use Rattle.generation.specs.Basis.{Basis}
+use Rattle.line_spec.specs.Line.{Command}
+use Rattle.line_spec.specs.declared.line_fault.LineFault.{LineFault}
 use Rattle.published.specs.Pass.{PassSeen}
 use Rattle.session_rounds.specs.Lines.{is_asking}
 use Rattle.session_rounds.specs.declared.read_line.ReadLine.{ReadLine}
 use Rattle.session_seats.specs.Said.{Said}
-use Rattle.session_seats.specs.Seats.{DeskSeen, IsLater, HadNoCopy, StaysSeat, IsAtWork, HasServed, HasPassedOver, asks_at, asking, is_at_work, share, places_of, with_answers}
+use Rattle.session_seats.specs.Told.{SaysMore}
+use Rattle.update_spec.specs.Entries.{Entry}
+use Rattle.session_seats.specs.Seats.{DeskSeen, IsLater, HadNoCopy, StaysSeat, IsAtWork, HasServed, HasPassedOver, HasReadOver, asks_at, asking, is_at_work, share, places_of, unasking}
 
 -- ---- passes
 
@@ -40,6 +47,18 @@ pub later_of : (view pass now : Option PassSeen) (was next : PassSeen) → pass 
 later_of view pass now was next same is grown later =
     subst (λ (p : Option PassSeen). IsLater view p) (sym grown) (subst (λ (p : Option PassSeen). IsLater p (Some next)) (sym is ∙ same) later)
 
+pub later_as : (view pass : Option PassSeen) → pass ≡ view → IsLater view pass
+later_as view pass same = subst (λ (p : Option PassSeen). IsLater view p) (sym same) (later_same view)
+
+-- there was no copy to enter, since there is no pass
+pub no_copy_at : (view now : Option PassSeen) → view ≡ None → HadNoCopy view now
+no_copy_at view now none = subst (λ (p : Option PassSeen). HadNoCopy p now) (sym none) tt
+
+-- and as it counted
+pub no_copy_of : (view pass now : Option PassSeen) (was next : PassSeen) → pass ≡ view → pass ≡ Some was → now ≡ Some next → Rose was.missed next.missed → HadNoCopy view now
+no_copy_of view pass now was next same is grown rose =
+    subst (λ (p : Option PassSeen). HadNoCopy view p) (sym grown) (subst (λ (p : Option PassSeen). HadNoCopy p (Some next)) (sym is ∙ same) rose)
+
 -- ---- places
 
 -- whether the line at a place asks a seat
@@ -53,19 +72,32 @@ asks_nowhere [] place beyond = refl
 asks_nowhere (first ∷ reads) zero beyond = absurd (omega arith)
 asks_nowhere (first ∷ reads) (suc place) beyond = asks_nowhere reads place (omega arith)
 
-asking_none : (reads : List ReadLine) (place : ℕ) → asks_at reads place ≡ false → asking reads (place ∷ []) ≡ []
+pub asking_none : (reads : List ReadLine) (place : ℕ) → asks_at reads place ≡ false → asking reads (place ∷ []) ≡ []
 asking_none reads place not = ap (λ (b : Bool). cond b (place ∷ []) []) not
 
-asking_one : (reads : List ReadLine) (place : ℕ) → asks_at reads place ≡ true → asking reads (place ∷ []) ≡ place ∷ []
+pub asking_one : (reads : List ReadLine) (place : ℕ) → asks_at reads place ≡ true → asking reads (place ∷ []) ≡ place ∷ []
 asking_one reads place is = ap (λ (b : Bool). cond b (place ∷ []) []) is
 
 asking_by : (b : Bool) (x : ℕ) (xs ys zs : List ℕ) → zs ≡ xs ++ ys → cond b (x ∷ zs) zs ≡ cond b (x ∷ xs) xs ++ ys
 asking_by true x xs ys zs is = ap (λ (l : List ℕ). x ∷ l) is
 asking_by false x xs ys zs is = is
 
-asking_both : (reads : List ReadLine) (xs ys : List ℕ) → asking reads (xs ++ ys) ≡ asking reads xs ++ asking reads ys
+pub asking_both : (reads : List ReadLine) (xs ys : List ℕ) → asking reads (xs ++ ys) ≡ asking reads xs ++ asking reads ys
 asking_both reads [] ys = refl
 asking_both reads (x ∷ xs) ys = asking_by (asks_at reads x) x (asking reads xs) (asking reads ys) (asking reads (xs ++ ys)) (asking_both reads xs ys)
+
+unasking_both : (reads : List ReadLine) (xs ys : List ℕ) → unasking reads (xs ++ ys) ≡ unasking reads xs ++ unasking reads ys
+unasking_both reads xs ys = filter-append (λ (place : ℕ). not (asks_at reads place)) xs ys
+
+unasking_none : (reads : List ReadLine) (place : ℕ) → asks_at reads place ≡ true → unasking reads (place ∷ []) ≡ []
+unasking_none reads place is = ap (λ (b : Bool). cond (not b) (place ∷ []) []) is
+
+unasking_one : (reads : List ReadLine) (place : ℕ) → asks_at reads place ≡ false → unasking reads (place ∷ []) ≡ place ∷ []
+unasking_one reads place none = ap (λ (b : Bool). cond (not b) (place ∷ []) []) none
+
+-- a line that asks one is not passed over
+none_more : (reads : List ReadLine) (place : ℕ) (before now : List ℕ) → asks_at reads place ≡ true → now ≡ before → now ≡ before ++ unasking reads (place ∷ [])
+none_more reads place before now asks same = same ∙ sym (append-nil before) ∙ ap (λ (l : List ℕ). before ++ l) (sym (unasking_none reads place asks))
 
 -- a share begins behind as many places as it leaves out
 pub share_behind : (seats before : ℕ) (places : List ℕ) → share seats before places ≡ share seats 0 (drop before places)
@@ -125,6 +157,7 @@ served_none reads desk = record {
   later = later_same desk.pass;
   lost = never_lost desk desk refl;
   all = λ work. (work, sym (append-nil (places_of desk.answers)));
+  unasked = λ going. (going, sym (append-nil desk.unasked));
 }
 
 -- and some lines, and then others
@@ -140,29 +173,50 @@ served_both reads xs ys a b c one two = record {
         first.0,
         second.1 ∙ ap (λ (l : List ℕ). l ++ asking reads ys) first.1 ∙ append_assoc (places_of a.answers) (asking reads xs) (asking reads ys) ∙ ap (λ (l : List ℕ). places_of a.answers ++ l) (sym (asking_both reads xs ys)),
       );
+  unasked = λ going.
+      let second = two.unasked going in
+      let first = one.unasked second.0 in (
+        first.0,
+        second.1 ∙ ap (λ (l : List ℕ). l ++ unasking reads ys) first.1 ∙ append_assoc a.unasked (unasking reads xs) (unasking reads ys) ∙ ap (λ (l : List ℕ). a.unasked ++ l) (sym (unasking_both reads xs ys)),
+      );
 }
 
--- a line that asks no seat leaves it as it is
-pub served_unasked : (reads : List ReadLine) (place : ℕ) (desk : DeskSeen) → asks_at reads place ≡ false → HasServed reads (place ∷ []) desk desk
-served_unasked reads place desk not = record {
-  stays = stays_same desk;
-  later = later_same desk.pass;
-  lost = never_lost desk desk refl;
-  all = λ work. (work, sym (append-nil (places_of desk.answers)) ∙ ap (λ (l : List ℕ). places_of desk.answers ++ l) (sym (asking_none reads place not)));
-}
-
-pub served_over : (reads : List ReadLine) (place : ℕ) (asks : Bool) (before now : DeskSeen) → asks_at reads place ≡ asks → HasPassedOver asks before now → HasServed reads (place ∷ []) before now
-served_over reads place asks before now same over =
+-- a line that asks no seat is passed over
+pub served_unasked : (reads : List ReadLine) (place : ℕ) (before now : DeskSeen) → asks_at reads place ≡ false → HasPassedOver place before now → HasServed reads (place ∷ []) before now
+served_unasked reads place before now none over =
     let ready : now.ready ≡ before.ready = ap (λ (d : DeskSeen). d.ready) over.rest in
     record {
       stays = record { seat = ap (λ (d : DeskSeen). d.seat) over.rest; seats = ap (λ (d : DeskSeen). d.seats) over.rest };
       later = subst (IsLater before.pass) (sym (ap (λ (d : DeskSeen). d.pass) over.rest)) (later_same before.pass);
       lost = never_lost before now ready;
-      all = λ work.
-          let going = over.going work.going in (
-            record { ready = sym ready ∙ work.ready; going = going.0 },
-            ap (λ (d : DeskSeen). places_of d.answers) over.rest ∙ sym (append-nil (places_of before.answers)) ∙ ap (λ (l : List ℕ). places_of before.answers ++ l) (sym (asking_none reads place (same ∙ going.1))),
-          );
+      all = λ work. (
+        record { ready = sym ready ∙ work.ready; going = (over.going work.going).0 },
+        ap (λ (d : DeskSeen). places_of d.answers) over.rest ∙ sym (append-nil (places_of before.answers)) ∙ ap (λ (l : List ℕ). places_of before.answers ++ l) (sym (asking_none reads place none)),
+      );
+      unasked = λ going. ((over.going going).0, (over.going going).1 ∙ ap (λ (l : List ℕ). before.unasked ++ l) (sym (unasking_one reads place none)));
+    }
+
+-- also where it is read first
+pub served_over : (reads : List ReadLine) (place : ℕ) (asks : Bool) (before read now : DeskSeen) → asks_at reads place ≡ asks → HasReadOver asks before read → HasPassedOver place read now → HasServed reads (place ∷ []) before now
+served_over reads place asks before read now same first over =
+    let ready : now.ready ≡ before.ready = ap (λ (d : DeskSeen). d.ready) over.rest ∙ ap (λ (d : DeskSeen). d.ready) first.rest in
+    let none : IsFalse now.stopped → asks_at reads place ≡ false = λ going. same ∙ (first.going (over.going going).0).1 in
+    record {
+      stays = record {
+        seat = ap (λ (d : DeskSeen). d.seat) over.rest ∙ ap (λ (d : DeskSeen). d.seat) first.rest;
+        seats = ap (λ (d : DeskSeen). d.seats) over.rest ∙ ap (λ (d : DeskSeen). d.seats) first.rest;
+      };
+      later = subst (IsLater before.pass) (sym (ap (λ (d : DeskSeen). d.pass) over.rest ∙ ap (λ (d : DeskSeen). d.pass) first.rest)) (later_same before.pass);
+      lost = never_lost before now ready;
+      all = λ work. (
+        record { ready = sym ready ∙ work.ready; going = (first.going (over.going work.going).0).0 },
+        ap (λ (d : DeskSeen). places_of d.answers) over.rest ∙ ap (λ (d : DeskSeen). places_of d.answers) first.rest ∙ sym (append-nil (places_of before.answers))
+            ∙ ap (λ (l : List ℕ). places_of before.answers ++ l) (sym (asking_none reads place (none work.going))),
+      );
+      unasked = λ going. (
+        (first.going (over.going going).0).0,
+        (over.going going).1 ∙ ap (λ (d : DeskSeen). d.unasked ++ place ∷ []) first.rest ∙ ap (λ (l : List ℕ). before.unasked ++ l) (sym (unasking_one reads place (none going))),
+      );
     }
 
 -- whether it is at work
@@ -182,31 +236,57 @@ works desk is = let parts = both_so desk.ready desk.stopped is in record { ready
 pub idles : (desk : DeskSeen) → is_at_work desk ≡ false → ¬ IsAtWork desk
 idles desk is work = not_both desk.ready desk.stopped is work.ready work.going
 
--- nor does one, whatever it asks, where the seat is not at work
-pub served_idle : (reads : List ReadLine) (places : List ℕ) (desk : DeskSeen) → ¬ IsAtWork desk → HasServed reads places desk desk
-served_idle reads places desk idle = record { stays = stays_same desk; later = later_same desk.pass; lost = never_lost desk desk refl; all = λ work. absurd (idle work) }
+-- a line that asks one leaves it as it is where it is not at work
+pub served_idle : (reads : List ReadLine) (place : ℕ) (desk : DeskSeen) → asks_at reads place ≡ true → ¬ IsAtWork desk → HasServed reads (place ∷ []) desk desk
+served_idle reads place desk asks idle = record {
+  stays = stays_same desk;
+  later = later_same desk.pass;
+  lost = never_lost desk desk refl;
+  all = λ work. absurd (idle work);
+  unasked = λ going. (going, none_more reads place desk.unasked desk.unasked asks refl);
+}
 
 -- there was no copy to enter
-pub served_without : (reads : List ReadLine) (places : List ℕ) (before now : DeskSeen) → StaysSeat before now → IsLater before.pass now.pass → HadNoCopy before.pass now.pass → IsFalse now.ready → HasServed reads places before now
-served_without reads places before now stays later none lost = record { stays = stays; later = later; lost = λ is not. none; all = λ work. absurd (true≢false (sym work.ready ∙ lost)) }
+pub served_without : (reads : List ReadLine) (place : ℕ) (before now : DeskSeen) → asks_at reads place ≡ true → StaysSeat before now → IsLater before.pass now.pass → HadNoCopy before.pass now.pass → IsFalse now.ready → IsFalse before.stopped
+    → now.unasked ≡ before.unasked → HasServed reads (place ∷ []) before now
+served_without reads place before now asks stays later none lost going same = record {
+  stays = stays;
+  later = later;
+  lost = λ is not. none;
+  all = λ work. absurd (true≢false (sym work.ready ∙ lost));
+  unasked = λ still. (going, none_more reads place before.unasked now.unasked asks same);
+}
 
 -- memory ran out
 pub served_in_part : (reads : List ReadLine) (places : List ℕ) (before now : DeskSeen) → StaysSeat before now → IsLater before.pass now.pass → now.ready ≡ before.ready → IsTrue now.stopped → HasServed reads places before now
-served_in_part reads places before now stays later same stopped = record { stays = stays; later = later; lost = never_lost before now same; all = λ work. absurd (true≢false (sym stopped ∙ work.going)) }
-
--- an answer more, if there was memory for it
-pub served_one : (reads : List ReadLine) (place : ℕ) (before now : DeskSeen) (said : Said) → asks_at reads place ≡ true → said.place ≡ place → StaysSeat before now → IsLater before.pass now.pass → now.ready ≡ before.ready → IsFalse before.stopped
-    → (IsFalse now.stopped → now.answers ≡ before.answers ++ said ∷ []) → HasServed reads (place ∷ []) before now
-served_one reads place before now said asks here stays later same going more = record {
+served_in_part reads places before now stays later same stopped = record {
   stays = stays;
   later = later;
   lost = never_lost before now same;
+  all = λ work. absurd (true≢false (sym stopped ∙ work.going));
+  unasked = λ going. absurd (true≢false (sym stopped ∙ going));
+}
+
+-- an answer more
+pub served_one : (reads : List ReadLine) (place : ℕ) (before now : DeskSeen) (said : Said) → asks_at reads place ≡ true → said.place ≡ place → StaysSeat before now → IsLater before.pass now.pass → now.ready ≡ before.ready → IsFalse before.stopped
+    → now.answers ≡ before.answers ++ said ∷ [] → now.unasked ≡ before.unasked → HasServed reads (place ∷ []) before now
+served_one reads place before now said asks here stays later ready going more same = record {
+  stays = stays;
+  later = later;
+  lost = never_lost before now ready;
   all = λ work. (
-    record { ready = sym same ∙ work.ready; going = going },
-    ap places_of (more work.going) ∙ map_push (λ (s : Said). s.place) before.answers said ∙ ap (λ (p : ℕ). places_of before.answers ++ p ∷ []) here
+    record { ready = sym ready ∙ work.ready; going = going },
+    ap places_of more ∙ map_push (λ (s : Said). s.place) before.answers said ∙ ap (λ (p : ℕ). places_of before.answers ++ p ∷ []) here
         ∙ ap (λ (l : List ℕ). places_of before.answers ++ l) (sym (asking_one reads place asks)),
   );
+  unasked = λ still. (going, none_more reads place before.unasked now.unasked asks same);
 }
+
+-- the same of what was kept
+pub served_more : (opening : Basis) (reads : List ReadLine) (place number : ℕ) (read : Result Command LineFault) (seen : List Entry) (before now : DeskSeen) → asks_at reads place ≡ true → SaysMore opening place number read seen before.answers now.answers
+    → StaysSeat before now → IsLater before.pass now.pass → now.ready ≡ before.ready → IsFalse before.stopped → now.unasked ≡ before.unasked → HasServed reads (place ∷ []) before now
+served_more opening reads place number read seen before now asks more stays later ready going same =
+    served_one reads place before now more.said asks more.says.here stays later ready going more.more same
 
 -- ---- its share
 

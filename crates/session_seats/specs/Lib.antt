@@ -6,3 +6,4 @@ pub mod Cutting
 pub mod Taking
 pub mod Said
 pub mod Log
+pub mod Told

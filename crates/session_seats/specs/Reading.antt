@@ -73,6 +73,15 @@ abbrev pub dealt_from : ℕ → List RoundLine → List ℕ
 dealt_from place [] = []
 dealt_from place (line ∷ lines) = dealt_at place line ++ dealt_from (place + 1) lines
 
+-- the round, where these places are dealt to seats
+abbrev pub with_dealt : List ℕ → ReadRound → ReadRound
+with_dealt places round = record { lines = round.lines; reads = round.reads; dealt = places; held = round.held }
+
+-- the places of those of the lines that ask a seat, where the first stands at this one
+abbrev pub asking_from : ℕ → List ReadLine → List ℕ
+asking_from place [] = []
+asking_from place (line ∷ lines) = (if is_asking line then place ∷ [] else []) ++ asking_from (place + 1) lines
+
 -- how many of the lines ask a seat
 abbrev pub asked_in : List ReadLine → ℕ
 asked_in [] = 0

@@ -9,7 +9,7 @@ use Rattle.line_spec.specs.Line.{Command}
 use Rattle.line_spec.specs.declared.line_fault.LineFault.{LineFault}
 use Rattle.session_rounds.specs.Lines.{read_seen, is_asking, IsAnswer}
 use Rattle.session_rounds.specs.declared.read_line.ReadLine.{ReadLine}
-use Rattle.session_seats.specs.Reading.{ReadRound}
+use Rattle.session_seats.specs.Reading.{ReadRound, asking_from}
 use Rattle.session_seats.specs.Said.{Said}
 
 -- ---- passes
@@ -56,7 +56,8 @@ pub record Answers (opening : Basis) (reads : List ReadLine) (seen : List Entry)
   pub there : line ≡ get_or reads said.place line
   pub says : SaysAt opening said.place line.number (read_seen line.read) seen said
 
--- A seat: which it is and of how many, its pass, whether its answers count, and these; and whether memory ran out.
+-- A seat: which it is and of how many, its pass, whether its answers count, and these; the places of the lines that it has
+-- passed over; and whether memory ran out.
 pub record DeskSeen : Type 0 where
   pub seat : ℕ
   pub seats : ℕ
@@ -64,6 +65,7 @@ pub record DeskSeen : Type 0 where
   pub ready : Bool
   pub stopped : Bool
   pub answers : List Said
+  pub unasked : List ℕ
 
 -- the answers of a seat count where it has learnt what the round ended with: they and this begin what it has seen
 pub record AllAnswer (opening : Basis) (reads : List ReadLine) (end seen : List Entry) (answers : List Said) : Type 0 where
@@ -95,6 +97,10 @@ asks_at (line ∷ lines) (suc place) = asks_at lines place
 abbrev pub asking : List ReadLine → List ℕ → List ℕ
 asking reads places = filter (asks_at reads) places
 
+-- and the others
+abbrev pub unasking : List ReadLine → List ℕ → List ℕ
+unasking reads places = filter (λ (place : ℕ). not (asks_at reads place)) places
+
 -- the share of a seat: of so many places in turn the one behind so few others, and each so-manieth from there
 abbrev pub share : ℕ → ℕ → List ℕ → List ℕ
 share seats before [] = []
@@ -117,21 +123,26 @@ HavePasses count [] = Unit {0}
 HavePasses zero (desk ∷ desks) = Unit {0}
 HavePasses (suc count) (desk ∷ desks) = IsSome desk.pass × HavePasses count desks
 
--- the seat with another pass; with other answers, memory having run out or not
+-- the seat with another pass; with other places of lines that it passed over; and with memory having run out or not
 abbrev pub with_pass : DeskSeen → Option PassSeen → DeskSeen
-with_pass desk pass = record { seat = desk.seat; seats = desk.seats; pass = pass; ready = desk.ready; stopped = desk.stopped; answers = desk.answers }
+with_pass desk pass = record { seat = desk.seat; seats = desk.seats; pass = pass; ready = desk.ready; stopped = desk.stopped; answers = desk.answers; unasked = desk.unasked }
 
-abbrev pub with_answers : DeskSeen → Bool → List Said → DeskSeen
-with_answers desk stopped answers = record { seat = desk.seat; seats = desk.seats; pass = desk.pass; ready = desk.ready; stopped = stopped; answers = answers }
+abbrev pub with_unasked : DeskSeen → List ℕ → DeskSeen
+with_unasked desk unasked = record { seat = desk.seat; seats = desk.seats; pass = desk.pass; ready = desk.ready; stopped = desk.stopped; answers = desk.answers; unasked = unasked }
+
+abbrev pub with_stopped : DeskSeen → Bool → DeskSeen
+with_stopped desk stopped = record { seat = desk.seat; seats = desk.seats; pass = desk.pass; ready = desk.ready; stopped = stopped; answers = desk.answers; unasked = desk.unasked }
 
 -- it stays the same seat
 pub record StaysSeat (before now : DeskSeen) : Type 0 where
   pub seat : now.seat ≡ before.seat
   pub seats : now.seats ≡ before.seats
 
--- a seat that begins a round has answered nothing, and is ready unless it was not told of what is published
+-- a seat that begins a round has answered nothing and passed over no line, and is ready unless it was not told of what is
+-- published
 pub record HasBegun (floor : List Entry) (before now : DeskSeen) : Type 0 where
   pub fresh : now.answers ≡ []
+  pub unasked : now.unasked ≡ []
   pub stays : StaysSeat before now
   pub untold : IsFalse now.ready → IsUntold before.pass now.pass floor
 
@@ -151,17 +162,24 @@ abbrev pub places_of : List Said → List ℕ
 places_of answers = map (λ (said : Said). said.place) answers
 
 -- It has served the lines at these places. It has an answer more to each of them that asks a seat, in their order, and no
--- other, unless memory ran out or it is not ready; and it is not ready any more only where there was no copy to enter.
+-- other, unless memory ran out or it is not ready; it is not ready any more only where there was no copy to enter; and
+-- unless memory ran out it has passed over those that ask none.
 pub record HasServed (reads : List ReadLine) (places : List ℕ) (before now : DeskSeen) : Type 0 where
   pub stays : StaysSeat before now
   pub later : IsLater before.pass now.pass
   pub lost : IsTrue before.ready → IsFalse now.ready → HadNoCopy before.pass now.pass
   pub all : IsAtWork now → IsAtWork before × (places_of now.answers ≡ places_of before.answers ++ asking reads places)
+  pub unasked : IsFalse now.stopped → IsFalse before.stopped × (now.unasked ≡ before.unasked ++ unasking reads places)
 
--- It has passed over a line of which this says whether it asks a seat: it does not, unless memory ran out.
-pub record HasPassedOver (asks : Bool) (before now : DeskSeen) : Type 0 where
-  pub rest : now ≡ with_answers before now.stopped before.answers
+-- It has read a line of which this says whether it asks a seat: it does not, unless memory ran out.
+pub record HasReadOver (asks : Bool) (before now : DeskSeen) : Type 0 where
+  pub rest : now ≡ with_stopped before now.stopped
   pub going : IsFalse now.stopped → IsFalse before.stopped × (asks ≡ false)
+
+-- it has passed over the line at this place, unless memory ran out
+pub record HasPassedOver (place : ℕ) (before now : DeskSeen) : Type 0 where
+  pub rest : now ≡ with_stopped (with_unasked before now.unasked) now.stopped
+  pub going : IsFalse now.stopped → IsFalse before.stopped × (now.unasked ≡ before.unasked ++ place ∷ [])
 
 -- a seat has done its work of a round: it has served its share of what is dealt
 pub record HasWorked (opening : Basis) (round : ReadRound) (before now : DeskSeen) : Type 0 where
@@ -178,3 +196,12 @@ pub record HasEnded (opening : Basis) (reads : List ReadLine) (end : List Entry)
 -- the seat has an answer to each line of its share that asks one, in their order, unless memory ran out or it is not ready
 abbrev pub HasAnsweredAll : ReadRound → DeskSeen → Type 0
 HasAnsweredAll round desk = IsAtWork desk → places_of desk.answers ≡ asking round.reads (share desk.seats desk.seat round.dealt)
+
+-- it has passed over each line of its share that asks none, in their order, unless memory ran out
+abbrev pub HasPassedOverAll : ReadRound → DeskSeen → Type 0
+HasPassedOverAll round desk = IsFalse desk.stopped → desk.unasked ≡ unasking round.reads (share desk.seats desk.seat round.dealt)
+
+-- The k-th request of a round is answered by seat k modulo their number: the seat has an answer to each of those that are its
+-- own, in their order, and to no other line, unless memory ran out or it is not ready.
+abbrev pub HasAnsweredTurns : List ReadLine → DeskSeen → Type 0
+HasAnsweredTurns reads desk = IsAtWork desk → places_of desk.answers ≡ share desk.seats desk.seat (asking_from 0 reads)

@@ -1,10 +1,12 @@
 // What a seat has answered in a round.
-ghost use Rattle.std.specs.Prelude.{◌≡◌, ◌++◌, ◌∷◌, [], IfSome, if◌then◌else◌};
-ghost use Rattle.std.specs.Result.{is_ok};
+ghost use Rattle.std.specs.Prelude.{◌≡◌, ◌++◌, ◌∷◌, [], IfSome, OnOk, OnErr};
 ghost use Rattle.std.specs.List.{Contains};
+ghost use Rattle.session_seats.specs.Told.{said_of};
 
-use crate::answered::{Answered, Said};
-use std::alloc::{AllocError, Global};
+use crate::said::Said;
+use crate::told::Told;
+use dnr_base::NoMemory;
+use std::alloc::Global;
 use std::marker::Model;
 
 // The memory of a longer text is let go: a session may last, and one of its rounds may once be long.
@@ -63,19 +65,30 @@ impl AnswerLog {
         }
     }
 
-    /// Puts one more behind them.
-    pub fn push(&mut self, answered: &Answered) -> Result<(), AllocError>
-        ensures { self.new ≡ (if is_ok result then self.old ++ answered.now ∷ [] else self.old) }
+    /// Puts one more behind them: what is told of the request in the line of this number, at this place.
+    ///
+    /// `NoMemory`: no memory is left for it, and they are what they were.
+    pub fn push(
+        &mut self,
+        alloc: Global,
+        place: usize,
+        line: u32,
+        told: &Told,
+    ) -> Result<(), NoMemory>
+        ensures more { OnOk result (self.new ≡ self.old ++ said_of place line told.now ∷ []) }
+        ensures kept { OnErr result (self.new ≡ self.old) }
     {
+        // There is room for its mark before it is written, so that no text lies there unmarked.
+        self.marks.reserve(1)?;
         let start = self.text.len();
-        self.text.push_str(&answered.text)?;
-        self.marks.push(Mark {
-            place: answered.place,
-            number: answered.number,
-            failed: answered.failed,
+        told.write(alloc, line, &mut self.text)?;
+        self.marks.push_reserved(Mark {
+            place,
+            number: told.number(),
+            failed: told.failed(),
             start,
-            len: answered.text.len(),
-        })?;
+            len: self.text.len() - start,
+        });
         Ok(())
     }
 

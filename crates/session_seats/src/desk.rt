@@ -1,30 +1,29 @@
 //! A seat: what it answers in a round.
-ghost use Rattle.std.specs.Prelude.{◌≡◌, ◌≤◌, ◌<◌, ◌++◌, ◌∷◌, [], Ok, None, true, false, length, get_or, IfOk, IfSome, IsSome, IsNone, IsTrue, IsFalse, string_bytes};
-ghost use Rattle.std.specs.List.{Contains};
+ghost use Rattle.std.specs.Prelude.{◌≡◌, ◌≤◌, ◌<◌, ◌∷◌, [], true, false, length, get_or, nat_eq, IfSome, IsSome, IsNone, IsTrue, IsFalse};
+ghost use Rattle.std.specs.List.{Contains, list_any};
 ghost use mathlib.Core.List.{IsPrefix};
-ghost use Rattle.dnr_base.specs.Faults.{Rose};
 ghost use Rattle.lines_ahead.specs.Cut.{IsPlainLine};
 ghost use Rattle.line_spec.specs.Line.{command_of};
-ghost use Rattle.session_rounds.specs.Lines.{IsLine, is_asked, is_asking, read_seen};
+ghost use Rattle.session_rounds.specs.Lines.{IsLine, is_asked, is_asking};
 ghost use Rattle.session_seats.specs.Reading.{PlainReads};
-ghost use Rattle.session_seats.specs.Seats.{Answers, HasAnswered, HasBegun, HasEnded, HasPassedOver, HasServed, IsUntold, SaysAt, is_at_work, seen_of, with_answers, with_pass};
+ghost use Rattle.session_seats.specs.Seats.{HasAnswered, HasBegun, HasEnded, HasPassedOver, HasReadOver, HasServed, IsUntold, is_at_work, seen_of, with_pass};
 
 use crate::answer_log::AnswerLog;
-use crate::answered::{Answered, Said};
-use crate::gathering::{decided, explained};
+use crate::deal::Deal;
+use crate::gathering::answer_by;
 use crate::round_line::RoundLine;
 use crate::round_lines::RoundLines;
+use crate::said::Said;
 use crossbeam_utils::CachePadded;
 use dnr_base::NoMemory;
 use lines_ahead::CutLine;
 use lookup_pool::{Gate, ToolSeat};
 use published::{Note, Pair, ReaderPass};
 use regex_host::RegexHost;
-use script_read::{Command, LineFault, Memo};
+use script_read::{LineFault, Memo};
 use session_rounds::ReadLine;
 use std::alloc::Global;
 use std::marker::Model;
-use std::mem;
 
 /// A seat between two rounds, or after one.
 #[derive(Drop)]
@@ -41,8 +40,8 @@ pub struct Desk<P: Pair> {
     // round, whether it has learnt what the round ended with.
     ready: bool,
     answers: AnswerLog,
-    // The memory in which one answer after another is written.
-    text: String,
+    // The places of the lines that it passed over since they ask for no request: few rounds have any.
+    unasked: Vec<usize>,
     memo: Memo,
     // Memory ran out.
     stopped: bool,
@@ -61,6 +60,7 @@ impl<P: Pair> Model for Desk<P> {
       ready = d.ready;
       stopped = d.stopped;
       answers = d.answers;
+      unasked = d.unasked.items;
     } };
 }
 
@@ -79,7 +79,7 @@ impl<P: Pair> Desk<P> {
             pass,
             ready: false,
             answers: AnswerLog::new(alloc),
-            text: String::new(alloc),
+            unasked: Vec::new(alloc),
             memo: Memo::new(alloc),
             stopped: false,
             alloc,
@@ -91,6 +91,7 @@ impl<P: Pair> Desk<P> {
         ensures { HasBegun note self.old self.new }
     {
         self.answers.clear(self.alloc);
+        self.unasked.clear();
         self.stopped = false;
         self.ready = self.learn(note);
     }
@@ -123,6 +124,20 @@ impl<P: Pair> Desk<P> {
         self.stopped
     }
 
+    /// Whether it passed over a line.
+    pub fn has_passed_over(&self) -> bool
+        ensures { IsFalse result → self.now.unasked ≡ [] }
+    {
+        !self.unasked.is_empty()
+    }
+
+    /// Whether it passed over the line at this place.
+    pub fn passed_over(&self, place: usize) -> bool
+        ensures { result ≡ list_any (λ other. nat_eq other place) self.now.unasked }
+    {
+        self.unasked.contains(&place)
+    }
+
     /// What the seat answers to the line at this place, if it is its answer of this turn.
     pub fn answer_to(&self, turn: usize, place: usize) -> Option<Said<'_>>
         ensures ready { IsSome result → IsTrue self.now.ready }
@@ -143,7 +158,7 @@ impl<P: Pair> Desk<P> {
     fn serve<H: RegexHost, G: Gate>(
         &mut self,
         place: usize,
-        round: &RoundLines,
+        round: &Deal<'_>,
         host: &mut H,
         gate: &G,
     )
@@ -154,17 +169,22 @@ impl<P: Pair> Desk<P> {
     {
         let lines = round.lines();
         if place >= lines.len() {
+            self.pass_over(place);
             return;
         }
         match &lines[place] {
             RoundLine::Read(line) => {
                 if line.asks() {
                     self.answer(place, line, host, gate, round);
+                } else {
+                    self.pass_over(place);
                 }
             }
             RoundLine::Plain(line) => {
                 if let Some(line) = self.read(line) {
                     self.answer(place, &line, host, gate, round);
+                } else {
+                    self.pass_over(place);
                 }
             }
         }
@@ -176,7 +196,7 @@ impl<P: Pair> Desk<P> {
         ensures read { IfSome result (PlainReads line.now) }
         ensures asks { IfSome result (λ read. is_asking read ≡ true) }
         ensures kept { IsSome result → self.new ≡ self.old }
-        ensures none { IsNone result → HasPassedOver (is_asked (command_of line.now.number line.now.bytes)) self.old self.new }
+        ensures none { IsNone result → HasReadOver (is_asked (command_of line.now.number line.now.bytes)) self.old self.new }
     {
         match line.read_plain(self.alloc, &mut self.memo) {
             Ok(command) => asking_alone(ReadLine {
@@ -188,6 +208,15 @@ impl<P: Pair> Desk<P> {
                 None
             }
             Err(_) => None,
+        }
+    }
+
+    // Passes over the line at this place, which asks for no request.
+    fn pass_over(&mut self, place: usize)
+        ensures { HasPassedOver place self.old self.new }
+    {
+        if self.unasked.push(place).is_err() {
+            self.stopped = true;
         }
     }
 
@@ -210,7 +239,7 @@ impl<P: Pair> Desk<P> {
         line: &ReadLine,
         host: &mut H,
         gate: &G,
-        round: &RoundLines,
+        round: &Deal<'_>,
     )
         requires line { IsLine line.now }
         requires asks { is_asking line.now ≡ true }
@@ -229,28 +258,15 @@ impl<P: Pair> Desk<P> {
             self.ready = false;
             return;
         };
-        let text = emptied(self.alloc, &mut self.text);
-        match answer_by(self.alloc, text, pass, place, line, host) {
-            Ok(Some(answered)) => self.keep(answered, round),
-            Ok(None) => self.ready = false,
+        match answer_by(self.alloc, &mut self.answers, pass, place, line, host) {
+            Ok(true) => {}
+            Ok(false) => self.ready = false,
             Err(NoMemory) => self.stopped = true,
         }
     }
-
-    // Keeps one answer more, if there is memory for it.
-    fn keep(&mut self, answered: Answered, _round: &RoundLines)
-        requires answer { Answers P.opening _round.now.reads (seen_of self.old.pass) answered }
-        requires so_far { HasAnswered P.opening _round.now.reads self.old }
-        ensures answers { HasAnswered P.opening _round.now.reads self.new }
-        ensures rest { self.new ≡ with_answers self.old self.new.stopped self.new.answers }
-        ensures more { IsFalse self.new.stopped → self.new.answers ≡ self.old.answers ++ answered ∷ [] }
-    {
-        self.stopped = self.answers.push(&answered).is_err();
-        self.text = answered.text;
-    }
 }
 
-impl<P: Pair, H: RegexHost> ToolSeat<RoundLines, H> for Desk<P> {
+impl<'a, P: Pair, H: RegexHost> ToolSeat<Deal<'a>, H> for Desk<P> {
     ghost use Rattle.std.specs.Prelude.{◌≡◌, ◌≤◌, ◌<◌, []};
     ghost use Rattle.session_seats.specs.Seats.{HasWorked};
 
@@ -260,12 +276,12 @@ impl<P: Pair, H: RegexHost> ToolSeat<RoundLines, H> for Desk<P> {
 
     ghost used = { λ before now. H.faults before ≤ H.faults now };
 
-    fn is_idle(&self, round: &RoundLines) -> bool {
-        round.dealt().len() <= self.seat
+    fn is_idle(&self, round: &Deal<'a>) -> bool {
+        round.places().len() <= self.seat
     }
 
-    fn work<G: Gate>(&mut self, round: &RoundLines, host: &mut H, gate: &G) {
-        let dealt = round.dealt();
+    fn work<G: Gate>(&mut self, round: &Deal<'a>, host: &mut H, gate: &G) {
+        let dealt = round.places();
         let seats = self.seats;
         let mut turn = self.seat;
         while turn < dealt.len() {
@@ -281,62 +297,4 @@ fn asking_alone(line: ReadLine) -> Option<ReadLine>
     ensures none { IsNone result → is_asking line ≡ false }
 {
     if line.asks() { Some(line) } else { None }
-}
-
-// The memory of a longer text is let go: a session may last, and one of its texts may once be long.
-const KEPT_BYTES: usize = 4_096;
-
-// An empty text, in the memory of this one.
-fn emptied(alloc: Global, text: &mut String) -> String
-    ensures { string_bytes result ≡ [] }
-{
-    let mut taken = mem::replace(text, String::new(alloc));
-    if taken.len() > KEPT_BYTES {
-        return String::new(alloc);
-    }
-    taken.clear();
-    taken
-}
-
-// What a pass answers to a line, unless there is no copy to enter. The empty text is used for it.
-fn answer_by<P: Pair, H: RegexHost>(
-    alloc: Global,
-    text: String,
-    pass: &mut ReaderPass<P>,
-    place: usize,
-    line: &ReadLine,
-    host: &mut H,
-) -> Result<Option<Answered>, NoMemory>
-    requires line { IsLine line.now }
-    requires asks { is_asking line.now ≡ true }
-    requires empty { string_bytes text ≡ [] }
-    ensures later { IsPrefix pass.old.seen pass.new.seen }
-    ensures missed { pass.old.missed ≤ pass.new.missed }
-    ensures cause { result ≡ Ok None → Rose pass.old.missed pass.new.missed }
-    ensures says { IfOk result (λ found. IfSome found (SaysAt P.opening place line.now.number (read_seen line.now.read) pass.new.seen)) }
-    ensures host { H.faults host.old ≤ H.faults host.new }
-{
-    match &line.read {
-        Ok(Command::Request(request)) => decided(
-            alloc,
-            text,
-            pass,
-            place,
-            line.number,
-            request,
-            host,
-        ),
-        Ok(Command::Explain(request)) => explained(
-            alloc,
-            text,
-            pass,
-            place,
-            line.number,
-            request,
-            host,
-        ),
-        Ok(Command::Blank | Command::Sync | Command::Update(_) | Command::Batch(_)) | Err(_) => Ok(
-            None,
-        ),
-    }
 }

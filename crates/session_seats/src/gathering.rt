@@ -1,110 +1,85 @@
-//! What a pass answers to a request, as the line that is printed.
-ghost use Rattle.std.specs.Prelude.{◌≡◌, ◌≤◌, [], length, Ok, None, IfOk, IfSome, string_bytes};
+//! What a pass answers to a line that asks a seat.
+ghost use Rattle.std.specs.Prelude.{◌≡◌, ◌≤◌, length, true, IfOk, OnErr, IsTrue, IsFalse};
 ghost use mathlib.Core.List.{IsPrefix};
 ghost use Rattle.dnr_base.specs.Faults.{HasCauseOf, Rose};
 ghost use Rattle.dnr_base.specs.Request.{max_frames};
 ghost use Rattle.explain_spec.specs.Explanation.{explanation_of};
-ghost use Rattle.line_spec.specs.Line as spec;
 ghost use Rattle.published.specs.Refused.{EndsAfter};
 ghost use Rattle.rule_spec.specs.Scan.{scan};
-ghost use Rattle.session_seats.specs.Seats.{SaysAt};
+ghost use Rattle.session_rounds.specs.Lines.{IsLine, is_asking, read_seen};
+ghost use Rattle.session_seats.specs.Told.{IsTold, SaysMore};
 ghost use Rattle.update_spec.specs.Entries.{replay};
 
-use crate::answered::Answered;
+use crate::answer_log::AnswerLog;
+use crate::told::Told;
 use dnr_base::{NoMemory, Request, Steps};
-use explain_report::{write_explain, write_fault, write_verdict};
 use published::{Answer, Explained, Pair, ReadRefusal, ReaderPass};
 use regex_host::RegexHost;
+use script_read::Command;
+use session_rounds::ReadLine;
 use std::alloc::Global;
 use std::marker::Brand;
 use std::sync::ledger::{Blank, Ledger};
 
-/// What the pass answers to a request, unless there is no copy to enter. The empty text is used for it.
-pub fn decided<P: Pair, H: RegexHost>(
+/// Keeps what the pass answers to the line at this place, and says whether there was a copy to enter.
+pub fn answer_by<P: Pair, H: RegexHost>(
     alloc: Global,
-    mut text: String,
+    answers: &mut AnswerLog,
     pass: &mut ReaderPass<P>,
     place: usize,
-    line: u32,
-    request: &Request,
+    line: &ReadLine,
     host: &mut H,
-) -> Result<Option<Answered>, NoMemory>
-    requires frames { length request.now.frames ≤ max_frames }
-    requires empty { string_bytes text ≡ [] }
+) -> Result<bool, NoMemory>
+    requires line { IsLine line.now }
+    requires asks { is_asking line.now ≡ true }
     ensures later { IsPrefix pass.old.seen pass.new.seen }
     ensures missed { pass.old.missed ≤ pass.new.missed }
-    ensures cause { result ≡ Ok None → Rose pass.old.missed pass.new.missed }
-    ensures says { IfOk result (λ found. IfSome found (SaysAt P.opening place line (Ok (spec.request request.now)) pass.new.seen)) }
+    ensures cause { IfOk result (λ entered. IsFalse entered → Rose pass.old.missed pass.new.missed) }
+    ensures says { IfOk result (λ entered. IsTrue entered → SaysMore P.opening place line.now.number
+        (read_seen line.now.read) pass.new.seen answers.old answers.new) }
+    ensures none { IfOk result (λ entered. IsFalse entered → answers.new ≡ answers.old) }
+    ensures kept { OnErr result (answers.new ≡ answers.old) }
     ensures host { H.faults host.old ≤ H.faults host.new }
 {
     // The count is a `u64`, so it has not fallen where it rose.
     let _failed = host.faults();
-    match verdict_by(alloc, pass, request, host) {
-        Ok(answer) => {
-            write_verdict(alloc, line, answer.number, &answer.verdict, &mut text)?;
-            Ok(Some(Answered {
-                place,
-                number: answer.number,
-                failed: false,
-                text,
-            }))
-        }
-        Err(ReadRefusal::HostFault(number, rule)) => {
-            write_fault(alloc, line, number, &rule, &mut text)?;
-            Ok(Some(Answered {
-                place,
-                number,
-                failed: true,
-                text,
-            }))
-        }
-        Err(ReadRefusal::NotEntered) => Ok(None),
-        Err(ReadRefusal::NoMemory) => Err(NoMemory),
-    }
+    let told = match told_by(alloc, pass, line, host) {
+        Ok(told) => told,
+        Err(ReadRefusal::HostFault(number, rule)) => Told::Failed(number, rule),
+        Err(ReadRefusal::NotEntered) => return Ok(false),
+        Err(ReadRefusal::NoMemory) => return Err(NoMemory),
+    };
+    answers.push(alloc, place, line.number, &told)?;
+    Ok(true)
 }
 
-/// What the pass answers to a request that is to be explained, unless there is no copy to enter. The empty text is used
-/// for it.
-pub fn explained<P: Pair, H: RegexHost>(
+// What the pass decides or explains.
+fn told_by<P: Pair, H: RegexHost>(
     alloc: Global,
-    mut text: String,
     pass: &mut ReaderPass<P>,
-    place: usize,
-    line: u32,
-    request: &Request,
+    line: &ReadLine,
     host: &mut H,
-) -> Result<Option<Answered>, NoMemory>
-    requires frames { length request.now.frames ≤ max_frames }
-    requires empty { string_bytes text ≡ [] }
+) -> Result<Told, ReadRefusal>
+    requires line { IsLine line.now }
+    requires asks { is_asking line.now ≡ true }
     ensures later { IsPrefix pass.old.seen pass.new.seen }
-    ensures missed { pass.old.missed ≤ pass.new.missed }
-    ensures cause { result ≡ Ok None → Rose pass.old.missed pass.new.missed }
-    ensures says { IfOk result (λ found. IfSome found (SaysAt P.opening place line (Ok (spec.explain request.now)) pass.new.seen)) }
-    ensures host { H.faults host.old ≤ H.faults host.new }
+    ensures cause { HasCauseOf ReadRefusal.NotEntered pass.old.missed pass.new.missed result }
+    ensures told { IfOk result (IsTold P.opening (read_seen line.now.read) pass.new.seen) }
+    ensures ends { EndsAfter P.opening pass.new.seen (H.faults host.old) (H.faults host.new) result }
 {
-    // The count is a `u64`, so it has not fallen where it rose.
-    let _failed = host.faults();
-    match explanation_by(alloc, pass, request, host) {
-        Ok(answer) => {
-            write_explain(alloc, line, answer.number, &answer.explanation, &mut text)?;
-            Ok(Some(Answered {
-                place,
-                number: answer.number,
-                failed: false,
-                text,
-            }))
+    match &line.read {
+        Ok(Command::Request(request)) => match verdict_by(alloc, pass, request, host) {
+            Ok(answer) => Ok(Told::Decided(answer)),
+            Err(refusal) => Err(refusal),
+        },
+        Ok(Command::Explain(request)) => match explanation_by(alloc, pass, request, host) {
+            Ok(answer) => Ok(Told::Explained(answer)),
+            Err(refusal) => Err(refusal),
+        },
+        // Such a line asks no seat.
+        Ok(Command::Blank | Command::Sync | Command::Update(_) | Command::Batch(_)) | Err(_) => {
+            Err(ReadRefusal::NoMemory)
         }
-        Err(ReadRefusal::HostFault(number, rule)) => {
-            write_fault(alloc, line, number, &rule, &mut text)?;
-            Ok(Some(Answered {
-                place,
-                number,
-                failed: true,
-                text,
-            }))
-        }
-        Err(ReadRefusal::NotEntered) => Ok(None),
-        Err(ReadRefusal::NoMemory) => Err(NoMemory),
     }
 }
 

@@ -6,17 +6,18 @@
 //! what is published when it comes to each; the writer answers the other lines meanwhile, and publishes each update that
 //! it accepts. When all have ended, the answers are put in the order of the lines.
 //!
-//! The lines are dealt to the seats as if each plain line were a request. Where one before was none, a request may have
-//! been dealt to another seat than the one whose turn it is. Such a request, one that no seat answered, and one whose
-//! answer is ahead of the writer, is decided on the writer's generation.
+//! The k-th request of a round is answered by seat k modulo their number. The lines are dealt to the seats as if each plain
+//! line were a request. Where one turns out to ask for none, the requests behind it lie with other seats than those whose
+//! turn it is: then the lines are dealt anew, now that it is known which of them ask, and the seats do their work once more.
+//! A request that no seat answered, and one whose answer is ahead of the writer, is decided on the writer's generation.
 //!
 //! What a round may say stands in `session_spec`, `specs/Answers.antt`; that what seats and writer say is such a round is
 //! the law of `session_rounds`.
 #![tactic(auto)]
 
 mod answer_log;
-mod answered;
 mod cutting;
+mod deal;
 mod desk;
 mod gathering;
 mod office;
@@ -24,8 +25,10 @@ mod reading;
 mod round_line;
 mod round_lines;
 mod rounds;
+mod said;
 mod serving;
 mod settling;
 mod taking;
+mod told;
 
 pub use serving::serve_with_seats;

@@ -12,8 +12,8 @@ ghost use Rattle.session_serve.specs.Told.{IsNamed};
 ghost use Rattle.session_spec.specs.Output.{accepted_line, refused_line, refused_batch_line};
 ghost use Rattle.update_spec.specs.Entries.{replay};
 
+use crate::deal::Deal;
 use crate::round_line::RoundLine;
-use crate::round_lines::RoundLines;
 use dnr_base::{Items, NoMemory};
 use explain_report::{Reply, write_bad, write_reply};
 use generation::Generation;
@@ -283,7 +283,7 @@ impl<P: Pair> Office<P> {
     }
 }
 
-impl<P: Pair> SharedWriter<RoundLines> for Office<P> {
+impl<'a, P: Pair> SharedWriter<Deal<'a>> for Office<P> {
     ghost use Rattle.std.specs.Prelude.{◌≡◌, [], false};
     ghost use Rattle.session_seats.specs.Writing.{HasWritten};
 
@@ -291,11 +291,11 @@ impl<P: Pair> SharedWriter<RoundLines> for Office<P> {
 
     ghost wrote = { λ round o p. HasWritten P.opening o.list round.lines p };
 
-    fn is_quick(&self, round: &RoundLines) -> bool {
+    fn is_quick(&self, round: &Deal<'a>) -> bool {
         !round.updates()
     }
 
-    fn write<R: Wait, G: Gate>(&mut self, rt: &R, round: &RoundLines, gate: &G) {
+    fn write<R: Wait, G: Gate>(&mut self, rt: &R, round: &Deal<'a>, gate: &G) {
         self.stopped = self.write_all(rt, round.lines(), gate).is_err();
     }
 }

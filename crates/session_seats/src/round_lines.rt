@@ -148,6 +148,7 @@ impl RoundLines {
     pub fn dealt(&self) -> &[usize]
         ensures value { result.now ≡ self.now.dealt }
         ensures all { self.now.dealt ≡ dealt_from 0 self.now.lines }
+        ensures reads { self.now.reads ≡ seen_lines self.now.lines }
     {
         &self.dealt
     }

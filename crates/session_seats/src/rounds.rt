@@ -1,20 +1,21 @@
 //! A round: all parts answer its lines, and what they say is written.
-ghost use Rattle.std.specs.Prelude.{◌≡◌, ◌<◌, [], false, length, map, All, IfOk, IfErr, OnOk, IsFalse, string_bytes};
+ghost use Rattle.std.specs.Prelude.{◌≡◌, ◌<◌, [], length, map, All, IfOk, IfErr, OnOk, IsFalse, string_bytes};
 ghost use Rattle.std.specs.List.{AllZip};
 ghost use Rattle.dnr_base.specs.Faults.{HasCauseOf};
 ghost use Rattle.session_laws.specs.Turns.{NoneFell};
 ghost use Rattle.session_rounds.specs.Rounds.{RoundAnswered};
 ghost use Rattle.session_seats.specs.Rounds.{StopsRound, WritesRound};
-ghost use Rattle.session_seats.specs.Seats.{AreSeats, HasAnswered, HasAnsweredAll, HasBegun, HasEnded};
-ghost use Rattle.session_seats.specs.Writing.{HasWritten};
+ghost use Rattle.session_seats.specs.Seats.{AreSeats, HasAnswered, HasAnsweredAll, HasAnsweredTurns, HasBegun, HasEnded, HasPassedOverAll, asking};
+ghost use Rattle.session_seats.specs.Writing.{HasWritten, WroteAll};
 
+use crate::deal::Deal;
 use crate::desk::Desk;
 use crate::office::Office;
 use crate::round_lines::RoundLines;
 use crate::settling::settle;
 use dnr_base::NoMemory;
 use dnr_io::{Sink, write_all};
-use lookup_pool::{Gate, round_with_tools};
+use lookup_pool::{Gate, round_with_tools, seats_with_tools};
 use published::{Note, Pair};
 use regex_host::RegexHost;
 use session_serve::ServeStop;
@@ -97,12 +98,8 @@ fn answer_round<
 {
     let floor = office.note();
     let mut latest = vec![in alloc; floor.number(); desks.len()]?;
-    let mut turns = vec![in alloc; 0_usize; desks.len()]?;
     let mut counted = counts_of(alloc, finders)?;
-    work_round(rt, gate, lines, &floor, office, desks, finders);
-    if have_stopped(office, desks) {
-        return Err(NoMemory);
-    }
+    work_round(rt, alloc, gate, lines, &floor, office, desks, finders)?;
     let end = office.note();
     end_all(desks, &end, lines);
     settle(
@@ -112,18 +109,64 @@ fn answer_round<
         office,
         desks,
         finders,
-        &mut turns,
         &mut latest,
         &mut counted,
         into,
     )
 }
 
-// Begins a round after what was published before, and lets all its parts do their work.
+// Begins a round after what was published before, and lets all its parts do their work. The seats do theirs once more where
+// lines turn out to ask for no request, so that each request is answered by the seat whose turn it is. A single seat has
+// every turn.
 fn work_round<R: Threads + Wait + Sync, P: Pair + Send + Sync, H: RegexHost + Send, G: Gate + Sync>(
     rt: &R,
+    alloc: Global,
     gate: &G,
     lines: &RoundLines,
+    floor: &Note<P>,
+    office: &mut Office<P>,
+    desks: &mut [Desk<P>],
+    finders: &mut [H],
+) -> Result<(), NoMemory>
+    requires some { 0 < length desks.old }
+    requires finders { length finders.old ≡ length desks.old }
+    requires seats { AreSeats (length desks.old) desks.old }
+    requires idle { office.old.staged ≡ [] }
+    ensures wrote { OnOk result (WroteAll P.opening office.old.list lines.now.lines office.new) }
+    ensures answered { OnOk result (All (HasAnswered P.opening lines.now.reads) desks.new) }
+    ensures turns { OnOk result (All (HasAnsweredTurns lines.now.reads) desks.new) }
+    ensures count { length desks.new ≡ length desks.old }
+    ensures seats { AreSeats (length desks.old) desks.new }
+    ensures finders { length finders.new ≡ length finders.old }
+    ensures later { NoneFell (map H.faults finders.old) (map H.faults finders.new) }
+{
+    let deal = Deal::new(lines, lines.dealt());
+    work_beside(rt, gate, &deal, floor, office, desks, finders);
+    if office.stopped() || have_stopped(desks) {
+        return Err(NoMemory);
+    }
+    if desks.len() == 1 || !have_passed_over(desks) {
+        return Ok(());
+    }
+    let asking = asking_of(alloc, lines, desks)?;
+    let deal = Deal::new(lines, &asking);
+    work_anew(rt, gate, &deal, &office.note(), desks, finders);
+    if have_stopped(desks) {
+        return Err(NoMemory);
+    }
+    Ok(())
+}
+
+// Lets the seats do their work beside the writer.
+fn work_beside<
+    R: Threads + Wait + Sync,
+    P: Pair + Send + Sync,
+    H: RegexHost + Send,
+    G: Gate + Sync,
+>(
+    rt: &R,
+    gate: &G,
+    deal: &Deal<'_>,
     floor: &Note<P>,
     office: &mut Office<P>,
     desks: &mut [Desk<P>],
@@ -133,9 +176,10 @@ fn work_round<R: Threads + Wait + Sync, P: Pair + Send + Sync, H: RegexHost + Se
     requires finders { length finders.old ≡ length desks.old }
     requires seats { AreSeats (length desks.old) desks.old }
     requires idle { office.old.staged ≡ [] }
-    ensures wrote { HasWritten P.opening office.old.list lines.now.lines office.new }
-    ensures answered { All (HasAnswered P.opening lines.now.reads) desks.new }
-    ensures all { All (HasAnsweredAll lines.now) desks.new }
+    ensures wrote { HasWritten P.opening office.old.list deal.now.lines office.new }
+    ensures answered { All (HasAnswered P.opening deal.now.reads) desks.new }
+    ensures all { All (HasAnsweredAll deal.now) desks.new }
+    ensures passed { All (HasPassedOverAll deal.now) desks.new }
     ensures count { length desks.new ≡ length desks.old }
     ensures seats { AreSeats (length desks.old) desks.new }
     ensures finders { length finders.new ≡ length finders.old }
@@ -143,7 +187,53 @@ fn work_round<R: Threads + Wait + Sync, P: Pair + Send + Sync, H: RegexHost + Se
 {
     office.begin();
     begin_all(desks, floor);
-    round_with_tools(rt, gate, lines, office, desks, finders);
+    round_with_tools(rt, gate, deal, office, desks, finders);
+}
+
+// Lets the seats do their work once more, after what is published by now. What they answered before is dropped.
+fn work_anew<R: Threads + Sync, P: Pair + Send + Sync, H: RegexHost + Send, G: Gate + Sync>(
+    rt: &R,
+    gate: &G,
+    deal: &Deal<'_>,
+    published: &Note<P>,
+    desks: &mut [Desk<P>],
+    finders: &mut [H],
+)
+    requires some { 0 < length desks.old }
+    requires finders { length finders.old ≡ length desks.old }
+    requires seats { AreSeats (length desks.old) desks.old }
+    ensures answered { All (HasAnswered P.opening deal.now.reads) desks.new }
+    ensures all { All (HasAnsweredAll deal.now) desks.new }
+    ensures count { length desks.new ≡ length desks.old }
+    ensures seats { AreSeats (length desks.old) desks.new }
+    ensures finders { length finders.new ≡ length finders.old }
+    ensures later { NoneFell (map H.faults finders.old) (map H.faults finders.new) }
+{
+    begin_all(desks, published);
+    seats_with_tools(rt, gate, deal, desks, finders);
+}
+
+// The places of the lines that ask a seat, which is known once each seat has served its share of those that were dealt.
+fn asking_of<P: Pair>(
+    alloc: Global,
+    lines: &RoundLines,
+    desks: &[Desk<P>],
+) -> Result<Vec<usize>, NoMemory>
+    requires some { 0 < length desks.now }
+    requires seats { AreSeats (length desks.now) desks.now }
+    requires passed { All (HasPassedOverAll lines.now) desks.now }
+    requires going { All (λ desk. IsFalse desk.stopped) desks.now }
+    ensures { IfOk result (λ places. places.items ≡ asking lines.now.reads lines.now.dealt) }
+{
+    let dealt = lines.dealt();
+    let mut asking = Vec::with_capacity(alloc, dealt.len())?;
+    for turn in 0..dealt.len() {
+        let place = dealt[turn];
+        if !desks[turn % desks.len()].passed_over(place) {
+            asking.push(place)?;
+        }
+    }
+    Ok(asking)
 }
 
 // How often each host has failed.
@@ -182,9 +272,26 @@ fn end_all<P: Pair>(desks: &mut [Desk<P>], end: &Note<P>, lines: &RoundLines)
     end_all(rest, end, lines);
 }
 
-// Whether memory ran out for the writer or for a seat.
-fn have_stopped<P: Pair>(office: &Office<P>, desks: &[Desk<P>]) -> bool
-    ensures { IsFalse result → office.now.stopped ≡ false }
+// Whether memory ran out for a seat.
+fn have_stopped<P: Pair>(desks: &[Desk<P>]) -> bool
+    ensures { IsFalse result → All (λ desk. IsFalse desk.stopped) desks.now }
 {
-    office.stopped() || desks.iter().any(|desk| desk.stopped())
+    for desk in desks {
+        if desk.stopped() {
+            return true;
+        }
+    }
+    false
+}
+
+// Whether a seat passed over a line.
+fn have_passed_over<P: Pair>(desks: &[Desk<P>]) -> bool
+    ensures { IsFalse result → All (λ desk. desk.unasked ≡ []) desks.now }
+{
+    for desk in desks {
+        if desk.has_passed_over() {
+            return true;
+        }
+    }
+    false
 }

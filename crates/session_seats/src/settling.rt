@@ -12,11 +12,11 @@ ghost use Rattle.session_seats.specs.Rounds.{AnsweredAnew, AreWithin};
 ghost use Rattle.session_seats.specs.Seats.{IsTrusted, MaySay, SaysWithin};
 ghost use Rattle.session_seats.specs.Writing.{WriterSaysAll, plain_text, text_with};
 
-use crate::answered::Said;
 use crate::desk::Desk;
 use crate::office::Office;
 use crate::round_line::RoundLine;
 use crate::round_lines::RoundLines;
+use crate::said::Said;
 use dnr_base::NoMemory;
 use explain_report::write_bad;
 use lines_ahead::CutLine;
@@ -29,7 +29,7 @@ use std::alloc::Global;
 
 /// Appends what the lines of a round say, in their order. The round began after `floor`. `latest` has the last number of
 /// each seat, and `counted` how often its host had failed before the round: what is said of its faults beyond that was
-/// counted in the round. `turns` has how many answers of each seat are behind the line.
+/// counted in the round.
 pub fn settle<P: Pair, H: RegexHost>(
     alloc: Global,
     floor: &Note<P>,
@@ -37,7 +37,6 @@ pub fn settle<P: Pair, H: RegexHost>(
     office: &Office<P>,
     desks: &[Desk<P>],
     finders: &mut [H],
-    turns: &mut [usize],
     latest: &mut [u32],
     counted: &mut [u64],
     into: &mut String,
@@ -46,7 +45,6 @@ pub fn settle<P: Pair, H: RegexHost>(
     requires trusted { All (IsTrusted P.opening round.now.reads office.now.list) desks.now }
     requires some { 0 < length desks.now }
     requires finders { length finders.old ≡ length desks.now }
-    requires turns { length turns.old ≡ length desks.now }
     requires latest { length latest.old ≡ length desks.now }
     requires counted { NoneFell counted.old (map H.faults finders.old) }
     requires floor { IsPrefix floor.now office.now.list }
@@ -59,12 +57,12 @@ pub fn settle<P: Pair, H: RegexHost>(
 {
     let lines = round.lines();
     let mut memo = Memo::new(alloc);
-    let mut dealt = 0_usize;
     let mut asked = 0;
     for place in 0..lines.len() {
         let line = &lines[place];
         let seat = asked % desks.len();
-        let said = said_to(round, office, desks, line, place, seat, &mut dealt, turns);
+        let turn = asked / desks.len();
+        let said = said_to(round, office, &desks[seat], line, place, turn);
         let asks = say_line(
             alloc,
             floor,
@@ -85,34 +83,22 @@ pub fn settle<P: Pair, H: RegexHost>(
     Ok(())
 }
 
-// What a seat said to the line at this place, if it is the seat whose turn it is. The line is dealt to the seat after so
-// many lines that were dealt before.
+// What the seat whose turn it is said to the line at this place, if anything. So many lines before it were its own: its answers
+// are those to the first of them.
 fn said_to<'a, P: Pair>(
     _round: &RoundLines,
     _office: &Office<P>,
-    desks: &'a [Desk<P>],
-    line: &RoundLine,
+    desk: &'a Desk<P>,
+    _line: &RoundLine,
     place: usize,
-    seat: usize,
-    dealt: &mut usize,
-    turns: &mut [usize],
+    turn: usize,
 ) -> Option<Said<'a>>
-    requires trusted { All (IsTrusted P.opening _round.now.reads _office.now.list) desks.now }
-    requires some { 0 < length desks.now }
-    requires turns { length turns.old ≡ length desks.now }
+    requires trusted { IsTrusted P.opening _round.now.reads _office.now.list desk.now }
     requires inside { place < length _round.now.reads }
-    requires there { seen_line line.now ≡ get_or _round.now.reads place (seen_line line.now) }
-    ensures said { MaySay P.opening (seen_line line.now) _office.now.list result }
-    ensures turns { length turns.new ≡ length turns.old }
+    requires there { seen_line _line.now ≡ get_or _round.now.reads place (seen_line _line.now) }
+    ensures { MaySay P.opening (seen_line _line.now) _office.now.list result }
 {
-    if !line.is_dealt() {
-        return None;
-    }
-    let holder = *dealt % desks.len();
-    *dealt = dealt.saturating_add(1);
-    let said = desks[holder].answer_to(turns[holder], place)?;
-    turns[holder] = turns[holder].saturating_add(1);
-    if holder == seat { Some(said) } else { None }
+    desk.answer_to(turn, place)
 }
 
 // Appends what a line says, and says whether it asks a seat: what the seat said, if that stands, or else what is decided on

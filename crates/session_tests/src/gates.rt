@@ -138,6 +138,10 @@ const FILES: &[(&str, &str)] = &[
         "{\"cmd\":\"dynamic\",\"extension\":\"a\",\"addRules\":[{\"id\":7,\"condition\":{\"urlFilter\":\"||far.test^\"},\"action\":{\"type\":\"allow\"}}]}\n{\"url\":\"http://x.org/2\",\"type\":\"script\"}\n{\"url\":\"http://x.org/3\",\"type\":\"script\"}\n",
     ),
     (
+        "fault.jsonl",
+        "{\"url\":\"http://[/\",\"type\":\"script\"}\n{\"url\":\"http://b.org/2\",\"type\":\"script\"}\n{\"url\":\"http://b.org/3\",\"type\":\"script\"}\n",
+    ),
+    (
         "requests.jsonl",
         "{\"url\":\"http://b.org/1\",\"type\":\"script\"}\n{\"url\":\"http://b.org/2\",\"type\":\"script\"}\n{\"url\":\"http://b.org/3\",\"type\":\"script\"}\n{\"url\":\"http://b.org/4\",\"type\":\"script\"}\n{\"url\":\"http://b.org/5\",\"type\":\"script\"}\n",
     ),
@@ -294,5 +298,50 @@ fn seats_take_turns(rt: HostRuntime) -> Result<(), Fail> {
     )?;
     assert_eq!(rt; gate.first.load(Ordering::SeqCst), 0b10_1010);
     assert_eq!(rt; gate.second.load(Ordering::SeqCst), 0b01_0100);
+    Ok(())
+}
+
+// Which seat was the last to decide the second line, and the third.
+#[derive(Drop)]
+struct Deciders {
+    second: AtomicU32,
+    third: AtomicU32,
+}
+
+impl Gate for Deciders {
+    fn before(&self, seat: u32, line: u32) {
+        match line {
+            2 => self.second.store(seat, Ordering::SeqCst),
+            3 => self.third.store(seat, Ordering::SeqCst),
+            _ => {}
+        }
+    }
+
+    fn after_update(&self, _line: u32) {}
+}
+
+#[test]
+fn requests_behind_a_bad_url_are_answered_by_their_own_seats(rt: HostRuntime) -> Result<(), Fail> {
+    let flags = Flags::new();
+    let gate = Deciders {
+        second: AtomicU32::new(9),
+        third: AtomicU32::new(9),
+    };
+    let written = written(&rt, "serve --workers 2 --ext a fault.jsonl", &flags, &gate)?;
+    assert_eq!(rt; gate.second.load(Ordering::SeqCst), 0);
+    assert_eq!(rt; gate.third.load(Ordering::SeqCst), 1);
+    let mut lines = written.as_slice().split(|byte| *byte == b'\n');
+    assert!(rt;
+        lines
+            .next()
+            .unwrap_or(b"".as_slice())
+            .starts_with(b"{\"line\":1,\"bad\":")
+    );
+    assert!(rt;
+        lines.next() == Some(b"{\"line\":2,\"generation\":0,\"verdict\":\"none\"}".as_slice())
+    );
+    assert!(rt;
+        lines.next() == Some(b"{\"line\":3,\"generation\":0,\"verdict\":\"none\"}".as_slice())
+    );
     Ok(())
 }

@@ -1,28 +1,35 @@
-use Rattle.std.proofs.Common.{length}
-use Rattle.session_rounds.proofs.Whole.{none_fell}
-use Rattle.session_seats.proofs.Answering.{may_work, all_answered, all_answered_all, seats_worked, written_from}
-use Rattle.session_seats.proofs.Parts.{have_begun}
+use Rattle.std.proofs.Common.{◌≡◌, ◌<◌, ◌∙◌, ℕ, length, map, true, false, sym, subst, arith, rules, All}
+use Rattle.session_laws.proofs.Rises.{none_fell_on}
+use Rattle.session_seats.specs.Reading.{ReadRound}
+use Rattle.session_seats.specs.Seats.{AreSeats, HasAnsweredAll, HasPassedOverAll}
+use Rattle.session_seats.proofs.Dealt.{deal_same, turns_anew, turns_single, turns_unpassed}
+use Rattle.session_seats.proofs.rounds.work_round.Goals.{then-desks-eq1-via-then-desks-eq1, then-desks-eq1-via-else-desks-eq1+then-not-have_passed_over}
 use Rattle.session_seats.proofs.rounds.work_round.Goals as goal
 
-pub round_with_tools-requires-clause-seats : goal.round_with_tools-requires-clause-seats
-round_with_tools-requires-clause-seats g c κs within =
-    may_work c.args.floor.now (length c.args.desks.now) c.args.desks.now c.begin_all.new.desks c.requires.some c.begin_all.ensures c.requires.seats
+pub returns-then-desks-eq1-clause-turns : goal.returns-then-desks-eq1-clause-turns
+returns-then-desks-eq1-clause-turns g c =
+    let same : c.new-deal.result ≡ c.args.lines.now = deal_same c.args.lines.now c.new-deal.result c.dealt.result.now c.new-deal.ensures c.dealt.ensures.value in
+    let answered : All (HasAnsweredAll c.args.lines.now) c.work_beside.new.desks = subst (λ (r : ReadRound). All (HasAnsweredAll r) c.work_beside.new.desks) same c.work_beside.ensures.all in
+    let passed : All (HasPassedOverAll c.args.lines.now) c.work_beside.new.desks = subst (λ (r : ReadRound). All (HasPassedOverAll r) c.work_beside.new.desks) same c.work_beside.ensures.passed in
+    elim c.then-desks-eq1.branch [
+      then-desks-eq1-via-then-desks-eq1 w ↦
+        let one : length c.work_beside.new.desks ≡ 1 = search rules in
+        turns_single c.args.lines.now c.work_beside.new.desks (length c.args.desks.now) (sym c.work_beside.ensures.count ∙ one) (sym c.work_beside.ensures.count) c.dealt.ensures.reads c.dealt.ensures.all
+        c.work_beside.ensures.seats answered
+    | then-desks-eq1-via-else-desks-eq1+then-not-have_passed_over w ↦
+        let none : w.have_passed_over.result ≡ false = search rules in
+        turns_unpassed c.args.lines.now c.work_beside.new.desks (omega (arith, c.requires.some, c.work_beside.ensures.count)) c.dealt.ensures.reads c.dealt.ensures.all
+        (subst (λ (n : ℕ). AreSeats n c.work_beside.new.desks) (sym c.work_beside.ensures.count) c.work_beside.ensures.seats) passed (c.have_stopped.ensures c.if-have_stopped.false) (w.have_passed_over.ensures none) answered
+    ]
 
-pub returns-clause-wrote : goal.returns-clause-wrote
-returns-clause-wrote g c =
-    written_from g.P.Pair.opening c.args.office.now.list c.begin.new.self.list c.args.lines.now.lines c.round_with_tools.new.writer c.begin.ensures.list c.round_with_tools.ensures.wrote
+pub returns-then-have_stopped-2-clause-later : goal.returns-then-have_stopped-2-clause-later
+returns-then-have_stopped-2-clause-later g c =
+    none_fell_on (map g.H.RegexHost.faults c.args.finders.now) (map g.H.RegexHost.faults c.work_beside.new.finders) (map g.H.RegexHost.faults c.work_anew-2.new.finders) c.work_beside.ensures.later c.work_anew-2.ensures.later
 
-pub returns-clause-answered : goal.returns-clause-answered
-returns-clause-answered g c =
-    all_answered g.P.Pair.opening c.args.lines.now c.begin_all.new.desks c.round_with_tools.new.seats c.round_with_tools.ensures.worked
-
-pub returns-clause-all : goal.returns-clause-all
-returns-clause-all g c =
-    all_answered_all g.P.Pair.opening c.args.lines.now c.begin_all.new.desks c.round_with_tools.new.seats (have_begun c.args.floor.now c.args.desks.now c.begin_all.new.desks c.begin_all.ensures) c.round_with_tools.ensures.worked
-
-pub returns-clause-seats : goal.returns-clause-seats
-returns-clause-seats g c =
-    seats_worked g.P.Pair.opening c.args.lines.now c.args.floor.now (length c.args.desks.now) c.args.desks.now c.begin_all.new.desks c.round_with_tools.new.seats c.begin_all.ensures c.round_with_tools.ensures.worked c.requires.seats
+pub returns-clause-turns : goal.returns-clause-turns
+returns-clause-turns g c =
+    turns_anew c.args.lines.now c.new-deal-2.result c.deref.result.now c.work_anew-2.new.desks c.new-deal-2.ensures (c.deref.ensures.value ∙ c.in_ok-asking.ensures) c.dealt.ensures.reads c.dealt.ensures.all c.work_anew-2.ensures.all
 
 pub returns-clause-later : goal.returns-clause-later
-returns-clause-later g c = none_fell g.H.RegexHost.faults c.args.finders.now c.round_with_tools.new.tools c.round_with_tools.ensures.used
+returns-clause-later g c =
+    none_fell_on (map g.H.RegexHost.faults c.args.finders.now) (map g.H.RegexHost.faults c.work_beside.new.finders) (map g.H.RegexHost.faults c.work_anew-2.new.finders) c.work_beside.ensures.later c.work_anew-2.ensures.later

@@ -1,8 +1,9 @@
-use Rattle.std.proofs.Common.{◌≤◌, ◌%◌, length, map, string_bytes, refl, ap, ◌∙◌, arith}
+use Rattle.std.proofs.Common.{◌≤◌, ◌%◌, length, map, string_bytes, refl, sym, ap, subst, ◌∙◌, arith}
 use Rattle.std.proofs.lemmas.List.{length-map}
 use Rattle.session_laws.proofs.Rises.{as_long, none_fell_on, none_fell_yet}
 use Rattle.session_rounds.proofs.Steps.{none_settled, all_settled}
 use Rattle.session_seats.specs.Reading.{seen_line}
+use Rattle.session_seats.specs.Seats.{IsTrusted}
 use Rattle.session_seats.specs.Writing.{texts_with}
 use Rattle.session_seats.proofs.Desks.{taken_at, seen_there}
 use Rattle.session_seats.proofs.Offices.{as_many}
@@ -20,11 +21,16 @@ loop-place-init g c = record {
   few = omega arith;
   within = c.requires.within;
   latest = c.requires.latest;
-  turns = c.requires.turns;
   finders = c.requires.finders;
   counted = c.requires.counted;
   later = none_fell_yet (map g.H.RegexHost.faults c.args.finders.now);
 }
+
+pub said_to-said-requires-clause-trusted : goal.said_to-said-requires-clause-trusted
+said_to-said-requires-clause-trusted g c =
+    let inside = turn_inside c.loop-place.asked (length c.args.desks.now) c.requires.some in
+    subst (IsTrusted g.P.Pair.opening c.args.round.now.reads c.args.office.now.list) (sym c.index-desks-seat.is)
+    (c.requires.trusted (c.loop-place.asked % length c.args.desks.now) c.index-desks-seat.result inside)
 
 pub said_to-said-requires-clause-inside : goal.said_to-said-requires-clause-inside
 said_to-said-requires-clause-inside g c =
@@ -93,7 +99,6 @@ loop-place-preserved g c =
             few = omega (arith, inv.few);
             within = within;
             latest = set_long c.loop-place.latest seat c.say_line.new.latest ∙ inv.latest;
-            turns = c.said_to-said.ensures.turns ∙ inv.turns;
             finders = set_long c.loop-place.finders seat c.say_line.new.finder ∙ inv.finders;
             counted = still_below g.H.RegexHost.faults c.loop-place.counted c.loop-place.finders seat c.say_line.new.counted c.say_line.new.finder told.counted inv.counted;
             later = later;
@@ -108,7 +113,6 @@ loop-place-preserved g c =
             few = omega (arith, inv.few);
             within = within;
             latest = set_long c.loop-place.latest seat c.say_line.new.latest ∙ inv.latest;
-            turns = c.said_to-said.ensures.turns ∙ inv.turns;
             finders = set_long c.loop-place.finders seat c.say_line.new.finder ∙ inv.finders;
             counted = still_below g.H.RegexHost.faults c.loop-place.counted c.loop-place.finders seat c.say_line.new.counted c.say_line.new.finder told.counted inv.counted;
             later = later;

@@ -12,7 +12,6 @@ invariant-loop-place g l = record {
   few : l.asked ≤ l.place;
   within : AreWithin (length l.floor) (length l.office.list) l.latest;
   latest : length l.latest ≡ length l.desks;
-  turns : length l.turns ≡ length l.desks;
   finders : length l.finders ≡ length l.desks;
   counted : NoneFell l.counted (map g.H.RegexHost.faults l.finders);
   later : NoneFell (map g.H.RegexHost.faults l.fn.finders) (map g.H.RegexHost.faults l.finders);

@@ -1,20 +1,24 @@
-use Rattle.std.proofs.Common.{◌≡◌, ◌∙◌, ◌++◌, ◌∷◌, [], length, refl, ap, sym, rules, arith, string_bytes}
-use Rattle.std.proofs.lemmas.Result.{err_from_is_err_and}
-use Rattle.session_seats.specs.Log.{all_said}
+use Rattle.std.proofs.Common.{◌≡◌, ◌∙◌, ◌++◌, ◌∷◌, [], ℕ, ◌-◌, List, Bool, length, refl, ap, arith, string_bytes, length-append}
+use Rattle.session_spec.specs.Said.{answer_line}
+use Rattle.session_seats.specs.declared.answer_log.Mark.{Mark}
 use Rattle.session_seats.specs.Said.{Said}
-use Rattle.session_seats.proofs.Log.{said_in_longer, said_more}
+use Rattle.session_seats.specs.Told.{answer_of, number_of, said_of}
+use Rattle.session_seats.proofs.Log.{said_pushed}
 use Rattle.session_seats.proofs.answer_log.AnswerLog.push.Goals as goal
 
-pub returns-in_err-push : goal.returns-in_err-push
-returns-in_err-push c =
-    let text : string_bytes c.push_str.new.self ≡ string_bytes c.self.inside.text ++ c.deref.result.now = c.in_ok-push_str.ensures.bytes in
-    let same : all_said (string_bytes c.push_str.new.self) c.push.new.self.items ≡ all_said (string_bytes c.self.inside.text) c.self.inside.marks.items =
-    rw (text, c.in_err-push.ensures.items) (said_in_longer (string_bytes c.self.inside.text) c.deref.result.now c.self.inside.marks.items c.self.invariant) in
-    let p = err_from_is_err_and c.from_residual-in_err-push.result c.from_residual-in_err-push.ensures.1 in rw p.1 (same ∙ c.self.view_is)
-
-pub returns : goal.returns
-returns c =
-    let text : string_bytes c.push_str.new.self ≡ string_bytes c.self.inside.text ++ string_bytes c.answered.inside.text = c.in_ok-push_str.ensures.bytes ∙ ap (λ more. string_bytes c.self.inside.text ++ more) c.deref.ensures in
-    let whole : all_said (string_bytes c.push_str.new.self) c.push.new.self.items ≡ all_said (string_bytes c.self.inside.text) c.self.inside.marks.items ++ record { place = c.answered.inside.place; number = c.answered.inside.number; failed = c.answered.inside.failed; text = string_bytes c.answered.inside.text } ∷ [] =
-    rw (text, c.in_ok-push.ensures.items) (said_more (string_bytes c.self.inside.text) (string_bytes c.answered.inside.text) c.self.inside.marks.items _ c.self.invariant (search rules) (search rules)) in
-    whole ∙ (rw (c.self.view_is, c.answered.view_is) refl)
+pub returns-clause-more : goal.returns-clause-more
+returns-clause-more c =
+    let text : List ℕ = string_bytes c.self.inside.text in
+    let whole : List ℕ = string_bytes c.write.new.into in
+    let more : List ℕ = answer_line c.args.line (number_of c.args.told.now) (answer_of c.args.told.now) in
+    let mark : Mark = record { place = c.args.place; number = c.number.result; failed = c.failed.result; start = c.len-start.result; len = c.len.result - c.len-start.result } in
+    let said : Said = said_of c.args.place c.args.line c.args.told.now in
+    let longer : whole ≡ text ++ more = c.in_ok-write.ensures.appended in
+    let grown : c.push_reserved.new.self.items ≡ c.self.inside.marks.items ++ mark ∷ [] = c.push_reserved.ensures.items ∙ ap (λ (ms : List Mark). ms ++ mark ∷ []) c.in_ok-reserve.ensures.items in
+    let start : c.len-start.result ≡ length text = omega (arith, c.len-start.ensures, c.self.inside.text.bytes.ok.0) in
+    let len : c.len.result - c.len-start.result ≡ length more = omega (arith, c.len.ensures, c.write.new.into.bytes.ok.0, start, ap length longer, length-append text more) in
+    let same : record { place = c.args.place; number = c.number.result; failed = c.failed.result; text = more } ≡ said =
+    ap (λ (n : ℕ). record { place = c.args.place; number = n; failed = c.failed.result; text = more }) c.number.ensures
+    ∙ ap (λ (b : Bool). record { place = c.args.place; number = number_of c.args.told.now; failed = b; text = more }) c.failed.ensures in
+    said_pushed text more whole c.self.inside.marks.items c.push_reserved.new.self.items mark said c.self.invariant longer grown start len same
+    ∙ ap (λ (before : List Said). before ++ said ∷ []) c.self.view_is

@@ -1,7 +1,7 @@
 use Rattle.std.proofs.Common.{length, ◌-◌, ◌≡◌, ◌≤◌, ◌<◌}
 use Rattle.session_seats.specs.Seats.{HasAnswered}
 use Rattle.session_seats.proofs.Served.{ServesShare}
-use Rattle.session_seats.proofs.desk.DeskToolSeatRoundLines.work.Given as goal
+use Rattle.session_seats.proofs.desk.DeskToolSeatDeal.work.Given as goal
 
 abbrev pub invariant-loop-turn : goal.invariant-loop-turn
 invariant-loop-turn g l = record {

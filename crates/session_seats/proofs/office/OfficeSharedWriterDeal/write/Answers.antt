@@ -1,6 +1,6 @@
 use Rattle.std.proofs.Common.{map, string_bytes, sym}
 use Rattle.session_seats.proofs.Offices.{all_answered}
-use Rattle.session_seats.proofs.office.OfficeSharedWriterRoundLines.write.Goals as goal
+use Rattle.session_seats.proofs.office.OfficeSharedWriterDeal.write.Goals as goal
 
 pub returns : goal.returns
 returns g c =

@@ -1,0 +1,24 @@
+use Rattle.std.proofs.Common.{length}
+use Rattle.session_rounds.proofs.Whole.{none_fell}
+use Rattle.session_seats.proofs.Answering.{may_work, all_answered, all_answered_all, seats_worked}
+use Rattle.session_seats.proofs.Parts.{have_begun}
+use Rattle.session_seats.proofs.rounds.work_anew.Goals as goal
+
+pub seats_with_tools-requires-clause-seats : goal.seats_with_tools-requires-clause-seats
+seats_with_tools-requires-clause-seats g c κs within =
+    may_work c.args.published.now (length c.args.desks.now) c.args.desks.now c.begin_all.new.desks c.requires.some c.begin_all.ensures c.requires.seats
+
+pub returns-clause-answered : goal.returns-clause-answered
+returns-clause-answered g c =
+    all_answered g.P.Pair.opening c.args.deal.now c.begin_all.new.desks c.seats_with_tools.new.seats c.seats_with_tools.ensures.worked
+
+pub returns-clause-all : goal.returns-clause-all
+returns-clause-all g c =
+    all_answered_all g.P.Pair.opening c.args.deal.now c.begin_all.new.desks c.seats_with_tools.new.seats (have_begun c.args.published.now c.args.desks.now c.begin_all.new.desks c.begin_all.ensures) c.seats_with_tools.ensures.worked
+
+pub returns-clause-seats : goal.returns-clause-seats
+returns-clause-seats g c =
+    seats_worked g.P.Pair.opening c.args.deal.now c.args.published.now (length c.args.desks.now) c.args.desks.now c.begin_all.new.desks c.seats_with_tools.new.seats c.begin_all.ensures c.seats_with_tools.ensures.worked c.requires.seats
+
+pub returns-clause-later : goal.returns-clause-later
+returns-clause-later g c = none_fell g.H.RegexHost.faults c.args.finders.now c.seats_with_tools.new.tools c.seats_with_tools.ensures.used

@@ -1,0 +1,32 @@
+use Rattle.std.proofs.Common.{length}
+use Rattle.session_rounds.proofs.Whole.{none_fell}
+use Rattle.session_seats.proofs.Answering.{may_work, all_answered, all_answered_all, all_passed_over, seats_worked, written_from}
+use Rattle.session_seats.proofs.Parts.{have_begun, have_passed_none}
+use Rattle.session_seats.proofs.rounds.work_beside.Goals as goal
+
+pub round_with_tools-requires-clause-seats : goal.round_with_tools-requires-clause-seats
+round_with_tools-requires-clause-seats g c κs within =
+    may_work c.args.floor.now (length c.args.desks.now) c.args.desks.now c.begin_all.new.desks c.requires.some c.begin_all.ensures c.requires.seats
+
+pub returns-clause-wrote : goal.returns-clause-wrote
+returns-clause-wrote g c =
+    written_from g.P.Pair.opening c.args.office.now.list c.begin.new.self.list c.args.deal.now.lines c.round_with_tools.new.writer c.begin.ensures.list c.round_with_tools.ensures.wrote
+
+pub returns-clause-answered : goal.returns-clause-answered
+returns-clause-answered g c =
+    all_answered g.P.Pair.opening c.args.deal.now c.begin_all.new.desks c.round_with_tools.new.seats c.round_with_tools.ensures.worked
+
+pub returns-clause-all : goal.returns-clause-all
+returns-clause-all g c =
+    all_answered_all g.P.Pair.opening c.args.deal.now c.begin_all.new.desks c.round_with_tools.new.seats (have_begun c.args.floor.now c.args.desks.now c.begin_all.new.desks c.begin_all.ensures) c.round_with_tools.ensures.worked
+
+pub returns-clause-passed : goal.returns-clause-passed
+returns-clause-passed g c =
+    all_passed_over g.P.Pair.opening c.args.deal.now c.begin_all.new.desks c.round_with_tools.new.seats (have_passed_none c.args.floor.now c.args.desks.now c.begin_all.new.desks c.begin_all.ensures) c.round_with_tools.ensures.worked
+
+pub returns-clause-seats : goal.returns-clause-seats
+returns-clause-seats g c =
+    seats_worked g.P.Pair.opening c.args.deal.now c.args.floor.now (length c.args.desks.now) c.args.desks.now c.begin_all.new.desks c.round_with_tools.new.seats c.begin_all.ensures c.round_with_tools.ensures.worked c.requires.seats
+
+pub returns-clause-later : goal.returns-clause-later
+returns-clause-later g c = none_fell g.H.RegexHost.faults c.args.finders.now c.round_with_tools.new.tools c.round_with_tools.ensures.used
