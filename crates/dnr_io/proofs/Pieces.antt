@@ -1,11 +1,11 @@
 -- Lines that are put together from pieces.
-use Rattle.std.proofs.Common.{◌≡◌, ◌≢◌, ℕ, zero, suc, ◌+◌, ◌<◌, ◌≤◌, List, [], ◌∷◌, ◌++◌, length, Bool, true, false, Option, Some, None, sym, ap, ◌∙◌, subst, inr, arith, append_assoc, append-nil, length-append}
+use Rattle.std.proofs.Common.{◌≡◌, ◌≢◌, ℕ, zero, suc, ◌+◌, ◌<◌, ◌≤◌, List, [], ◌∷◌, ◌++◌, length, Bool, true, false, Option, Some, None, refl, sym, ap, ◌∙◌, subst, inr, arith, append_assoc, append-nil, length-append}
 use Rattle.std.proofs.lemmas.Bool.Decides.{nat_tests}
 use Rattle.std.specs.Prelude.{IfSome}
 use Rattle.std.specs.Io.KnownBytes.{Consumes, IsAtEnd, prepend_known}
-use Rattle.dnr_spec.specs.Lines.{max_line, line_of, max_lines, is_short, raw_lines_of}
+use Rattle.dnr_spec.specs.Lines.{RawLine, max_line, line_of, max_lines, is_short, raw_lines_of}
 use Rattle.dnr_io.specs.Ahead.{HasNoLf, MovesPiece, OverflowsLine}
-use Rattle.dnr_io.specs.Lines.{StopsIn, GivesLine, IsBeyond, StartsTooLong, TakesRaw}
+use Rattle.dnr_io.specs.Lines.{AreEnded, HaveEnded, StopsIn, GivesLine, IsBeyond, StartsTooLong, TakesRaw}
 use Rattle.dnr_io.proofs.RawLines.{raw_ended, raw_last, raw_begins}
 
 plain_append : (xs ys : List ℕ) → HasNoLf xs → HasNoLf ys → HasNoLf (xs ++ ys)
@@ -104,3 +104,27 @@ pub stopped_before : (was left : Option (List ℕ)) (pending : List ℕ) → pen
 stopped_before None left pending none same = tt
 stopped_before (Some all) None pending none same = tt
 stopped_before (Some all) (Some left) pending none same = record { part = []; plain = nothing_plain; split = cc (sym same, ap (λ p. p ++ left) none) }
+
+-- ---- a line that stands whole in what was read
+
+nothing_taken : (pending : List ℕ) (left : Option (List ℕ)) → Consumes (prepend_known pending left) (prepend_known pending left) []
+nothing_taken pending None = tt
+nothing_taken pending (Some left) = refl
+
+whole_taken : (before after line grown : List ℕ) (left : Option (List ℕ)) → line ≡ [] → MovesPiece before after line grown true → TakesRaw (prepend_known before left) (prepend_known after left) (record { bytes = grown; ended = true })
+whole_taken before after line grown left none moves =
+    ended (prepend_known before left) before after [] grown left true refl (nothing_taken before left) nothing_plain (subst (λ xs. MovesPiece before after xs grown true) none moves)
+
+pub gives_whole : (before after line grown text : List ℕ) (left : Option (List ℕ)) → line ≡ [] → MovesPiece before after line grown true → text ≡ line_of (record { bytes = grown; ended = true }) → length grown ≤ max_line
+    → GivesLine (prepend_known before left) (prepend_known after left) text
+gives_whole before after line grown text left none moves same short =
+    gives_line (prepend_known before left) (prepend_known after left) grown text true (whole_taken before after line grown left none moves) same short
+
+ended_raw : (all rest : Option (List ℕ)) (raw : RawLine) → raw.ended ≡ true → TakesRaw all rest raw → AreEnded all rest
+ended_raw None rest raw is takes = tt
+ended_raw (Some all) None raw is takes = tt
+ended_raw (Some all) (Some rest) raw is takes = λ none. subst HaveEnded (sym (takes ∙ ap (λ bytes. raw ∷ raw_lines_of bytes) none)) (is, tt)
+
+pub ended_whole : (before after line grown : List ℕ) (left : Option (List ℕ)) → line ≡ [] → MovesPiece before after line grown true → AreEnded (prepend_known before left) (prepend_known after left)
+ended_whole before after line grown left none moves =
+    ended_raw (prepend_known before left) (prepend_known after left) (record { bytes = grown; ended = true }) refl (whole_taken before after line grown left none moves)

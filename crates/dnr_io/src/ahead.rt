@@ -1,4 +1,4 @@
-ghost use Rattle.std.specs.Prelude.{◌≡◌, ◌<◌, ◌≤◌, ◌+◌, List, ℕ, [], length, drop, is_some};
+ghost use Rattle.std.specs.Prelude.{◌≡◌, ◌<◌, ◌≤◌, ◌+◌, List, ℕ, [], length, drop, is_some, true};
 ghost use Rattle.std.specs.Prelude.{slice_range, vec_len, IfOk, OnErr, OnOk, IsErrOf, IsTrue};
 ghost use Rattle.std.specs.Prelude.{IsFalse};
 ghost use Rattle.std.specs.Io.KnownBytes.{prepend_known, IsAtEnd};
@@ -12,8 +12,9 @@ use memchr::memchr;
 use std::alloc::{AllocError, Global};
 use std::marker::Model;
 
-// How many bytes are asked of a source at a time.
-const CAPACITY: usize = 65_536;
+// How many bytes are asked of a source at a time: about those of two rounds of a session, so that lines of the next stand
+// ready while one is served.
+const CAPACITY: usize = 262_144;
 
 /// The bytes that were read from a source and not yet given.
 #[derive(Drop)]
@@ -81,6 +82,31 @@ impl Ahead {
         line.extend_from_slice(piece)?;
         self.consume(count + 1);
         Ok(ended)
+    }
+
+    /// The same where there is an LF. Where there is none, the line would be too long, or memory runs out, it takes
+    /// nothing and says so.
+    pub fn move_whole(&mut self, line: &mut Vec<u8>) -> bool
+        requires { length line.old.items ≤ max_line }
+        ensures moved { IsTrue result → MovesPiece self.old self.new line.old.items line.new.items true }
+        ensures short { IsTrue result → length line.new.items ≤ max_line }
+        ensures same { IsFalse result → self.new ≡ self.old }
+    {
+        let (piece, ended) = first_piece(self.bytes());
+        let count = piece.len();
+        if !ended || MAX_LINE - line.len() < count {
+            return false;
+        }
+        if line.extend_from_slice(piece).is_err() {
+            return false;
+        }
+        self.consume(count + 1);
+        true
+    }
+
+    /// How many bytes they are.
+    pub fn len(&self) -> usize {
+        self.end - self.start
     }
 
     fn bytes(&self) -> &[u8]

@@ -1,4 +1,4 @@
-ghost use Rattle.std.specs.Prelude.{◌≡◌, ◌+◌, ◌<◌, ◌≤◌, [], length, is_some, true, IfOk, OnOk, OnErr};
+ghost use Rattle.std.specs.Prelude.{◌≡◌, ◌+◌, ◌<◌, ◌≤◌, ℕ, List, [], length, is_some, true, Option, IfOk, OnOk, OnErr};
 ghost use Rattle.std.specs.Prelude.{IfSome, IsErrOf, IsTrue, IsFalse};
 ghost use Rattle.std.specs.Io.KnownBytes.{IsAtEnd, prepend_known};
 ghost use Rattle.dnr_spec.specs.Lines.{max_line, max_lines, without_cr};
@@ -73,6 +73,8 @@ impl Lines {
         ensures counted { IfOk result (λ given. IsTrue given →
             (self.old.count < max_lines) × (self.new.count ≡ self.old.count + 1)) }
         ensures refused { OnErr result (line.new.items ≡ []) }
+        ensures uncounted { OnErr result (self.new.count ≡ self.old.count)
+            × IfOk result (λ given. IsFalse given → self.new.count ≡ self.old.count) }
         ensures end { IfOk result (λ given. IsFalse given →
             IsAtEnd (ahead self.old (S.left source.old)) × IsAtEnd (ahead self.new (S.left source.new))
             × (line.new.items ≡ [])) }
@@ -115,6 +117,45 @@ impl Lines {
         }
         self.count += 1;
         Ok(true)
+    }
+
+    /// How many lines were given.
+    pub fn count(&self) -> u32
+        ensures { result ≡ self.now.count }
+    {
+        self.count
+    }
+
+    /// How many bytes were read and not yet given.
+    pub fn ready(&self) -> usize {
+        self.ahead.len()
+    }
+
+    /// Puts the next line in place of what `line` has, as `next` does, where it stands with its LF among the bytes that were
+    /// read and not yet given: no source is asked for more. Where it does not stand there, no line may be asked for, or
+    /// `next` would refuse it, also for want of memory, it says so, and all is left to `next`.
+    pub fn next_ready(&mut self, line: &mut Vec<u8>) -> bool
+        ensures line { IsTrue result → (left : Option (List ℕ)) →
+            GivesLine (ahead self.old left) (ahead self.new left) line.new.items }
+        ensures lf { IsTrue result → (left : Option (List ℕ)) →
+            AreEnded (ahead self.old left) (ahead self.new left) }
+        ensures within { IsTrue result → length line.new.items ≤ max_line }
+        ensures counted { IsTrue result →
+            (self.old.count < max_lines) × (self.new.count ≡ self.old.count + 1) }
+        ensures going { IsTrue result → IsTrue self.old.live }
+        ensures live { self.new.live ≡ self.old.live }
+        ensures same { IsFalse result → self.new ≡ self.old }
+    {
+        line.clear();
+        if !self.live || self.count == MAX_LINES {
+            return false;
+        }
+        if !self.ahead.move_whole(line) {
+            return false;
+        }
+        drop_cr(line);
+        self.count += 1;
+        true
     }
 }
 

@@ -1,19 +1,16 @@
--- Lines that are cut from a source ahead of their turn, and the rounds that they are given to.
-use Rattle.std.proofs.Common.{◌≡◌, ℕ, ◌+◌, ◌≤◌, List, [], ◌∷◌, ◌++◌, length, Bool, true, false, Option, Some, None, Result, Ok, Err, refl, sym, ap, ◌∙◌, subst, arith, append_assoc, append-nil, take, drop, take_all, drop_of_length-le}
+-- Lines that are cut from a source ahead of their turn.
+use Rattle.std.proofs.Common.{◌≡◌, ℕ, ◌+◌, ◌-◌, ◌≤◌, List, [], ◌∷◌, ◌++◌, length, Bool, true, false, Option, Some, None, Result, Ok, Err, refl, sym, ap, ◌∙◌, subst, arith, append_assoc, append-nil, length-append, take, drop, take_all, drop_of_length-le}
+use Rattle.std.proofs.lemmas.List.{map-append}
 use Rattle.std.specs.Prelude.{IfSome, IsErrAnd, IsTrue, IsFalse}
 use Rattle.std.specs.Io.KnownBytes.{IsAtEnd}
 use Rattle.dnr_io.proofs.ReadSoFar.{ReadSoFar, one_read}
-use Rattle.dnr_io.specs.Lines.{AreEnded, GivesLine, IsBeyond, StopsIn}
+use Rattle.dnr_io.specs.Lines.{AreEnded, ahead, GivesLine, IsBeyond, StopsIn}
 use Rattle.dnr_io.specs.declared.line_refusal.LineRefusal.{LineRefusal}
 use Rattle.dnr_io.specs.declared.line_refusal.LineRefusal.TheVariants as refusal
-use Rattle.dnr_spec.specs.Lines.{max_line}
-use Rattle.generation.specs.Basis.{Basis}
+use Rattle.dnr_spec.specs.Lines.{max_line, max_lines}
 use Rattle.lines_ahead.specs.Cut.{CutSeen}
 use Rattle.session_serve.proofs.Short.{ended_on}
-use Rattle.update_spec.specs.Entries.{Entry}
-use Rattle.session_seats.specs.Cutting.{bytes_of, GivesLines, FollowOn, StandsBehind}
-use Rattle.session_seats.specs.Reading.{ReadRound}
-use Rattle.session_seats.proofs.SoFar.{SoFar, line_gathered}
+use Rattle.session_seats.specs.Cutting.{AreCut, CutsLines, CutsReady, CutterSeen, EndsAtSync, bytes_of, given_by, GivesLines, FollowOn, StandsBehind}
 
 -- ---- one line more
 
@@ -25,17 +22,49 @@ follow_more : (given number : ℕ) (lines : List CutSeen) (line : CutSeen) → n
 follow_more given number [] line here next short follow = (omega (arith, here, next), short, tt)
 follow_more given number (first ∷ lines) line here next short follow = (follow.0, follow.1, follow_more (given + 1) number lines line (omega (arith, here)) next short follow.2)
 
-pub gives_one_more : (rest behind next : Option (List ℕ)) (lines now : List CutSeen) (line : CutSeen) (bytes : List ℕ) → now ≡ lines ++ line ∷ [] → line.bytes ≡ bytes
-    → GivesLine behind next bytes → GivesLines rest behind (bytes_of lines) → GivesLines rest next (bytes_of now)
-gives_one_more rest behind next lines now line bytes longer same more gives =
-    subst (λ (ls : List CutSeen). GivesLines rest next (bytes_of ls)) (sym longer)
-    (gives_more rest behind next lines line gives (subst (λ (l : List ℕ). GivesLine behind next l) (sym same) more))
+-- none was cut, or one more
+pub cuts_none : (rest : Option (List ℕ)) (lines : List CutSeen) → CutsLines rest lines lines (λ behind. behind ≡ rest)
+cuts_none rest lines = record { more = []; longer = sym (append-nil lines); behind = rest; gives = refl; holds = refl }
 
-pub follows_one_more : (given number : ℕ) (lines now : List CutSeen) (line : CutSeen) (bytes : List ℕ) → now ≡ lines ++ line ∷ [] → line.bytes ≡ bytes
-    → number ≡ given + length lines → line.number ≡ number + 1 → length bytes ≤ max_line → FollowOn given lines → FollowOn given now
-follows_one_more given number lines now line bytes longer same here next short follow =
-    subst (λ (ls : List CutSeen). FollowOn given ls) (sym longer)
-    (follow_more given number lines line here next (subst (λ (l : List ℕ). length l ≤ max_line) (sym same) short) follow)
+pub cuts_one_more : (rest at next : Option (List ℕ)) (before lines now : List CutSeen) (line : CutSeen) → now ≡ lines ++ line ∷ [] → GivesLine at next line.bytes → CutsLines rest before lines (λ behind. behind ≡ at)
+    → CutsLines rest before now (λ behind. behind ≡ next)
+cuts_one_more rest at next before lines now line longer gives cuts = record {
+  more = cuts.more ++ line ∷ [];
+  longer = longer ∙ ap (λ (ls : List CutSeen). ls ++ line ∷ []) cuts.longer ∙ append_assoc before cuts.more (line ∷ []);
+  behind = next;
+  gives = gives_more rest cuts.behind next cuts.more line cuts.gives (subst (λ (r : Option (List ℕ)). GivesLine r next line.bytes) (sym cuts.holds) gives);
+  holds = refl;
+}
+
+-- what is said of what stands behind the lines
+pub cuts_so : (rest at : Option (List ℕ)) (before lines now : List CutSeen) (Holds : Option (List ℕ) → Type 0) → now ≡ lines → Holds at → CutsLines rest before lines (λ behind. behind ≡ at) → CutsLines rest before now Holds
+cuts_so rest at before lines now Holds same holds cuts = record {
+  more = cuts.more;
+  longer = same ∙ cuts.longer;
+  behind = cuts.behind;
+  gives = cuts.gives;
+  holds = subst Holds (sym cuts.holds) holds;
+}
+
+pub none_cut : (count : ℕ) → count ≤ max_lines → AreCut count []
+none_cut count few = record { within = omega arith; few = few; follow = tt; syncs = tt }
+
+pub are_cut_more : (count next : ℕ) (lines now : List CutSeen) (line : CutSeen) → next ≡ count + 1 → next ≤ max_lines → line.number ≡ next → length line.bytes ≤ max_line → now ≡ lines ++ line ∷ [] → EndsAtSync now → AreCut count lines → AreCut next now
+are_cut_more count next lines now line up few numbered short longer syncs are =
+    let grown : length now ≡ length lines + 1 = ap length longer ∙ length-append lines (line ∷ []) in
+    let same : next - length now ≡ count - length lines = omega (arith, up, grown, are.within) in
+    let here : count ≡ (count - length lines) + length lines = omega (arith, are.within) in
+    let numbers : line.number ≡ count + 1 = numbered ∙ up in
+    record {
+      within = omega (arith, are.within, up, grown);
+      few = few;
+      follow = subst (λ (n : ℕ). FollowOn n now) (sym same)
+          (subst (λ (ls : List CutSeen). FollowOn (count - length lines) ls) (sym longer) (follow_more (count - length lines) count lines line here numbers short are.follow));
+      syncs = syncs;
+    }
+
+pub are_cut_so : (count next : ℕ) (lines now : List CutSeen) → next ≡ count → now ≡ lines → AreCut count lines → AreCut next now
+are_cut_so count next lines now here same are = subst (λ (n : ℕ). AreCut n now) (sym here) (subst (λ (ls : List CutSeen). AreCut count ls) (sym same) are)
 
 -- ---- lines that have ended
 
@@ -54,10 +83,13 @@ pub ended_yet : (all : Option (List ℕ)) → AreEnded all all
 ended_yet None = tt
 ended_yet (Some script) = λ none. rw none tt
 
-pub ended_behind : (all rest next : Option (List ℕ)) (lines : List (List ℕ)) → GivesLines all rest lines → AreEnded all rest → AreEnded rest next → AreEnded all next
+ended_behind : (all rest next : Option (List ℕ)) (lines : List (List ℕ)) → GivesLines all rest lines → AreEnded all rest → AreEnded rest next → AreEnded all next
 ended_behind all rest next lines gives ended later =
     let read = lines_read all all rest [] lines 0 (nothing_read all) gives in
     ended_on all rest next read.0 read.1 read.2 ended later
+
+pub ended_cut : (all at next : Option (List ℕ)) (before lines : List CutSeen) → CutsLines all before lines (λ behind. behind ≡ at) → AreEnded all at → AreEnded at next → AreEnded all next
+ended_cut all at next before lines cuts ended later = ended_behind all at next (bytes_of cuts.more) (subst (λ (r : Option (List ℕ)). GivesLines all r (bytes_of cuts.more)) cuts.holds cuts.gives) ended later
 
 -- ---- what stands behind them
 
@@ -81,6 +113,18 @@ stands_unread count was now left behind (Err refusal.ReadFault) is = absurd (cc 
 stands_unread count was now left behind (Err refusal.LineTooLong) is = absurd (cc is)
 stands_unread count was now left behind (Err refusal.NoMemory) is = tt
 
+-- ---- lines that are cut out of what was read
+
+-- none is
+pub ready_none : (cutter : CutterSeen) → CutsReady cutter cutter
+ready_none cutter = record {
+  cut = λ left.
+      cuts_so (ahead cutter.reading left) (ahead cutter.reading left) cutter.lines cutter.lines cutter.lines (StandsBehind cutter.reading.count (ahead cutter.reading left) (ahead cutter.reading left) left (Ok true))
+      refl (refl, ended_yet (ahead cutter.reading left)) (cuts_none (ahead cutter.reading left) cutter.lines);
+  given = refl;
+  live = refl;
+}
+
 -- ---- lines that are asked
 
 -- what a slice of all of them is, written back
@@ -88,17 +132,3 @@ pub written_back : (items now : List CutSeen) (count : ℕ) → now ≡ items �
 written_back items now count same long =
     subst (λ (ls : List CutSeen). take count (ls ++ drop (length ls) items) ≡ items) (sym same)
     (ap (λ (ls : List CutSeen). take count (items ++ ls)) (drop_of_length-le items {i = length items} (omega arith)) ∙ ap (λ (ls : List CutSeen). take count ls) (append-nil items) ∙ take_all count items long)
-
--- ---- the lines of a queue
-
--- lines were read one after another
-pub lines_gathered : (opening : Basis) (seats : ℕ) (before now : Option (List ℕ)) (was : List ℕ) (checker : ℕ) (finders : List ℕ) (known rest next : Option (List ℕ)) (given : ℕ) (queue lines : List (List ℕ)) (round : ReadRound) (list : List Entry)
-    → SoFar opening seats before now was checker finders known rest given queue round list → GivesLines rest next lines
-    → SoFar opening seats before now was checker finders known next given (queue ++ lines) round list
-lines_gathered opening seats before now was checker finders known rest next given queue [] round list so_far gives =
-    subst (λ (ls : List (List ℕ)). SoFar opening seats before now was checker finders known next given ls round list) (sym (append-nil queue))
-    (subst (λ (r : Option (List ℕ)). SoFar opening seats before now was checker finders known r given queue round list) (sym gives) so_far)
-lines_gathered opening seats before now was checker finders known rest next given queue (line ∷ lines) round list so_far gives =
-    subst (λ (ls : List (List ℕ)). SoFar opening seats before now was checker finders known next given ls round list) (append_assoc queue (line ∷ []) lines)
-    (lines_gathered opening seats before now was checker finders known gives.0 next given (queue ++ line ∷ []) lines round list
-    (line_gathered opening seats before now was checker finders known rest gives.0 given queue round list line so_far gives.1) gives.2)

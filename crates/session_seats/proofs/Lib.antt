@@ -10,6 +10,7 @@ pub mod Replies
 pub mod Desks
 pub mod Offices
 pub mod Cuts
+pub mod Queues
 pub mod Taken
 pub mod Answering
 pub mod Telling

@@ -3,7 +3,7 @@ use Rattle.std.proofs.Common.{◌≡◌, ℕ, zero, suc, ◌+◌, ◌≤◌, Lis
 use Rattle.std.proofs.lemmas.Bool.{or_parts}
 use Rattle.std.specs.Prelude.{IfOk, OnOk, ◌||◌}
 use Rattle.std.specs.Io.KnownBytes.{Appends, prepend_known}
-use Rattle.dnr_io.specs.Lines.{AreEnded, Reading, ahead, GivesLine}
+use Rattle.dnr_io.specs.Lines.{AreEnded, ahead, GivesLine}
 use Rattle.dnr_io.proofs.ReadSoFar.{IsReadSoFar, one_read}
 use Rattle.generation.specs.Basis.{Basis}
 use Rattle.session_laws.proofs.Cut.{Cut, cut_first, cut_on, cut_end}
@@ -20,6 +20,7 @@ use Rattle.session_serve.proofs.Short.{ended_on}
 use Rattle.session_spec.specs.Answers.{RisesBy}
 use Rattle.session_spec.specs.Rounds.{Held, holds_nothing, with_line, ends_round, is_sync, is_full}
 use Rattle.update_spec.specs.Entries.{Entry, replay}
+use Rattle.session_seats.specs.Cutting.{CutterSeen, bytes_of, cuts_nothing, given_by}
 use Rattle.session_seats.specs.Reading.{ReadRound, ReadsLine, HasRead, held_with, nothing_read}
 use Rattle.session_seats.specs.Rounds.{WritesRound}
 use Rattle.session_seats.proofs.Lines as lines
@@ -85,12 +86,12 @@ start opening seats before checker finders (Some script) = record {
   taken = appends_nothing before;
 }
 
-pub started : (opening : Basis) (seats : ℕ) (before : Option (List ℕ)) (checker : ℕ) (finders : List ℕ) (known : Option (List ℕ)) (reading : Reading) (round : ReadRound) (list : List Entry)
-    → reading ≡ record { pending = []; count = 0; live = true } → round ≡ nothing_read → list ≡ [] → SoFar opening seats before before (checker ∷ finders) checker finders known (ahead reading known) reading.count [] round list
-started opening seats before checker finders known reading round list fresh empty none =
-    subst (λ (r : ReadRound). SoFar opening seats before before (checker ∷ finders) checker finders known (ahead reading known) reading.count [] r list) (sym empty)
-    (subst (λ (l : List Entry). SoFar opening seats before before (checker ∷ finders) checker finders known (ahead reading known) reading.count [] nothing_read l) (sym none)
-    (subst (λ (l : Reading). SoFar opening seats before before (checker ∷ finders) checker finders known (ahead l known) l.count [] nothing_read []) (sym fresh) (start opening seats before checker finders known)))
+pub started : (opening : Basis) (seats : ℕ) (before : Option (List ℕ)) (checker : ℕ) (finders : List ℕ) (known : Option (List ℕ)) (cutter : CutterSeen) (round : ReadRound) (list : List Entry)
+    → cutter ≡ cuts_nothing → round ≡ nothing_read → list ≡ [] → SoFar opening seats before before (checker ∷ finders) checker finders known (ahead cutter.reading known) (given_by cutter) (bytes_of cutter.lines) round list
+started opening seats before checker finders known cutter round list fresh empty none =
+    subst (λ (r : ReadRound). SoFar opening seats before before (checker ∷ finders) checker finders known (ahead cutter.reading known) (given_by cutter) (bytes_of cutter.lines) r list) (sym empty)
+    (subst (λ (l : List Entry). SoFar opening seats before before (checker ∷ finders) checker finders known (ahead cutter.reading known) (given_by cutter) (bytes_of cutter.lines) nothing_read l) (sym none)
+    (subst (λ (c : CutterSeen). SoFar opening seats before before (checker ∷ finders) checker finders known (ahead c.reading known) (given_by c) (bytes_of c.lines) nothing_read []) (sym fresh) (start opening seats before checker finders known)))
 
 -- ---- one line more
 
@@ -138,9 +139,9 @@ ended_too opening seats before now was checker finders (Some script) (Some rest)
     ended_on (Some script) (Some rest) next (so_far.done ++ queue) (given + length queue) so_far.read ended later
 
 -- none was read
-pub none_ended : (known : Option (List ℕ)) (reading : Reading) → reading ≡ record { pending = []; count = 0; live = true } → AreEnded known (ahead reading known)
-none_ended None reading fresh = tt
-none_ended (Some script) reading fresh = subst (λ (r : Reading). AreEnded (Some script) (ahead r (Some script))) (sym fresh) (λ none. rw none tt)
+pub none_ended : (known : Option (List ℕ)) (cutter : CutterSeen) → cutter ≡ cuts_nothing → AreEnded known (ahead cutter.reading known)
+none_ended None cutter fresh = tt
+none_ended (Some script) cutter fresh = subst (λ (c : CutterSeen). AreEnded (Some script) (ahead c.reading (Some script))) (sym fresh) (λ none. rw none tt)
 
 -- the first line of the queue was given to its round, which goes on with it, or ends
 pub record LineTaken (script rest : List ℕ) (done : List (List ℕ)) (queue : List (List ℕ)) (begun : List (List ℕ)) (line : List ℕ) (start given stops checked is : ℕ) (reads : List ReadLine) : Type 0 where

@@ -6,11 +6,7 @@ use Rattle.line_spec.specs.Line.{Command, blank, sync, request, explain, update,
 use Rattle.line_spec.specs.declared.line_fault.LineFault.{LineFault}
 use Rattle.lines_ahead.specs.Cut.{CutSeen}
 use Rattle.session_spec.specs.Rounds.{is_sync}
-use Rattle.session_seats.specs.Cutting.{IsNoSync, EndsAtSync}
-
-abbrev pub AreNoSync : List CutSeen → Type 0
-AreNoSync [] = Unit {0}
-AreNoSync (line ∷ lines) = IsNoSync line × AreNoSync lines
+use Rattle.session_seats.specs.Cutting.{AreNoSync, IsNoSync, EndsAtSync}
 
 -- what is read is no sync, or is one
 sync_or_not : (read : Result Command LineFault) → (is_sync read ≡ false) ⊎ (read ≡ Ok sync)

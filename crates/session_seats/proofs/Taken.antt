@@ -1,5 +1,5 @@
 -- Lines that were cut, taken into their rounds one after another.
-use Rattle.std.proofs.Common.{◌≡◌, ℕ, suc, ◌+◌, ◌≤◌, List, [], ◌∷◌, length, true, false, Option, Result, Ok, Err, refl, sym, ap, ◌∙◌, inl, inr, subst, arith}
+use Rattle.std.proofs.Common.{◌≡◌, ℕ, suc, ◌+◌, ◌-◌, ◌≤◌, List, [], ◌∷◌, length, true, false, Option, Result, Ok, Err, refl, sym, ap, ◌∙◌, inl, inr, subst, arith}
 use Rattle.std.specs.Prelude.{IfSome, IfErr, IsErrAnd, IsErrOf}
 use Rattle.dnr_io.specs.Lines.{AreEnded, IsBeyond, StopsIn}
 use Rattle.dnr_io.specs.declared.line_refusal.LineRefusal.{LineRefusal}
@@ -15,17 +15,17 @@ use Rattle.session_serve.specs.declared.stop.ServeStop.{ServeStop}
 use Rattle.session_serve.specs.declared.stop.ServeStop.TheVariants as stop
 use Rattle.session_spec.specs.Rounds.{ends_round, with_line}
 use Rattle.update_spec.specs.Entries.{Entry}
-use Rattle.session_seats.specs.Cutting.{bytes_of, FollowOn, CutsLines, StandsBehind}
+use Rattle.session_seats.specs.Cutting.{AreCut, bytes_of, FollowOn, CutsLines, StandsBehind}
 use Rattle.session_seats.specs.Reading.{ReadRound, ReadsLine, nothing_read}
 use Rattle.session_seats.specs.Rounds.{WritesRound, StopsRound}
 use Rattle.session_seats.specs.Taking.{AreShort, Standing, standing, GoesOn, EndsRound, TakesLine, TakesLines, StopsLine, StopsLines}
 use Rattle.session_seats.proofs.SoFar.{SoFar, line_more, whole_round_more}
-use Rattle.session_seats.proofs.Cuts.{lines_gathered}
+use Rattle.session_seats.proofs.Queues.{lines_cut}
 use Rattle.session_seats.proofs.Endings.{without_memory, stops_serving}
 
 -- ---- what is served, by what is taken
 
-pub short_of : (given : ℕ) (lines : List CutSeen) → FollowOn given lines → AreShort lines
+short_of : (given : ℕ) (lines : List CutSeen) → FollowOn given lines → AreShort lines
 short_of given [] follow = tt
 short_of given (line ∷ lines) follow = (follow.1, short_of (given + 1) lines follow.2)
 
@@ -172,24 +172,38 @@ stopped_at opening seats many from here now is others cause (Err e) line lines l
 
 -- ---- a cut, and what is served of it
 
+-- so many lines were given, and these follow them, up to this number
+pub record Follows (given later : ℕ) (lines : List CutSeen) : Type 0 where
+  pub follow : FollowOn given lines
+  pub more : later ≡ given + length lines
+  pub few : later ≤ max_lines
+
+pub follows : (given count : ℕ) (lines taken : List CutSeen) → taken ≡ lines → count - length lines ≡ given → AreCut count taken → Follows given count lines
+follows given count lines taken same here cut =
+    let are = subst (λ (ls : List CutSeen). AreCut count ls) same cut in
+    record { follow = subst (λ (n : ℕ). FollowOn n lines) here are.follow; more = omega (arith, are.within, here); few = are.few }
+
+pub short_taken : (given later : ℕ) (lines asked : List CutSeen) → asked ≡ lines → Follows given later lines → AreShort asked
+short_taken given later lines asked same all = subst (λ (ls : List CutSeen). AreShort ls) (sym same) (short_of given lines all.follow)
+
 -- its lines were read behind those that were taken, and are taken
-pub cut_taken : (opening : Basis) (seats many : ℕ) (before : Option (List ℕ)) (was : List ℕ) (known rest : Option (List ℕ)) (given later : ℕ) (lines asked : List CutSeen) (Holds : Option (List ℕ) → Type 0) (from to : Standing)
-    → opening.state.count ≡ 0 → many ≡ seats → asked ≡ lines → later ≡ given + length lines → (cuts : CutsLines rest given lines Holds)
-    → SoFar opening seats before from.taken was from.checker from.finders known rest given [] from.round from.list → TakesLines opening many from to asked
+pub cut_taken : (opening : Basis) (seats many : ℕ) (before : Option (List ℕ)) (was : List ℕ) (known rest : Option (List ℕ)) (given later : ℕ) (kept lines asked : List CutSeen) (Holds : Option (List ℕ) → Type 0) (from to : Standing)
+    → opening.state.count ≡ 0 → many ≡ seats → asked ≡ lines → Follows given later lines → (cuts : CutsLines rest kept lines Holds)
+    → SoFar opening seats before from.taken was from.checker from.finders known rest given (bytes_of kept) from.round from.list → TakesLines opening many from to asked
     → SoFar opening seats before to.taken was to.checker to.finders known cuts.behind later [] to.round to.list
-cut_taken opening seats many before was known rest given later lines asked Holds from to fresh all same more cuts so_far takes =
-    lines_taken opening seats before was known cuts.behind given later lines from to fresh cuts.follow more
-    (lines_gathered opening seats before from.taken was from.checker from.finders known rest cuts.behind given [] (bytes_of lines) from.round from.list so_far cuts.gives)
+cut_taken opening seats many before was known rest given later kept lines asked Holds from to fresh all same follow cuts so_far takes =
+    lines_taken opening seats before was known cuts.behind given later lines from to fresh follow.follow follow.more
+    (lines_cut opening seats before from.taken was from.checker from.finders known rest given kept lines Holds from.round from.list cuts so_far)
     (subst (λ (n : ℕ). TakesLines opening n from to lines) all (subst (λ (ls : List CutSeen). TakesLines opening many from to ls) same takes))
 
 -- one is not, or its round not written
-pub cut_stopped : (opening : Basis) (seats many : ℕ) (before now : Option (List ℕ)) (was : List ℕ) (is : ℕ) (others : List ℕ) (known rest left : Option (List ℕ)) (given later : ℕ) (lines asked : List CutSeen) (Holds : Option (List ℕ) → Type 0) (from : Standing) (why e : ServeStop)
-    → e ≡ why → opening.state.count ≡ 0 → many ≡ seats → asked ≡ lines → later ≡ given + length lines → later ≤ max_lines → (cuts : CutsLines rest given lines Holds)
-    → SoFar opening seats before from.taken was from.checker from.finders known rest given [] from.round from.list → StopsLines opening many from now is others why asked
+pub cut_stopped : (opening : Basis) (seats many : ℕ) (before now : Option (List ℕ)) (was : List ℕ) (is : ℕ) (others : List ℕ) (known rest left : Option (List ℕ)) (given later : ℕ) (kept lines asked : List CutSeen) (Holds : Option (List ℕ) → Type 0) (from : Standing) (why e : ServeStop)
+    → e ≡ why → opening.state.count ≡ 0 → many ≡ seats → asked ≡ lines → Follows given later lines → (cuts : CutsLines rest kept lines Holds)
+    → SoFar opening seats before from.taken was from.checker from.finders known rest given (bytes_of kept) from.round from.list → StopsLines opening many from now is others why asked
     → IfSome known (λ script. EndsServing before now (counts_between was (is ∷ others)) (serving opening.suffixes seats) opening.state script left (Err e))
-cut_stopped opening seats many before now was is others known rest left given later lines asked Holds from why e so fresh all same more few cuts so_far stops =
-    lines_stopped opening seats before now was is others known cuts.behind left given lines from why e so fresh cuts.follow (omega (arith, more, few))
-    (lines_gathered opening seats before from.taken was from.checker from.finders known rest cuts.behind given [] (bytes_of lines) from.round from.list so_far cuts.gives)
+cut_stopped opening seats many before now was is others known rest left given later kept lines asked Holds from why e so fresh all same follow cuts so_far stops =
+    lines_stopped opening seats before now was is others known cuts.behind left given lines from why e so fresh follow.follow (omega (arith, follow.more, follow.few))
+    (lines_cut opening seats before from.taken was from.checker from.finders known rest given kept lines Holds from.round from.list cuts so_far)
     (subst (λ (n : ℕ). StopsLines opening n from now is others why lines) all (subst (λ (ls : List CutSeen). StopsLines opening many from now is others why ls) same stops))
 
 -- why the line behind it is not given

@@ -4,7 +4,9 @@
 //! and is left unread; the others are asked in several threads what they ask for, and then read one after another. Each
 //! seat learns what was published before, reads its share of the plain lines, and answers its share of the requests by
 //! what is published when it comes to each; the writer answers the other lines meanwhile, and publishes each update that
-//! it accepts. When all have ended, the answers are put in the order of the lines.
+//! it accepts. When all have ended, the answers are put in the order of the lines. Meanwhile a thread cuts the lines of the
+//! next round out of what was read already, where there are seats beside one another; the source is read again only when the
+//! round is written.
 //!
 //! The k-th request of a round is answered by seat k modulo their number. The lines are dealt to the seats as if each plain
 //! line were a request. Where one turns out to ask for none, the requests behind it lie with other seats than those whose

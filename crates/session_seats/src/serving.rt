@@ -1,20 +1,24 @@
 //! A script, served from its first line to its last by seats beside a writer.
-ghost use Rattle.std.specs.Prelude.{◌≡◌, ◌<◌, ◌≤◌, ◌∷◌, [], length, map, is_some, IfOk, IfSome, vec_len};
+ghost use Rattle.std.specs.Prelude.{◌≡◌, ◌<◌, ◌≤◌, ◌∷◌, [], false, length, map, is_some, IfOk, IfErr, IfSome, OnOk, vec_len};
 ghost use Rattle.dnr_base.specs.Faults.{HasCauseOf};
 ghost use Rattle.session_laws.specs.Turns.{NoneFell, counts_between};
 ghost use Rattle.session_rounds.specs.Read.{serving};
+ghost use Rattle.session_seats.specs.Cutting.{CutsReady};
 ghost use Rattle.session_seats.specs.Seats.{AreSeats, HavePasses};
+ghost use Rattle.session_seats.specs.Taking.{AreShort, StopsLines, TakesLines, standing};
 ghost use Rattle.session_serve.specs.Serving.{EndsServing};
+ghost use Rattle.session_spec.specs.Rounds.{is_full};
 
-use crate::cutting::{ask_cut, cut_lines};
+use crate::cutting::{Cutter, ask_cut};
 use crate::desk::Desk;
 use crate::office::Office;
 use crate::round_lines::RoundLines;
 use crate::rounds::serve_round;
 use crate::taking::serve_cut;
 use dnr_base::NoMemory;
-use dnr_io::{Lines, Sink, Source};
+use dnr_io::{Sink, Source};
 use generation::Generation;
+use lines_ahead::CutLine;
 use lookup_pool::Gate;
 use published::{Opening, Pair, ReaderPass, publish_pair};
 use regex_host::RegexHost;
@@ -23,7 +27,10 @@ use session_serve::ServeStop;
 use std::alloc::Global;
 use std::marker::Brand;
 use std::sync::Wait;
-use std::thread::Threads;
+use std::thread::{Threads, join_mut};
+
+// The lines of a cut that are served before a thread is started to cut more.
+const FEW_LINES: usize = 64;
 
 /// Answers the lines that the source has left, and writes the answers of each round when it has ended, before more is
 /// read. The k-th request of a round is decided by seat k modulo their number, with the finder at its place, beside the
@@ -217,23 +224,104 @@ fn serve_lines<
     ensures read_fault { HasCauseOf ServeStop.ReadFault (S.faults source.old) (S.faults source.new) result }
     ensures write_fault { HasCauseOf ServeStop.WriteFault (O.faults out.old) (O.faults out.new) result }
 {
-    let mut lines = Lines::new(alloc)?;
     let mut memo = Memo::new(alloc);
     let mut round = RoundLines::new(alloc);
-    let mut number = 0;
+    let mut cutter = Cutter::new(alloc, round.room())?;
     'rounds: loop {
-        let mut cut = Vec::new(alloc);
-        let more = cut_lines(alloc, &mut number, &mut lines, source, &mut round, &mut cut);
+        let more = cutter.cut(alloc, source, round.room());
+        let mut cut = cutter.take(alloc);
         ask_cut(rt, alloc, desks.len(), &mut cut);
-        serve_cut(
-            rt, alloc, gate, cut, office, desks, &mut memo, &mut round, out, checker, finders,
+        serve_beside(
+            rt,
+            &alloc,
+            gate,
+            &mut cutter,
+            &mut cut,
+            office,
+            &mut memo,
+            &mut round,
+            out,
+            checker,
+            desks,
+            finders,
         )?;
         if !more? {
             break 'rounds;
         }
+        cutter.keep_buffers(alloc, &mut round);
     }
     if round.is_empty() {
         return Ok(());
     }
     serve_round(rt, alloc, gate, &round, office, desks, finders, out)
+}
+
+// Serves the lines that were cut, as `serve_cut` does. Where they are many, and there are seats beside one another, a thread
+// cuts on meanwhile, out of what was read. (The closures take what the caller lends, and nothing of this function's.)
+fn serve_beside<
+    P: Pair + Send + Sync,
+    R: Threads + Wait + Sync,
+    O: Sink,
+    H: RegexHost + Send,
+    G: Gate + Sync,
+>(
+    rt: &R,
+    alloc: &Global,
+    gate: &G,
+    cutter: &mut Cutter,
+    cut: &mut Vec<CutLine>,
+    office: &mut Office<P>,
+    memo: &mut Memo,
+    round: &mut RoundLines,
+    out: &mut O,
+    checker: &mut H,
+    desks: &mut [Desk<P>],
+    finders: &mut [H],
+) -> Result<(), ServeStop>
+    requires fresh { P.opening.state.count ≡ 0 }
+    requires some { 0 < length desks.old }
+    requires finders { length finders.old ≡ length desks.old }
+    requires seats { AreSeats (length desks.old) desks.old }
+    requires idle { office.old.staged ≡ [] }
+    requires short { AreShort cut.old.items }
+    requires room { is_full round.old.held ≡ false }
+    requires taken { cutter.old.lines ≡ [] }
+    ensures ready { CutsReady cutter.old cutter.new }
+    ensures takes { OnOk result (TakesLines P.opening (length desks.old)
+        (standing (O.taken out.old) (H.faults checker.old) (map H.faults finders.old) round.old office.old.list)
+        (standing (O.taken out.new) (H.faults checker.new) (map H.faults finders.new) round.new office.new.list)
+        cut.old.items) }
+    ensures stops { IfErr result (λ why. StopsLines P.opening (length desks.old)
+        (standing (O.taken out.old) (H.faults checker.old) (map H.faults finders.old) round.old office.old.list)
+        (O.taken out.new) (H.faults checker.new) (map H.faults finders.new) why cut.old.items) }
+    ensures idle { OnOk result (office.new.staged ≡ []) }
+    ensures room { OnOk result (is_full round.new.held ≡ false) }
+    ensures count { length desks.new ≡ length desks.old }
+    ensures seats { AreSeats (length desks.old) desks.new }
+    ensures finders { length finders.new ≡ length finders.old }
+    ensures later { H.faults checker.old ≤ H.faults checker.new }
+    ensures fell { NoneFell (map H.faults finders.old) (map H.faults finders.new) }
+    ensures cause { HasCauseOf ServeStop.WriteFault (O.faults out.old) (O.faults out.new) result }
+{
+    let is_worth = 1 < desks.len() && FEW_LINES <= cut.len() && cutter.is_ready();
+    if !is_worth {
+        return serve_cut(
+            rt, *alloc, gate, cut, office, memo, round, out, checker, desks, finders,
+        );
+    }
+    let (_, served) = join_mut(
+        rt,
+        &mut ||
+            requires { cutter.now.lines ≡ [] }
+        { cutter.cut_ready(*alloc) },
+        &mut ||
+            requires { (P.opening.state.count ≡ 0) × (0 < length desks.now) × (length finders.now ≡ length desks.now) × AreSeats (length desks.now) desks.now
+                × (office.now.staged ≡ []) × AreShort cut.now.items × (is_full round.now.held ≡ false) }
+        {
+            serve_cut(
+                rt, *alloc, gate, cut, office, memo, round, out, checker, desks, finders,
+            )
+        },
+    );
+    served
 }

@@ -21,10 +21,11 @@ use regex_host::RegexHost;
 use script_read::Memo;
 use session_serve::ServeStop;
 use std::alloc::Global;
+use std::mem::replace;
 use std::sync::Wait;
 use std::thread::Threads;
 
-/// Takes the lines that were cut into their rounds, in order, and serves each round that ends with one of them.
+/// Takes the lines that were cut, all of them, into their rounds, in order, and serves each round that ends with one.
 ///
 /// # Errors
 ///
@@ -40,13 +41,13 @@ pub fn serve_cut<
     rt: &R,
     alloc: Global,
     gate: &G,
-    cut: Vec<CutLine>,
+    cut: &mut Vec<CutLine>,
     office: &mut Office<P>,
-    desks: &mut [Desk<P>],
     memo: &mut Memo,
     round: &mut RoundLines,
     out: &mut O,
     checker: &mut H,
+    desks: &mut [Desk<P>],
     finders: &mut [H],
 ) -> Result<(), ServeStop>
     requires fresh { P.opening.state.count ≡ 0 }
@@ -54,15 +55,15 @@ pub fn serve_cut<
     requires finders { length finders.old ≡ length desks.old }
     requires seats { AreSeats (length desks.old) desks.old }
     requires idle { office.old.staged ≡ [] }
-    requires short { AreShort cut.items }
+    requires short { AreShort cut.old.items }
     requires room { is_full round.old.held ≡ false }
     ensures takes { OnOk result (TakesLines P.opening (length desks.old)
         (standing (O.taken out.old) (H.faults checker.old) (map H.faults finders.old) round.old office.old.list)
         (standing (O.taken out.new) (H.faults checker.new) (map H.faults finders.new) round.new office.new.list)
-        cut.items) }
+        cut.old.items) }
     ensures stops { IfErr result (λ why. StopsLines P.opening (length desks.old)
         (standing (O.taken out.old) (H.faults checker.old) (map H.faults finders.old) round.old office.old.list)
-        (O.taken out.new) (H.faults checker.new) (map H.faults finders.new) why cut.items) }
+        (O.taken out.new) (H.faults checker.new) (map H.faults finders.new) why cut.old.items) }
     ensures idle { OnOk result (office.new.staged ≡ []) }
     ensures room { OnOk result (is_full round.new.held ≡ false) }
     ensures count { length desks.new ≡ length desks.old }
@@ -72,7 +73,8 @@ pub fn serve_cut<
     ensures fell { NoneFell (map H.faults finders.old) (map H.faults finders.new) }
     ensures cause { HasCauseOf ServeStop.WriteFault (O.faults out.old) (O.faults out.new) result }
 {
-    for line in cut {
+    let lines = replace(cut, Vec::new(alloc));
+    for line in lines {
         serve_line(
             rt, alloc, gate, line, office, desks, memo, round, out, checker, finders,
         )?;

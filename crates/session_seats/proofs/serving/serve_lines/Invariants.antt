@@ -4,6 +4,7 @@ use Rattle.dnr_io.specs.Lines.{AreEnded, ahead}
 use Rattle.dnr_spec.specs.Lines.{max_lines}
 use Rattle.session_laws.specs.Turns.{NoneFell}
 use Rattle.session_spec.specs.Rounds.{is_full}
+use Rattle.session_seats.specs.Cutting.{bytes_of, given_by}
 use Rattle.session_seats.specs.Seats.{AreSeats}
 use Rattle.session_seats.proofs.SoFar.{SoFar}
 use Rattle.session_seats.proofs.serving.serve_lines.Given as goal
@@ -12,16 +13,14 @@ abbrev pub invariant-rounds : goal.invariant-rounds
 invariant-rounds g l = record {
   so_far : SoFar g.P.Pair.opening (length l.fn.finders) (g.O.Sink.taken l.fn.out) (g.O.Sink.taken l.out)
       (g.H.RegexHost.faults l.fn.checker ∷ map g.H.RegexHost.faults l.fn.finders) (g.H.RegexHost.faults l.checker) (map g.H.RegexHost.faults l.finders)
-      (g.S.Source.left l.fn.source) (ahead l.lines (g.S.Source.left l.source)) l.number [] l.round l.office.list;
+      (g.S.Source.left l.fn.source) (ahead l.cutter.reading (g.S.Source.left l.source)) (given_by l.cutter) (bytes_of l.cutter.lines) l.round l.office.list;
   room : is_full l.round.held ≡ false;
   count : length l.desks ≡ length l.fn.desks;
   seats : AreSeats (length l.fn.desks) l.desks;
   finders : length l.finders ≡ length l.fn.finders;
   idle : l.office.staged ≡ [];
-  here : l.number ≡ l.lines.count;
-  few : l.number ≤ max_lines;
-  live : IsTrue l.lines.live;
-  lf : AreEnded (g.S.Source.left l.fn.source) (ahead l.lines (g.S.Source.left l.source));
+  live : IsTrue l.cutter.reading.live;
+  lf : AreEnded (g.S.Source.left l.fn.source) (ahead l.cutter.reading (g.S.Source.left l.source));
   checker : g.H.RegexHost.faults l.fn.checker ≤ g.H.RegexHost.faults l.checker;
   fell : NoneFell (map g.H.RegexHost.faults l.fn.finders) (map g.H.RegexHost.faults l.finders);
   told : is_some (g.S.Source.left l.source) ≡ is_some (g.S.Source.left l.fn.source);
@@ -31,4 +30,4 @@ invariant-rounds g l = record {
 }
 
 abbrev pub decreases-rounds : goal.decreases-rounds
-decreases-rounds g l = max_lines - l.number
+decreases-rounds g l = max_lines - given_by l.cutter

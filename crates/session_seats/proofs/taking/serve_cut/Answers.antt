@@ -10,11 +10,12 @@ use Rattle.session_seats.proofs.taking.serve_cut.Goals as goal
 pub loop-line-init : goal.loop-line-init
 loop-line-init g c =
     let same = c.into_iter-line-iterator.ensures.into_iter_gives in
+    let all = same.0 ∙ ap (λ v. v.items) c.replace-lines.ensures.value in
     let from = standing (g.O.Sink.taken c.args.out.now) (g.H.RegexHost.faults c.args.checker.now) (map g.H.RegexHost.faults c.args.finders.now) c.args.round.now c.args.office.now.list in
     record {
-      takes = λ to later. subst (λ (ls : List CutSeen). TakesLines g.P.Pair.opening (length c.args.desks.now) from to ls) same.0 later;
-      stops = λ now is others why later. subst (λ (ls : List CutSeen). StopsLines g.P.Pair.opening (length c.args.desks.now) from now is others why ls) same.0 later;
-      short = subst (λ (ls : List CutSeen). AreShort ls) (sym same.0) c.requires.short;
+      takes = λ to later. subst (λ (ls : List CutSeen). TakesLines g.P.Pair.opening (length c.args.desks.now) from to ls) all later;
+      stops = λ now is others why later. subst (λ (ls : List CutSeen). StopsLines g.P.Pair.opening (length c.args.desks.now) from now is others why ls) all later;
+      short = subst (λ (ls : List CutSeen). AreShort ls) (sym all) c.requires.short;
       left = search rules;
       room = c.requires.room;
       count = refl;
@@ -43,8 +44,8 @@ loop-line-preserved g c =
     let here = standing (g.O.Sink.taken at.out) (g.H.RegexHost.faults at.checker) (map g.H.RegexHost.faults at.finders) at.round at.office.list in
     let next = standing (g.O.Sink.taken c.serve_line.new.out) (g.H.RegexHost.faults c.serve_line.new.checker) (map g.H.RegexHost.faults c.serve_line.new.finders) c.serve_line.new.round c.serve_line.new.office.list in
     record {
-      takes = taken_on g.P.Pair.opening (length c.args.desks.now) (length at.desks) from here next line (into_iter_items at.line-iterator) (into_iter_items c.next.new.self) c.args.cut.items inv.count steps.0 served.takes inv.takes;
-      stops = stopped_on g.P.Pair.opening (length c.args.desks.now) (length at.desks) from here next line (into_iter_items at.line-iterator) (into_iter_items c.next.new.self) c.args.cut.items inv.count steps.0 served.takes inv.stops;
+      takes = taken_on g.P.Pair.opening (length c.args.desks.now) (length at.desks) from here next line (into_iter_items at.line-iterator) (into_iter_items c.next.new.self) c.args.cut.now.items inv.count steps.0 served.takes inv.takes;
+      stops = stopped_on g.P.Pair.opening (length c.args.desks.now) (length at.desks) from here next line (into_iter_items at.line-iterator) (into_iter_items c.next.new.self) c.args.cut.now.items inv.count steps.0 served.takes inv.stops;
       short = (subst (λ (ls : List CutSeen). AreShort ls) steps.0 inv.short).1;
       left = let short = ap length steps.0 in omega (arith, inv.left, steps.1, short);
       room = served.room;
@@ -65,7 +66,7 @@ returns-in_err-serve_line-clause-stops g c =
     (standing (g.O.Sink.taken c.args.out.now) (g.H.RegexHost.faults c.args.checker.now) (map g.H.RegexHost.faults c.args.finders.now) c.args.round.now c.args.office.now.list)
     (standing (g.O.Sink.taken at.out) (g.H.RegexHost.faults at.checker) (map g.H.RegexHost.faults at.finders) at.round at.office.list)
     (g.O.Sink.taken c.serve_line.new.out) (g.H.RegexHost.faults c.serve_line.new.checker) (map g.H.RegexHost.faults c.serve_line.new.finders) c.in_err-serve_line.field-0.0 _
-    c.in-Some.line (into_iter_items at.line-iterator) (into_iter_items c.next.new.self) c.args.cut.items c.from_residual.ensures.1 inv.count c.in-Some.ensures.steps.0 c.in_err-serve_line.ensures.stops inv.stops
+    c.in-Some.line (into_iter_items at.line-iterator) (into_iter_items c.next.new.self) c.args.cut.now.items c.from_residual.ensures.1 inv.count c.in-Some.ensures.steps.0 c.in_err-serve_line.ensures.stops inv.stops
 
 pub returns-in_err-serve_line-clause-seats : goal.returns-in_err-serve_line-clause-seats
 returns-in_err-serve_line-clause-seats g c = subst (λ n. AreSeats n c.serve_line.new.desks) c.loop-line.invariant.count c.in_err-serve_line.ensures.seats
@@ -81,4 +82,4 @@ returns-clause-takes g c =
     all_taken g.P.Pair.opening (length c.args.desks.now)
     (standing (g.O.Sink.taken c.args.out.now) (g.H.RegexHost.faults c.args.checker.now) (map g.H.RegexHost.faults c.args.finders.now) c.args.round.now c.args.office.now.list)
     (standing (g.O.Sink.taken at.out) (g.H.RegexHost.faults at.checker) (map g.H.RegexHost.faults at.finders) at.round at.office.list)
-    (into_iter_items at.line-iterator) c.args.cut.items (sym at.invariant.left ∙ none.0) at.invariant.takes
+    (into_iter_items at.line-iterator) c.args.cut.now.items (sym at.invariant.left ∙ none.0) at.invariant.takes
