@@ -214,6 +214,38 @@ What the machine has to give is told by programs side by side, which share nothi
     return head + table(["what", "requests a second", "times one worker"], told) + "\n" + "".join(others)
 
 
+# What each phase of bench/phases does.
+PHASES = {
+    "cut": "lines are cut from the script",
+    "ask": "lines that are not plain are asked what they ask for",
+    "take": "lines are taken into the round",
+    "answer": "seats answer, the writer updates, and threads are started for them",
+    "settle": "answers are put in order",
+    "write": "they are written",
+}
+
+
+def phases_part(rows, of):
+    head = """
+## What a round takes
+
+Instructions of a line in each phase of the [path of a round](ARCHITECTURE.md#the-path-of-a-round), counted by valgrind's callgrind, by `bench/phases`: some of the requests above, served over the same rules, less a session with an empty script.
+All threads are counted, and in the last row the one alone that serves the script. `answer` is done by all seats beside each other, and so is `ask` where many lines ask for more than a request; all else is done by that one thread, while no seat has work.
+What the compiler put into the loop around the phases is counted with the rest.
+
+"""
+    found = {(it["workers"], it["what"]): float(it["instructions"]) for it in rows}
+    counts = list(dict.fromkeys(it["workers"] for it in rows))
+    columns = [column for it in counts for column in (f"{it} worker{'s' * (it != '1')}", "share")]
+    told = []
+    for what in dict.fromkeys(it["what"] for it in rows):
+        of_each = [(found[it, what], found[it, what] / found[it, "all"]) for it in counts]
+        name = f"{what}: {PHASES[what]}" if what in PHASES else what
+        texts = (text for cost, share in of_each for text in (f"{cost:,.0f}", f"{share:.1%}"))
+        told.append([name, *texts])
+    return head + table(["phase", *columns], told)
+
+
 def answers_part(rows, of):
     head = """
 ## One request, and its answer
@@ -272,6 +304,7 @@ PARTS = {
     "limits": limits_part,
     "rulesets": rulesets_part,
     "workers": workers_part,
+    "phases": phases_part,
     "answers": answers_part,
     "broker": broker_part,
 }
