@@ -9,9 +9,7 @@ ghost use Rattle.script_read.specs.Seen.{command_seen};
 
 use crate::plain::{PlainSearch, lacks_sync};
 use regex_host::RegexHost;
-use script_read::{
-    Asked, Command, LineFault, Memo, ask_line, finish_line, is_blank, read_line_with,
-};
+use script_read::{Asked, Command, LineFault, Memo, ask_line, finish_line, read_line_with};
 use std::alloc::Global;
 use std::marker::Model;
 
@@ -21,7 +19,7 @@ use std::marker::Model;
 pub struct CutLine {
     number: u32,
     bytes: Vec<u8>,
-    // Whether its bytes show that it asks for a request at most.
+    // Whether its bytes show that it asks for a request at most, and likely for one.
     plain: bool,
     // Few lines are asked, so what they ask for stands apart, and a line is moved as a few words.
     asked: Option<Box<Result<Asked, LineFault>>>,
@@ -45,7 +43,7 @@ impl CutLine {
         ensures number { result.number ≡ number }
         ensures bytes { result.bytes ≡ bytes.items }
     {
-        let plain = search.is_plain(&bytes) && !is_blank(&bytes);
+        let plain = search.is_plain(&bytes) && search.may_be_seen(&bytes);
         CutLine {
             number,
             bytes,
@@ -73,7 +71,8 @@ impl CutLine {
         self.bytes
     }
 
-    /// Whether its bytes show that it asks for a request, if for anything. A blank line isn't taken for one.
+    /// Whether its bytes show that it asks for a request, if for anything. A line that likely is none, since it names no URL
+    /// that rules see, isn't taken for one.
     pub fn is_plain(&self) -> bool
         ensures { IsTrue result → IsPlainLine self.now }
     {

@@ -12,6 +12,8 @@ use std::marker::Model;
 #[derive(Drop)]
 pub struct PlainSearch {
     finder: Finder<'static>,
+    // The key of a request's URL, as JSON writes it.
+    urls: Finder<'static>,
 }
 
 impl Model for PlainSearch {
@@ -29,6 +31,7 @@ impl PlainSearch {
     pub fn new() -> PlainSearch {
         PlainSearch {
             finder: Finder::new(b"cmd"),
+            urls: Finder::new(b"\"url\""),
         }
     }
 
@@ -42,6 +45,22 @@ impl PlainSearch {
         ensures request_at_most { IsTrue result → (number : ℕ) → IsRequestAtMost (command_of number bytes.now) }
     {
         self.finder.find(bytes).is_none() && memchr(b'\\', bytes).is_none()
+    }
+
+    /// Whether the bytes of a line name a URL that begins as nearly all do that rules see: with `http` or `ws`. What a line
+    /// asks for doesn't depend on it.
+    pub fn may_be_seen(&self, bytes: &[u8]) -> bool {
+        let Some(place) = self.urls.find(bytes) else {
+            return false;
+        };
+        let Some((_, named)) = bytes.split_at_checked(place) else {
+            return false;
+        };
+        // with the space that some writers of JSON leave, and without it
+        named.starts_with(b"\"url\":\"http")
+            || named.starts_with(b"\"url\": \"http")
+            || named.starts_with(b"\"url\":\"ws")
+            || named.starts_with(b"\"url\": \"ws")
     }
 }
 
