@@ -18,3 +18,4 @@ pub mod Log
 pub mod Served
 pub mod Syncs
 pub mod Dealt
+pub mod Excuses

@@ -22,7 +22,7 @@ pub later_same : (pass : Option PassSeen) → IsLater pass pass
 later_same None = tt
 later_same (Some p) = omega arith
 
-later_on : (a b c : Option PassSeen) → IsLater a b → IsLater b c → IsLater a c
+pub later_on : (a b c : Option PassSeen) → IsLater a b → IsLater b c → IsLater a c
 later_on None None None p q = tt
 later_on None None (Some c) p q = absurd q
 later_on None (Some b) c p q = absurd p

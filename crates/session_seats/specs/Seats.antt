@@ -1,5 +1,5 @@
 -- What a seat answers to the lines of a round.
-use Rattle.std.specs.Prelude.{◌≡◌, ◌<◌, ◌≤◌, ◌+◌, ◌-◌, ◌++◌, ℕ, zero, suc, List, [], ◌∷◌, length, map, filter, get_or, Bool, false, not, ◌&&◌, Option, Some, None, All, IsTrue, IsFalse, IsSome, IfSome, Result}
+use Rattle.std.specs.Prelude.{◌≡◌, ◌⊎◌, ◌<◌, ◌≤◌, ◌+◌, ◌-◌, ◌++◌, ℕ, zero, suc, List, [], ◌∷◌, length, map, filter, get_or, Bool, false, not, ◌&&◌, Option, Some, None, All, IsTrue, IsFalse, IsSome, IfSome, Result}
 use mathlib.Core.List.{IsPrefix}
 use Rattle.dnr_base.specs.Faults.{Rose}
 use Rattle.generation.specs.Basis.{Basis}
@@ -125,25 +125,55 @@ HavePasses (suc count) (desk ∷ desks) = IsSome desk.pass × HavePasses count d
 
 -- the seat with another pass; with other places of lines that it passed over; and with memory having run out or not
 abbrev pub with_pass : DeskSeen → Option PassSeen → DeskSeen
-with_pass desk pass = record { seat = desk.seat; seats = desk.seats; pass = pass; ready = desk.ready; stopped = desk.stopped; answers = desk.answers; unasked = desk.unasked }
+with_pass desk pass = record {
+  seat = desk.seat;
+  seats = desk.seats;
+  pass = pass;
+  ready = desk.ready;
+  stopped = desk.stopped;
+  answers = desk.answers;
+  unasked = desk.unasked;
+}
 
 abbrev pub with_unasked : DeskSeen → List ℕ → DeskSeen
-with_unasked desk unasked = record { seat = desk.seat; seats = desk.seats; pass = desk.pass; ready = desk.ready; stopped = desk.stopped; answers = desk.answers; unasked = unasked }
+with_unasked desk unasked = record {
+  seat = desk.seat;
+  seats = desk.seats;
+  pass = desk.pass;
+  ready = desk.ready;
+  stopped = desk.stopped;
+  answers = desk.answers;
+  unasked = unasked;
+}
 
 abbrev pub with_stopped : DeskSeen → Bool → DeskSeen
-with_stopped desk stopped = record { seat = desk.seat; seats = desk.seats; pass = desk.pass; ready = desk.ready; stopped = stopped; answers = desk.answers; unasked = desk.unasked }
+with_stopped desk stopped = record {
+  seat = desk.seat;
+  seats = desk.seats;
+  pass = desk.pass;
+  ready = desk.ready;
+  stopped = stopped;
+  answers = desk.answers;
+  unasked = desk.unasked;
+}
 
 -- it stays the same seat
 pub record StaysSeat (before now : DeskSeen) : Type 0 where
   pub seat : now.seat ≡ before.seat
   pub seats : now.seats ≡ before.seats
 
--- a seat that begins a round has answered nothing and passed over no line, and is ready unless it was not told of what is
--- published
+-- the seat has the same pass, which has missed no fewer copies
+abbrev pub KeepsPass : DeskSeen → DeskSeen → Type 0
+KeepsPass before now = IsLater before.pass now.pass
+
+-- a seat that begins a round has answered nothing and passed over no line; it has learnt what is published where it is
+-- ready, and else was not told of it
 pub record HasBegun (floor : List Entry) (before now : DeskSeen) : Type 0 where
   pub fresh : now.answers ≡ []
   pub unasked : now.unasked ≡ []
   pub stays : StaysSeat before now
+  pub later : KeepsPass before now
+  pub told : IsTrue now.ready → IsPrefix floor (seen_of now.pass)
   pub untold : IsFalse now.ready → IsUntold before.pass now.pass floor
 
 -- what it has answered
@@ -185,6 +215,21 @@ pub record HasPassedOver (place : ℕ) (before now : DeskSeen) : Type 0 where
 pub record HasWorked (opening : Basis) (round : ReadRound) (before now : DeskSeen) : Type 0 where
   pub answered : HasAnswered opening round.reads now
   pub served : HasServed round.reads (share before.seats before.seat round.dealt) before now
+
+-- Why a seat is not ready when it has done its work: as it began it was not told of what was published, or later there was
+-- no copy to enter for a line.
+pub record IsExcused (note : List Entry) (before now : DeskSeen) : Type 0 where
+  pub begun : Option PassSeen
+  pub learning : IsLater before.pass begun
+  pub later : IsLater begun now.pass
+  pub cause : IsUntold before.pass begun note ⊎ HadNoCopy begun now.pass
+
+abbrev pub IsReadyOrExcused : List Entry → DeskSeen → DeskSeen → Type 0
+IsReadyOrExcused note before now = IsFalse now.ready → IsExcused note before now
+
+-- the same of one that may have begun twice, after other notes
+abbrev pub IsReadyOrExcusedBy : List Entry → List Entry → DeskSeen → DeskSeen → Type 0
+IsReadyOrExcusedBy first second before now = IsFalse now.ready → IsExcused first before now ⊎ IsExcused second before now
 
 -- and when the round has ended its answers count, unless it was not told of what is published then
 pub record HasEnded (opening : Basis) (reads : List ReadLine) (end : List Entry) (before now : DeskSeen) : Type 0 where

@@ -6,7 +6,7 @@ ghost use Rattle.lines_ahead.specs.Cut.{IsPlainLine};
 ghost use Rattle.line_spec.specs.Line.{command_of};
 ghost use Rattle.session_rounds.specs.Lines.{IsLine, is_asked, is_asking};
 ghost use Rattle.session_seats.specs.Reading.{PlainReads};
-ghost use Rattle.session_seats.specs.Seats.{HasAnswered, HasBegun, HasEnded, HasPassedOver, HasReadOver, HasServed, IsUntold, is_at_work, seen_of, with_pass};
+ghost use Rattle.session_seats.specs.Seats.{HasAnswered, HasBegun, HasEnded, HasPassedOver, HasReadOver, HasServed, IsUntold, KeepsPass, is_at_work, seen_of, with_pass};
 
 use crate::answer_log::AnswerLog;
 use crate::deal::Deal;
@@ -109,6 +109,7 @@ impl<P: Pair> Desk<P> {
         ensures seen { IsPrefix (seen_of self.old.pass) (seen_of self.new.pass) }
         ensures told { IsTrue result → IsPrefix note (seen_of self.new.pass) }
         ensures untold { IsFalse result → IsUntold self.old.pass self.new.pass note }
+        ensures later { KeepsPass self.old self.new }
         ensures rest { self.new ≡ with_pass self.old self.new.pass }
     {
         let Some(pass) = &mut self.pass else {

@@ -5,7 +5,7 @@ ghost use Rattle.dnr_base.specs.Faults.{HasCauseOf};
 ghost use Rattle.session_laws.specs.Turns.{NoneFell};
 ghost use Rattle.session_rounds.specs.Rounds.{RoundAnswered};
 ghost use Rattle.session_seats.specs.Rounds.{StopsRound, WritesRound};
-ghost use Rattle.session_seats.specs.Seats.{AreSeats, HasAnswered, HasAnsweredAll, HasAnsweredTurns, HasBegun, HasEnded, HasPassedOverAll, asking};
+ghost use Rattle.session_seats.specs.Seats.{AreSeats, HasAnswered, HasAnsweredAll, HasAnsweredTurns, HasBegun, HasEnded, HasPassedOverAll, IsReadyOrExcused, IsReadyOrExcusedBy, KeepsPass, asking};
 ghost use Rattle.session_seats.specs.Writing.{HasWritten, WroteAll};
 
 use crate::deal::Deal;
@@ -135,6 +135,7 @@ fn work_round<R: Threads + Wait + Sync, P: Pair + Send + Sync, H: RegexHost + Se
     ensures wrote { OnOk result (WroteAll P.opening office.old.list lines.now.lines office.new) }
     ensures answered { OnOk result (All (HasAnswered P.opening lines.now.reads) desks.new) }
     ensures turns { OnOk result (All (HasAnsweredTurns lines.now.reads) desks.new) }
+    ensures excused { OnOk result (AllZip (IsReadyOrExcusedBy floor.now office.new.list) desks.old desks.new) }
     ensures count { length desks.new ≡ length desks.old }
     ensures seats { AreSeats (length desks.old) desks.new }
     ensures finders { length finders.new ≡ length finders.old }
@@ -180,6 +181,8 @@ fn work_beside<
     ensures answered { All (HasAnswered P.opening deal.now.reads) desks.new }
     ensures all { All (HasAnsweredAll deal.now) desks.new }
     ensures passed { All (HasPassedOverAll deal.now) desks.new }
+    ensures passes { AllZip KeepsPass desks.old desks.new }
+    ensures excused { AllZip (IsReadyOrExcused floor.now) desks.old desks.new }
     ensures count { length desks.new ≡ length desks.old }
     ensures seats { AreSeats (length desks.old) desks.new }
     ensures finders { length finders.new ≡ length finders.old }
@@ -204,6 +207,7 @@ fn work_anew<R: Threads + Sync, P: Pair + Send + Sync, H: RegexHost + Send, G: G
     requires seats { AreSeats (length desks.old) desks.old }
     ensures answered { All (HasAnswered P.opening deal.now.reads) desks.new }
     ensures all { All (HasAnsweredAll deal.now) desks.new }
+    ensures excused { AllZip (IsReadyOrExcused published.now) desks.old desks.new }
     ensures count { length desks.new ≡ length desks.old }
     ensures seats { AreSeats (length desks.old) desks.new }
     ensures finders { length finders.new ≡ length finders.old }

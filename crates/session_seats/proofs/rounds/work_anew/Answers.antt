@@ -1,6 +1,7 @@
 use Rattle.std.proofs.Common.{length}
 use Rattle.session_rounds.proofs.Whole.{none_fell}
 use Rattle.session_seats.proofs.Answering.{may_work, all_answered, all_answered_all, seats_worked}
+use Rattle.session_seats.proofs.Excuses.{all_excused}
 use Rattle.session_seats.proofs.Parts.{have_begun}
 use Rattle.session_seats.proofs.rounds.work_anew.Goals as goal
 
@@ -15,6 +16,10 @@ returns-clause-answered g c =
 pub returns-clause-all : goal.returns-clause-all
 returns-clause-all g c =
     all_answered_all g.P.Pair.opening c.args.deal.now c.begin_all.new.desks c.seats_with_tools.new.seats (have_begun c.args.published.now c.args.desks.now c.begin_all.new.desks c.begin_all.ensures) c.seats_with_tools.ensures.worked
+
+pub returns-clause-excused : goal.returns-clause-excused
+returns-clause-excused g c =
+    all_excused g.P.Pair.opening c.args.deal.now c.args.published.now c.args.desks.now c.begin_all.new.desks c.seats_with_tools.new.seats c.begin_all.ensures c.seats_with_tools.ensures.worked
 
 pub returns-clause-seats : goal.returns-clause-seats
 returns-clause-seats g c =

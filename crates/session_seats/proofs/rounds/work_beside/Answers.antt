@@ -1,6 +1,7 @@
 use Rattle.std.proofs.Common.{length}
 use Rattle.session_rounds.proofs.Whole.{none_fell}
 use Rattle.session_seats.proofs.Answering.{may_work, all_answered, all_answered_all, all_passed_over, seats_worked, written_from}
+use Rattle.session_seats.proofs.Excuses.{all_excused, all_keep}
 use Rattle.session_seats.proofs.Parts.{have_begun, have_passed_none}
 use Rattle.session_seats.proofs.rounds.work_beside.Goals as goal
 
@@ -23,6 +24,14 @@ returns-clause-all g c =
 pub returns-clause-passed : goal.returns-clause-passed
 returns-clause-passed g c =
     all_passed_over g.P.Pair.opening c.args.deal.now c.begin_all.new.desks c.round_with_tools.new.seats (have_passed_none c.args.floor.now c.args.desks.now c.begin_all.new.desks c.begin_all.ensures) c.round_with_tools.ensures.worked
+
+pub returns-clause-passes : goal.returns-clause-passes
+returns-clause-passes g c =
+    all_keep g.P.Pair.opening c.args.deal.now c.args.floor.now c.args.desks.now c.begin_all.new.desks c.round_with_tools.new.seats c.begin_all.ensures c.round_with_tools.ensures.worked
+
+pub returns-clause-excused : goal.returns-clause-excused
+returns-clause-excused g c =
+    all_excused g.P.Pair.opening c.args.deal.now c.args.floor.now c.args.desks.now c.begin_all.new.desks c.round_with_tools.new.seats c.begin_all.ensures c.round_with_tools.ensures.worked
 
 pub returns-clause-seats : goal.returns-clause-seats
 returns-clause-seats g c =

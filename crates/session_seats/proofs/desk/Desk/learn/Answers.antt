@@ -1,10 +1,11 @@
-use Rattle.std.proofs.Common.{List, Option, sym, ap, subst}
+use Rattle.std.proofs.Common.{List, Option, refl, sym, ap, subst}
 use Rattle.std.proofs.lemmas.Bool.{false≢true}
 use mathlib.Core.List.{IsPrefix}
 use Rattle.published.proofs.Beginnings.{begins_itself}
 use Rattle.published.specs.Pass.{PassSeen}
 use Rattle.session_seats.specs.Seats.{DeskSeen, seen_of}
 use Rattle.session_seats.proofs.Desks.{learns_on, untold_of}
+use Rattle.session_seats.proofs.Served.{later_as, later_of}
 use Rattle.session_seats.proofs.desk.Desk.learn.Goals as goal
 
 pub returns-in_default-clause-seen : goal.returns-in_default-clause-seen
@@ -13,6 +14,9 @@ returns-in_default-clause-seen g c =
 
 pub returns-in_default-clause-told : goal.returns-in_default-clause-told
 returns-in_default-clause-told g c = λ is. absurd (false≢true is)
+
+pub returns-in_default-clause-later : goal.returns-in_default-clause-later
+returns-in_default-clause-later g c = later_as c.args.self.now.pass c.self.inside.pass (ap (λ (desk : DeskSeen). desk.pass) c.self.view_is)
 
 pub returns-clause-seen : goal.returns-clause-seen
 returns-clause-seen g c =
@@ -24,3 +28,7 @@ returns-clause-told g c = c.learn.ensures.told
 pub returns-clause-untold : goal.returns-clause-untold
 returns-clause-untold g c = λ not.
     untold_of c.args.self.now.pass c.self.inside.pass _ c.learn.new.self c.args.note (ap (λ (desk : DeskSeen). desk.pass) c.self.view_is) c.in-Some.is (c.learn.ensures.cause not)
+
+pub returns-clause-later : goal.returns-clause-later
+returns-clause-later g c =
+    later_of c.args.self.now.pass c.self.inside.pass _ _ c.learn.new.self (ap (λ (desk : DeskSeen). desk.pass) c.self.view_is) c.in-Some.is refl c.learn.ensures.later
