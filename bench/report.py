@@ -219,7 +219,7 @@ PHASES = {
     "cut": "lines are cut from the script",
     "ask": "lines that are not plain are asked what they ask for",
     "take": "lines are taken into the round",
-    "answer": "seats answer, the writer updates, and threads are started for them",
+    "answer": "seats answer, the writer updates, and threads are started for them and for cutting",
     "settle": "answers are put in order",
     "write": "they are written",
 }
@@ -230,8 +230,8 @@ def phases_part(rows, of):
 ## What a round takes
 
 Instructions of a line in each phase of the [path of a round](ARCHITECTURE.md#the-path-of-a-round), counted by valgrind's callgrind, by `bench/phases`: some of the requests above, served over the same rules, less a session with an empty script.
-All threads are counted, and in the last row the one alone that serves the script. `answer` is done by all seats beside each other, and so is `ask` where many lines ask for more than a request; all else is done by that one thread, while no seat has work.
-What the compiler put into the loop around the phases is counted with the rest.
+All threads are counted, and in the last row the one alone that serves the script. `answer` is done by all seats beside each other, and a thread of its own does most of `cut` meanwhile, where there are several; all else is done by that one thread, while no seat has work.
+What the loop around the phases does of its own is counted as the rest.
 
 """
     found = {(it["workers"], it["what"]): float(it["instructions"]) for it in rows}

@@ -154,6 +154,7 @@ impl Cutter {
 
 // Cuts lines, behind those that were, until the cut ends or the next line can't be given. It does not go on where it ended
 // before.
+#[inline(never)]
 fn cut_lines<S: Source>(
     alloc: Global,
     lines: &mut Lines,
@@ -193,6 +194,7 @@ fn cut_lines<S: Source>(
 }
 
 // Cuts lines that stand ready whole, behind those that were, and says whether the cut ended with one.
+#[inline(never)]
 fn cut_whole(
     alloc: Global,
     lines: &mut Lines,
@@ -285,6 +287,7 @@ fn move_buffers(alloc: Global, round: &mut RoundLines, buffers: &mut Vec<Vec<u8>
 }
 
 /// Asks the lines that were cut what they ask for, in at most so many threads. Plain lines are left to the seats.
+#[inline(never)]
 pub fn ask_cut<R: Threads + Sync>(rt: &R, alloc: Global, threads: usize, cut: &mut Vec<CutLine>)
     requires { 0 < threads }
     ensures { cut.new.items ≡ cut.old.items }

@@ -13,6 +13,9 @@
 //! turn it is: then the lines are dealt anew, now that it is known which of them ask, and the seats do their work once more.
 //! A request that no seat answered, and one whose answer is ahead of the writer, is decided on the writer's generation.
 //!
+//! The functions that begin a phase of a round are never put into their callers, so that a profile of the program tells what
+//! each phase takes.
+//!
 //! What a round may say stands in `session_spec`, `specs/Answers.antt`; that what seats and writer say is such a round is
 //! the law of `session_rounds`.
 #![tactic(auto)]

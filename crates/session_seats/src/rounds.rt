@@ -118,6 +118,7 @@ fn answer_round<
 // Begins a round after what was published before, and lets all its parts do their work. The seats do theirs once more where
 // lines turn out to ask for no request, so that each request is answered by the seat whose turn it is. A single seat has
 // every turn.
+#[inline(never)]
 fn work_round<R: Threads + Wait + Sync, P: Pair + Send + Sync, H: RegexHost + Send, G: Gate + Sync>(
     rt: &R,
     alloc: Global,

@@ -30,6 +30,7 @@ use std::alloc::Global;
 /// Appends what the lines of a round say, in their order. The round began after `floor`. `latest` has the last number of
 /// each seat, and `counted` how often its host had failed before the round: what is said of its faults beyond that was
 /// counted in the round.
+#[inline(never)]
 pub fn settle<P: Pair, H: RegexHost>(
     alloc: Global,
     floor: &Note<P>,

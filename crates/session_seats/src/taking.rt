@@ -133,6 +133,7 @@ fn serve_line<
 }
 
 // Takes a line into the round, and says whether the round ends with it.
+#[inline(never)]
 fn take_cut<H: RegexHost>(
     alloc: Global,
     line: CutLine,

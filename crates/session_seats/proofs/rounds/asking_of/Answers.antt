@@ -14,12 +14,12 @@ loop-turn-preserved g c =
     turn_asks c.args.lines.now c.args.desks.now c.loop-turn.turn c.index-desks-turn.result place c.passed_over.result c.requires.some c.requires.seats c.requires.passed c.requires.going within
     c.index-desks-turn.is there c.passed_over.ensures in
     elim c.if-not-passed_over.branch [
-      then-not-passed_over+in_ok-push w ↦
-        let none : c.passed_over.result ≡ false = search rules in
-        ap (λ v. v.items) w.asking-is
-        ∙ one_more_asks c.args.lines.now.reads c.dealt-dealt.result.now c.loop-turn.asking.items w.push.new.self.items c.loop-turn.turn place inside refl (asks ∙ ap not none) c.loop-turn.invariant w.in_ok-push.ensures.items
-    | else-not-passed_over w ↦
-        let over : c.passed_over.result ≡ true = search rules in
-        ap (λ v. v.items) w.asking-is
-        ∙ one_more_none c.args.lines.now.reads c.dealt-dealt.result.now c.loop-turn.asking.items c.loop-turn.turn place inside refl (asks ∙ ap not over) c.loop-turn.invariant
+      | then-not-passed_over+in_ok-push w ↦
+          let none : c.passed_over.result ≡ false = search rules in
+          ap (λ v. v.items) w.asking-is
+          ∙ one_more_asks c.args.lines.now.reads c.dealt-dealt.result.now c.loop-turn.asking.items w.push.new.self.items c.loop-turn.turn place inside refl (asks ∙ ap not none) c.loop-turn.invariant w.in_ok-push.ensures.items
+      | else-not-passed_over w ↦
+          let over : c.passed_over.result ≡ true = search rules in
+          ap (λ v. v.items) w.asking-is
+          ∙ one_more_none c.args.lines.now.reads c.dealt-dealt.result.now c.loop-turn.asking.items c.loop-turn.turn place inside refl (asks ∙ ap not over) c.loop-turn.invariant
     ]

@@ -15,14 +15,14 @@ returns-then-desks-eq1-clause-turns g c =
     let answered : All (HasAnsweredAll c.args.lines.now) c.work_beside.new.desks = subst (λ (r : ReadRound). All (HasAnsweredAll r) c.work_beside.new.desks) same c.work_beside.ensures.all in
     let passed : All (HasPassedOverAll c.args.lines.now) c.work_beside.new.desks = subst (λ (r : ReadRound). All (HasPassedOverAll r) c.work_beside.new.desks) same c.work_beside.ensures.passed in
     elim c.then-desks-eq1.branch [
-      then-desks-eq1-via-then-desks-eq1 w ↦
-        let one : length c.work_beside.new.desks ≡ 1 = search rules in
-        turns_single c.args.lines.now c.work_beside.new.desks (length c.args.desks.now) (sym c.work_beside.ensures.count ∙ one) (sym c.work_beside.ensures.count) c.dealt.ensures.reads c.dealt.ensures.all
-        c.work_beside.ensures.seats answered
-    | then-desks-eq1-via-else-desks-eq1+then-not-have_passed_over w ↦
-        let none : w.have_passed_over.result ≡ false = search rules in
-        turns_unpassed c.args.lines.now c.work_beside.new.desks (omega (arith, c.requires.some, c.work_beside.ensures.count)) c.dealt.ensures.reads c.dealt.ensures.all
-        (subst (λ (n : ℕ). AreSeats n c.work_beside.new.desks) (sym c.work_beside.ensures.count) c.work_beside.ensures.seats) passed (c.have_stopped.ensures c.if-have_stopped.false) (w.have_passed_over.ensures none) answered
+      | then-desks-eq1-via-then-desks-eq1 w ↦
+          let one : length c.work_beside.new.desks ≡ 1 = search rules in
+          turns_single c.args.lines.now c.work_beside.new.desks (length c.args.desks.now) (sym c.work_beside.ensures.count ∙ one) (sym c.work_beside.ensures.count) c.dealt.ensures.reads c.dealt.ensures.all
+          c.work_beside.ensures.seats answered
+      | then-desks-eq1-via-else-desks-eq1+then-not-have_passed_over w ↦
+          let none : w.have_passed_over.result ≡ false = search rules in
+          turns_unpassed c.args.lines.now c.work_beside.new.desks (omega (arith, c.requires.some, c.work_beside.ensures.count)) c.dealt.ensures.reads c.dealt.ensures.all
+          (subst (λ (n : ℕ). AreSeats n c.work_beside.new.desks) (sym c.work_beside.ensures.count) c.work_beside.ensures.seats) passed (c.have_stopped.ensures c.if-have_stopped.false) (w.have_passed_over.ensures none) answered
     ]
 
 pub returns-then-desks-eq1-clause-excused : goal.returns-then-desks-eq1-clause-excused
