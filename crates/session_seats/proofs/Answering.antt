@@ -1,5 +1,5 @@
 -- A round, from what its parts do to what is written of it.
-use Rattle.std.proofs.Common.{◌≡◌, ◌<◌, ◌≤◌, ◌∙◌, ◌++◌, ℕ, List, [], ◌∷◌, length, get_or, replicate, false, Option, Result, Ok, Err, OnOk, refl, sym, ap, subst, arith, length-append, All}
+use Rattle.std.proofs.Common.{◌≡◌, ◌<◌, ◌≤◌, ◌∙◌, ◌++◌, ℕ, List, [], ◌∷◌, length, get_or, replicate, Option, Result, Ok, Err, OnOk, refl, sym, ap, subst, arith, length-append, All}
 use Rattle.std.specs.List.{AllZip}
 use Rattle.std.specs.Io.KnownBytes.{Appends}
 use Rattle.std.proofs.lemmas.List.{get_or-replicate, length-replicate}

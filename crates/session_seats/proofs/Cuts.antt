@@ -1,6 +1,5 @@
 -- Lines that are cut from a source ahead of their turn.
 use Rattle.std.proofs.Common.{◌≡◌, ℕ, ◌+◌, ◌-◌, ◌≤◌, List, [], ◌∷◌, ◌++◌, length, Bool, true, false, Option, Some, None, Result, Ok, Err, refl, sym, ap, ◌∙◌, subst, arith, append_assoc, append-nil, length-append, take, drop, take_all, drop_of_length-le}
-use Rattle.std.proofs.lemmas.List.{map-append}
 use Rattle.std.specs.Prelude.{IfSome, IsErrAnd, IsTrue, IsFalse}
 use Rattle.std.specs.Io.KnownBytes.{IsAtEnd}
 use Rattle.dnr_io.proofs.ReadSoFar.{ReadSoFar, one_read}
@@ -10,7 +9,7 @@ use Rattle.dnr_io.specs.declared.line_refusal.LineRefusal.TheVariants as refusal
 use Rattle.dnr_spec.specs.Lines.{max_line, max_lines}
 use Rattle.lines_ahead.specs.Cut.{CutSeen}
 use Rattle.session_serve.proofs.Short.{ended_on}
-use Rattle.session_seats.specs.Cutting.{AreCut, CutsLines, CutsReady, CutterSeen, EndsAtSync, bytes_of, given_by, GivesLines, FollowOn, StandsBehind}
+use Rattle.session_seats.specs.Cutting.{AreCut, CutsLines, CutsReady, CutterSeen, EndsAtSync, bytes_of, GivesLines, FollowOn, StandsBehind}
 
 -- ---- one line more
 

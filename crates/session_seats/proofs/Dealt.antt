@@ -1,6 +1,6 @@
 -- The lines that are dealt to seats, and those of them that ask one.
 use Rattle.std.proofs.Common.{◌≡◌, ◌<◌, ◌≤◌, ◌+◌, ◌-◌, ◌*◌, ◌/◌, ◌%◌, ◌⊎◌, ◌∙◌, ◌++◌, ℕ, zero, suc, List, [], ◌∷◌, length, get_or, drop, take, append-nil, cond, not, Bool, true, false, refl, sym, ap, subst, inl, inr, ⊎_elim, arith, add-zero, zero-add, All}
-use Rattle.std.specs.Prelude.{IsFalse, nat_eq, ◌||◌}
+use Rattle.std.specs.Prelude.{IsFalse, nat_eq}
 use Rattle.std.specs.List.{filter, list_any}
 use Rattle.std.proofs.Math.Nat.{mod-add-div, mul-suc}
 use Rattle.std.proofs.lemmas.Bool.{cases_Bool, eq-eqb, eqb-true, or_cases, or_left, or_right, true≢false}
@@ -9,7 +9,7 @@ use Rattle.std.proofs.lemmas.List.Elements.{filter-append, All-get_or, All-push,
 use Rattle.session_rounds.specs.Lines.{is_asking}
 use Rattle.session_rounds.specs.declared.read_line.ReadLine.{ReadLine}
 use Rattle.session_serve.proofs.Told.{turn_inside}
-use Rattle.session_seats.specs.Reading.{ReadRound, asking_from, dealt_at, dealt_from, is_dealt, seen_line, seen_lines, with_dealt}
+use Rattle.session_seats.specs.Reading.{ReadRound, asking_from, dealt_at, dealt_from, seen_line, seen_lines, with_dealt}
 use Rattle.session_seats.specs.Seats.{AreSeats, AreSeatsFrom, DeskSeen, HasAnsweredAll, HasAnsweredTurns, HasPassedOverAll, asks_at, asking, share, unasking}
 use Rattle.session_seats.specs.declared.round_line.RoundLine.{RoundLine}
 use Rattle.session_seats.specs.declared.round_line.RoundLine.TheVariants as round

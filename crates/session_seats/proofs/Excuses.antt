@@ -1,10 +1,10 @@
 -- Why a seat is not ready when it has done its work.
-use Rattle.std.proofs.Common.{◌≡◌, ◌≤◌, ◌<◌, ◌⊎◌, List, [], ◌∷◌, length, true, false, Option, Some, None, inl, inr, ⊎_elim, arith}
+use Rattle.std.proofs.Common.{◌≡◌, ◌≤◌, ◌<◌, List, [], ◌∷◌, length, true, false, Option, Some, None, inl, inr, ⊎_elim, arith}
 use Rattle.std.specs.List.{AllZip}
 use Rattle.std.proofs.lemmas.Bool.{cases_Bool}
 use Rattle.dnr_base.specs.Faults.{Rose}
 use Rattle.generation.specs.Basis.{Basis}
-use Rattle.published.specs.Pass.{PassSeen, IsBehind}
+use Rattle.published.specs.Pass.{PassSeen}
 use Rattle.update_spec.specs.Entries.{Entry}
 use Rattle.session_seats.specs.Reading.{ReadRound}
 use Rattle.session_seats.specs.Seats.{DeskSeen, HasBegun, HasWorked, IsExcused, IsLater, IsReadyOrExcused, IsReadyOrExcusedBy, IsUntold, KeepsPass}

@@ -1,5 +1,5 @@
 -- What a pass answers to a line that asks a seat.
-use Rattle.std.proofs.Common.{◌≡◌, ℕ, List, [], ◌∷◌, ◌++◌, length, true, Ok, Err, Result, refl, ap, rules}
+use Rattle.std.proofs.Common.{◌≡◌, ℕ, List, [], ◌∷◌, ◌++◌, length, true, Ok, Err, Result, refl, ap}
 use Rattle.std.proofs.lemmas.Bool.{false≢true}
 use Rattle.dnr_base.specs.declared.rule_name.RuleName.{RuleName}
 use Rattle.generation.specs.Basis.{Basis}
@@ -12,7 +12,7 @@ use Rattle.session_spec.specs.Said.{answer_line}
 use Rattle.update_spec.specs.Entries.{Entry, replay}
 use Rattle.session_seats.specs.Seats.{SaysAt}
 use Rattle.session_seats.specs.Said.{Said}
-use Rattle.session_seats.specs.Told.{IsTold, SaysMore, answer_of, number_of, said_of}
+use Rattle.session_seats.specs.Told.{IsTold, SaysMore, answer_of, said_of}
 use Rattle.session_seats.specs.declared.told.Told.{Told}
 use Rattle.session_seats.specs.declared.told.Told.TheVariants as told
 

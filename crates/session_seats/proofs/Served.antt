@@ -1,5 +1,5 @@
 -- A seat that serves the lines of its share, one after another.
-use Rattle.std.proofs.Common.{◌≡◌, ◌⊎◌, ◌<◌, ◌≤◌, ◌-◌, ◌+◌, ◌++◌, ℕ, zero, suc, List, [], ◌∷◌, length, drop, get_or, min, leb, Bool, true, false, cond, not, ◌&&◌, Option, Some, None, Result, refl, sym, ap, ◌∙◌, subst, ⊎_elim, arith, append-nil, append_assoc}
+use Rattle.std.proofs.Common.{◌≡◌, ◌<◌, ◌≤◌, ◌-◌, ◌+◌, ◌++◌, ℕ, zero, suc, List, [], ◌∷◌, length, drop, get_or, min, leb, Bool, true, false, cond, not, ◌&&◌, Option, Some, None, Result, refl, sym, ap, ◌∙◌, subst, ⊎_elim, arith, append-nil, append_assoc}
 use Rattle.std.specs.Prelude.{IsTrue, IsFalse}
 use Rattle.std.proofs.lemmas.Bool.{cases_Bool, true≢false, leb-true, leb-false}
 use Rattle.std.proofs.lemmas.List.{map_push}

@@ -18,7 +18,7 @@ use Rattle.update_spec.specs.Entries.{Entry}
 use Rattle.session_seats.specs.Cutting.{AreCut, bytes_of, FollowOn, CutsLines, StandsBehind}
 use Rattle.session_seats.specs.Reading.{ReadRound, ReadsLine, nothing_read}
 use Rattle.session_seats.specs.Rounds.{WritesRound, StopsRound}
-use Rattle.session_seats.specs.Taking.{AreShort, Standing, standing, GoesOn, EndsRound, TakesLine, TakesLines, StopsLine, StopsLines}
+use Rattle.session_seats.specs.Taking.{AreShort, Standing, standing, GoesOn, EndsRound, TakesLine, TakesLines, StopsLine, StopsLines, StopsServing}
 use Rattle.session_seats.proofs.SoFar.{SoFar, line_more, whole_round_more}
 use Rattle.session_seats.proofs.Queues.{lines_cut}
 use Rattle.session_seats.proofs.Endings.{without_memory, stops_serving}
@@ -164,7 +164,7 @@ all_taken opening seats from here (line ∷ lines) all none done = absurd (omega
 pub stopped_at : (opening : Basis) (seats many : ℕ) (from here : Standing) (now : Option (List ℕ)) (is : ℕ) (others : List ℕ) (cause : ServeStop) (result : Result (Unit {0}) ServeStop) (line : CutSeen) (lines left all : List CutSeen)
     → IsErrAnd result (λ e. e ≡ cause) → many ≡ seats → lines ≡ line ∷ left → StopsLine opening many line here now is others cause
     → ((now : Option (List ℕ)) (is : ℕ) (others : List ℕ) (why : ServeStop) → StopsLines opening seats here now is others why lines → StopsLines opening seats from now is others why all)
-    → IfErr result (λ why. StopsLines opening seats from now is others why all)
+    → StopsServing opening seats from now is others all result
 stopped_at opening seats many from here now is others cause (Ok done) line lines left all why same first stops on = tt
 stopped_at opening seats many from here now is others cause (Err e) line lines left all why same first stops on =
     on now is others e (subst (λ (ls : List CutSeen). StopsLines opening seats here now is others e ls) (sym first)

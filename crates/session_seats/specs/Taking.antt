@@ -1,5 +1,5 @@
 -- Lines that were cut, taken into their rounds one after another.
-use Rattle.std.specs.Prelude.{◌≡◌, ◌⊎◌, ℕ, ◌≤◌, List, [], ◌∷◌, length, true, false, Option}
+use Rattle.std.specs.Prelude.{◌≡◌, ◌⊎◌, ℕ, ◌≤◌, List, [], ◌∷◌, length, true, false, Option, Result, Ok, Err}
 use Rattle.dnr_spec.specs.Lines.{max_line}
 use Rattle.generation.specs.Basis.{Basis}
 use Rattle.lines_ahead.specs.Cut.{CutSeen}
@@ -85,3 +85,8 @@ StopsLines opening seats from now is others why [] = ⊥
 StopsLines opening seats from now is others why (line ∷ lines) =
     StopsLine opening seats line from now is others why
     ⊎ ((at : Standing) × TakesLine opening seats line from at × StopsLines opening seats at now is others why lines)
+
+-- what serving the lines gives is a cause for which one of them is not served, if it is any
+abbrev pub StopsServing : Basis → ℕ → Standing → Option (List ℕ) → ℕ → List ℕ → List CutSeen → Result (Unit {0}) ServeStop → Type 0
+StopsServing opening seats from now is others lines (Ok done) = Unit {0}
+StopsServing opening seats from now is others lines (Err why) = StopsLines opening seats from now is others why lines

@@ -1,11 +1,11 @@
 //! A script, served from its first line to its last by seats beside a writer.
-ghost use Rattle.std.specs.Prelude.{◌≡◌, ◌<◌, ◌≤◌, ◌∷◌, [], false, length, map, is_some, IfOk, IfErr, IfSome, OnOk, vec_len};
+ghost use Rattle.std.specs.Prelude.{◌≡◌, ◌<◌, ◌≤◌, ◌∷◌, [], false, length, map, is_some, IfOk, IfSome, OnOk, vec_len};
 ghost use Rattle.dnr_base.specs.Faults.{HasCauseOf};
 ghost use Rattle.session_laws.specs.Turns.{NoneFell, counts_between};
 ghost use Rattle.session_rounds.specs.Read.{serving};
 ghost use Rattle.session_seats.specs.Cutting.{CutsReady};
 ghost use Rattle.session_seats.specs.Seats.{AreSeats, HavePasses};
-ghost use Rattle.session_seats.specs.Taking.{AreShort, StopsLines, TakesLines, standing};
+ghost use Rattle.session_seats.specs.Taking.{AreShort, StopsServing, TakesLines, standing};
 ghost use Rattle.session_serve.specs.Serving.{EndsServing};
 ghost use Rattle.session_spec.specs.Rounds.{is_full};
 
@@ -291,9 +291,9 @@ fn serve_beside<
         (standing (O.taken out.old) (H.faults checker.old) (map H.faults finders.old) round.old office.old.list)
         (standing (O.taken out.new) (H.faults checker.new) (map H.faults finders.new) round.new office.new.list)
         cut.old.items) }
-    ensures stops { IfErr result (λ why. StopsLines P.opening (length desks.old)
+    ensures stops { StopsServing P.opening (length desks.old)
         (standing (O.taken out.old) (H.faults checker.old) (map H.faults finders.old) round.old office.old.list)
-        (O.taken out.new) (H.faults checker.new) (map H.faults finders.new) why cut.old.items) }
+        (O.taken out.new) (H.faults checker.new) (map H.faults finders.new) cut.old.items result }
     ensures idle { OnOk result (office.new.staged ≡ []) }
     ensures room { OnOk result (is_full round.new.held ≡ false) }
     ensures count { length desks.new ≡ length desks.old }

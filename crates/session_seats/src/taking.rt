@@ -5,7 +5,7 @@ ghost use Rattle.session_laws.specs.Turns.{NoneFell};
 ghost use Rattle.session_spec.specs.Rounds.{ends_round, is_full, with_line};
 ghost use Rattle.session_seats.specs.Reading.{ReadsLine};
 ghost use Rattle.session_seats.specs.Seats.{AreSeats};
-ghost use Rattle.session_seats.specs.Taking.{AreShort, IsShort, StopsLine, StopsLines, TakesLine, TakesLines, standing};
+ghost use Rattle.session_seats.specs.Taking.{AreShort, IsShort, StopsLine, StopsServing, TakesLine, TakesLines, standing};
 
 use crate::desk::Desk;
 use crate::office::Office;
@@ -61,9 +61,9 @@ pub fn serve_cut<
         (standing (O.taken out.old) (H.faults checker.old) (map H.faults finders.old) round.old office.old.list)
         (standing (O.taken out.new) (H.faults checker.new) (map H.faults finders.new) round.new office.new.list)
         cut.old.items) }
-    ensures stops { IfErr result (λ why. StopsLines P.opening (length desks.old)
+    ensures stops { StopsServing P.opening (length desks.old)
         (standing (O.taken out.old) (H.faults checker.old) (map H.faults finders.old) round.old office.old.list)
-        (O.taken out.new) (H.faults checker.new) (map H.faults finders.new) why cut.old.items) }
+        (O.taken out.new) (H.faults checker.new) (map H.faults finders.new) cut.old.items result }
     ensures idle { OnOk result (office.new.staged ≡ []) }
     ensures room { OnOk result (is_full round.new.held ≡ false) }
     ensures count { length desks.new ≡ length desks.old }

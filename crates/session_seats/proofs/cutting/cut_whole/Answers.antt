@@ -1,4 +1,4 @@
-use Rattle.std.proofs.Common.{◌∷◌, ◌++◌, [], refl, ap, ◌∙◌, List, Option, ℕ, length, length-append, arith}
+use Rattle.std.proofs.Common.{◌∷◌, ◌++◌, [], refl, ap, ◌∙◌, List, length, length-append, arith}
 use Rattle.dnr_io.specs.Lines.{ahead}
 use Rattle.lines_ahead.specs.Cut.{CutSeen}
 use Rattle.session_seats.proofs.Cuts.{are_cut_more, cuts_none, cuts_one_more, cuts_so, ended_cut, ended_yet}

@@ -1,4 +1,3 @@
-use Rattle.std.proofs.Common.{◌∙◌}
 use Rattle.session_seats.proofs.Syncs.{ends_at_sync, no_sync_more}
 use Rattle.session_seats.proofs.cutting.take_in.Goals as goal
 

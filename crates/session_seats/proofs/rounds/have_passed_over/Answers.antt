@@ -1,5 +1,3 @@
-use Rattle.std.proofs.Common.{◌+◌, ◌∙◌, length, take, sym, subst, All}
-use Rattle.std.proofs.lemmas.List.{take_all}
 use Rattle.session_seats.proofs.Dealt.{HasPassedNone, all_on, all_whole}
 use Rattle.session_seats.proofs.rounds.have_passed_over.Goals as goal
 

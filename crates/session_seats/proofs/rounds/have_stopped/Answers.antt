@@ -1,5 +1,4 @@
-use Rattle.std.proofs.Common.{◌+◌, ◌∙◌, length, take, sym, subst, All}
-use Rattle.std.proofs.lemmas.List.{take_all}
+use Rattle.std.proofs.Common.{◌∙◌, sym}
 use Rattle.session_seats.proofs.Dealt.{IsGoing, all_on, all_whole}
 use Rattle.session_seats.proofs.rounds.have_stopped.Goals as goal
 

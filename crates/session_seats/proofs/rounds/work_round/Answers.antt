@@ -1,4 +1,4 @@
-use Rattle.std.proofs.Common.{◌≡◌, ◌<◌, ◌∙◌, ℕ, List, length, map, true, false, sym, subst, arith, rules, All}
+use Rattle.std.proofs.Common.{◌≡◌, ◌∙◌, ℕ, List, length, map, false, sym, subst, arith, rules, All}
 use Rattle.std.specs.List.{AllZip}
 use Rattle.update_spec.specs.Entries.{Entry}
 use Rattle.session_laws.proofs.Rises.{none_fell_on}

@@ -1,4 +1,4 @@
-use Rattle.std.proofs.Common.{◌≡◌, ◌++◌, ◌∷◌, [], List, Option, length, vec_len, ap, sym, subst, arith}
+use Rattle.std.proofs.Common.{List, Option, length, vec_len, ap, sym, subst, arith}
 use Rattle.std.specs.Prelude.{IsSome}
 use Rattle.std.proofs.lemmas.List.{length_push}
 use Rattle.published.specs.Pass.{PassSeen}

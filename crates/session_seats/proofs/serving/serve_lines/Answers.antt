@@ -1,4 +1,4 @@
-use Rattle.std.proofs.Common.{◌≡◌, [], Ok, Err, ℕ, ◌∷◌, List, Option, length, map, ap, sym, ◌∙◌, rules, arith, refl, subst, false}
+use Rattle.std.proofs.Common.{◌≡◌, Ok, Err, ◌∷◌, length, map, ap, sym, ◌∙◌, arith, refl, subst, false}
 use Rattle.std.specs.Io.KnownBytes.{IsAtEnd}
 use Rattle.dnr_io.specs.Lines.{AreEnded, Reading, ahead}
 use Rattle.session_laws.proofs.Rises.{none_fell_on, none_fell_yet}

@@ -1,4 +1,4 @@
-use Rattle.std.proofs.Common.{◌+◌, ◌++◌, ◌≡◌, ap, sym, ◌∙◌, refl, string_bytes, true, false}
+use Rattle.std.proofs.Common.{◌+◌, ◌++◌, ap, sym, ◌∙◌, refl, string_bytes}
 use Rattle.session_seats.specs.Reading.{seen_line}
 use Rattle.session_seats.specs.Said.{Said}
 use Rattle.session_seats.proofs.Settled.{stands_calm, stands_failed}

@@ -1,4 +1,4 @@
-use Rattle.std.proofs.Common.{◌≡◌, ◌∙◌, ◌++◌, ◌∷◌, [], ℕ, ◌-◌, List, Bool, length, refl, ap, arith, string_bytes, length-append}
+use Rattle.std.proofs.Common.{◌≡◌, ◌∙◌, ◌++◌, ◌∷◌, [], ℕ, ◌-◌, List, Bool, length, ap, arith, string_bytes, length-append}
 use Rattle.session_spec.specs.Said.{answer_line}
 use Rattle.session_seats.specs.declared.answer_log.Mark.{Mark}
 use Rattle.session_seats.specs.Said.{Said}

@@ -1,4 +1,4 @@
-use Rattle.std.proofs.Common.{List, Option, refl, sym, ap, subst}
+use Rattle.std.proofs.Common.{Option, refl, sym, ap, subst}
 use Rattle.std.proofs.lemmas.Bool.{false≢true}
 use mathlib.Core.List.{IsPrefix}
 use Rattle.published.proofs.Beginnings.{begins_itself}

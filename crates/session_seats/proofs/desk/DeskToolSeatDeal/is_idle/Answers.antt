@@ -1,4 +1,4 @@
-use Rattle.std.proofs.Common.{◌≤◌, ℕ, List, length, ap, subst, arith}
+use Rattle.std.proofs.Common.{◌≤◌, length, ap, arith}
 use Rattle.session_seats.specs.Seats.{DeskSeen}
 use Rattle.session_seats.proofs.Desks.{none_answered}
 use Rattle.session_seats.proofs.Served.{share_empty}

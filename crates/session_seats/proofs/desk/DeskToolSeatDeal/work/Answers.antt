@@ -1,4 +1,4 @@
-use Rattle.std.proofs.Common.{◌<◌, ◌^◌, ◌-◌, ◌+◌, ◌≡◌, ℕ, List, min, length, refl, sym, ap, ◌∙◌, subst, arith}
+use Rattle.std.proofs.Common.{◌<◌, ◌^◌, ◌-◌, ◌+◌, ◌≡◌, ℕ, List, min, length, refl, sym, ap, subst, arith}
 use Rattle.session_seats.specs.Seats.{DeskSeen, HasServed, share}
 use Rattle.session_seats.proofs.Desks.{none_answered, turns_on}
 use Rattle.session_seats.proofs.Served.{ServesShare, share_begins, share_on, share_served}
