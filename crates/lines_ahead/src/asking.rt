@@ -12,7 +12,7 @@ const FEW: usize = 64;
 /// Asks the lines what they ask for, in at most so many threads. They are cut into runs of lines that follow each other,
 /// one run a thread, since most requests are asked by whoever asked before.
 ///
-/// Plain lines, few others, and all lines where there is one thread, are left as they are.
+/// Plain lines, those that were asked, few others, and all lines where there is one thread, are left as they are.
 pub fn ask_all<R: Threads + Sync>(rt: &R, alloc: Global, threads: usize, lines: &mut [CutLine])
     requires { 0 < threads }
     ensures { lines.new ≡ lines.old }
@@ -23,9 +23,9 @@ pub fn ask_all<R: Threads + Sync>(rt: &R, alloc: Global, threads: usize, lines: 
     }
 }
 
-// Whether they are worth threads: whoever answers a plain line asks it.
+// Whether they are worth threads.
 fn are_many(lines: &[CutLine]) -> bool {
-    FEW <= lines.iter().filter(|line| !line.is_plain()).count()
+    FEW <= lines.iter().filter(|line| line.wants_asking()).count()
 }
 
 // Asks each run of so many lines in a thread of its own.
@@ -36,13 +36,13 @@ fn ask_runs<R: Threads + Sync>(rt: &R, alloc: Global, size: usize, lines: &mut [
     for_each_chunk_mut(rt, lines, size, &|_, run| ask_run(alloc, run));
 }
 
-// Asks lines that follow each other.
-fn ask_run(alloc: Global, lines: &mut [CutLine])
+/// Asks lines that follow each other, one after another, but for plain ones and those that were asked.
+pub fn ask_run(alloc: Global, lines: &mut [CutLine])
     ensures { lines.new ≡ lines.old }
 {
     let mut memo = Memo::new(alloc);
     for line in lines.iter_mut() {
-        if !line.is_plain() {
+        if line.wants_asking() {
             line.ask(alloc, &mut memo);
         }
     }

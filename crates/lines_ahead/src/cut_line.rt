@@ -106,6 +106,11 @@ impl CutLine {
         }
     }
 
+    /// Whether it is worth asking: it isn't plain, since whoever answers a plain line asks it, and wasn't asked before.
+    pub fn wants_asking(&self) -> bool {
+        !self.plain && self.asked.is_none()
+    }
+
     /// Asks the line what it asks for, so that `finish` has less to do. It needs no pattern host. Where memory runs out,
     /// the line is as one that was not asked.
     pub fn ask(&mut self, alloc: Global, memo: &mut Memo)

@@ -6,6 +6,6 @@ mod asking;
 mod cut_line;
 mod plain;
 
-pub use asking::ask_all;
+pub use asking::{ask_all, ask_run};
 pub use cut_line::CutLine;
 pub use plain::PlainSearch;

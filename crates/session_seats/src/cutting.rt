@@ -7,7 +7,7 @@ ghost use Rattle.session_seats.specs.Cutting.{AreCut, AreNoSync, CutsLines, Cuts
 
 use crate::round_lines::{Room, RoundLines};
 use dnr_io::{LineRefusal, Lines, NoMemory, Source};
-use lines_ahead::{CutLine, PlainSearch, ask_all};
+use lines_ahead::{CutLine, PlainSearch, ask_all, ask_run};
 use std::alloc::Global;
 use std::marker::Model;
 use std::mem::replace;
@@ -102,7 +102,8 @@ impl Cutter {
     }
 
     /// Cuts on out of what was read and not yet given, and asks no source: to the end of a whole round, or until no line
-    /// stands there whole. Where memory runs out it leaves the rest to `cut`.
+    /// stands there whole. Where memory runs out it leaves the rest to `cut`. Lines that are not plain are asked what they
+    /// ask for.
     pub fn cut_ready(&mut self, alloc: Global)
         requires none { self.old.lines ≡ [] }
         ensures { CutsReady self.old self.new }
@@ -114,6 +115,7 @@ impl Cutter {
             &mut self.cut,
             self.whole,
         );
+        ask_run(alloc, &mut self.cut);
     }
 
     /// Hands over the lines that were cut.
