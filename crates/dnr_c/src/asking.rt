@@ -20,11 +20,13 @@ pub(crate) fn asked(
     line: &[u8],
     out: &mut [u8],
 ) -> (Seat, Told)
-    ensures answered { result.1.code ≡ codes.done → Answered seat.handle.engine number line.now (take result.1.length out.new) result.0.handle.engine }
+    ensures answered { result.1.code ≡ codes.done → Answered seat.handle.engine number line.now
+        (take result.1.length out.new) result.0.handle.engine }
     ensures within { result.1.code ≡ codes.done → result.1.length ≤ length_of out.new }
     ensures stays { result.1.code ≢ codes.done → Keeps seat.handle.engine result.0.handle.engine }
     ensures untouched { result.1.code ≢ codes.done → out.new ≡ out.old }
-    ensures room { result.1.code ≡ codes.no_room → LacksRoom seat.handle.engine number line.now result.1.length (length_of out.old) }
+    ensures room { result.1.code ≡ codes.no_room → LacksRoom seat.handle.engine number line.now result.1.length
+        (length_of out.old) }
     ensures closed { (result.1.code ≡ codes.is_closed) ↔ (seat.handle.engine ≡ None) }
 {
     if !seat.is_open {
@@ -43,11 +45,13 @@ pub(crate) fn asked(
 }
 
 fn ask(engine: &mut Engine, alloc: Global, number: u32, line: &[u8], out: &mut [u8]) -> Told
-    ensures answered { result.code ≡ codes.done → Answers engine.old number line.now (take result.length out.new) engine.new }
+    ensures answered { result.code ≡ codes.done → Answers engine.old number line.now
+        (take result.length out.new) engine.new }
     ensures within { result.code ≡ codes.done → result.length ≤ length_of out.new }
     ensures stays { result.code ≢ codes.done → Stays engine.old engine.new }
     ensures untouched { result.code ≢ codes.done → out.new ≡ out.old }
-    ensures room { result.code ≡ codes.no_room → TakesMore engine.old number line.now result.length (length_of out.old) }
+    ensures room { result.code ≡ codes.no_room → TakesMore engine.old number line.now result.length
+        (length_of out.old) }
     ensures open { result.code ≢ codes.is_closed }
 {
     match engine.ask(alloc, number, line, out) {

@@ -55,8 +55,10 @@ pub(crate) fn decided(
     changes: &mut [ShownChange],
     out: &mut [u8],
 ) -> (Seat, Judged)
-    ensures decided { result.1.code ≡ codes.done → spec.DecidedBy seat.handle.engine request.now result.1.verdict out.new changes.new }
-    ensures room { result.1.code ≡ codes.no_room → spec.LacksPlace seat.handle.engine request.now result.1.verdict (length_of out.old) (length_of changes.old) }
+    ensures decided { result.1.code ≡ codes.done
+        → spec.DecidedBy seat.handle.engine request.now result.1.verdict out.new changes.new }
+    ensures room { result.1.code ≡ codes.no_room → spec.LacksPlace seat.handle.engine request.now result.1.verdict
+        (length_of out.old) (length_of changes.old) }
     ensures bad { codes.host_fault < result.1.code → spec.IsBad request.now result.1.code }
     ensures fault { result.1.code ≡ codes.host_fault → spec.HostFailed seat.handle.engine result.0.handle.engine }
     ensures stays { Keeps seat.handle.engine result.0.handle.engine }
@@ -86,8 +88,10 @@ fn decide(
     changes: &mut [ShownChange],
     out: &mut [u8],
 ) -> Judged
-    ensures decided { result.code ≡ codes.done → spec.Decided engine.old request.now result.verdict out.new changes.new }
-    ensures room { result.code ≡ codes.no_room → spec.Lacks engine.old request.now result.verdict (length_of out.old) (length_of changes.old) }
+    ensures decided { result.code ≡ codes.done
+        → spec.Decided engine.old request.now result.verdict out.new changes.new }
+    ensures room { result.code ≡ codes.no_room → spec.Lacks engine.old request.now result.verdict (length_of out.old)
+        (length_of changes.old) }
     ensures bad { codes.host_fault < result.code → spec.IsBad request.now result.code }
     ensures fault { result.code ≡ codes.host_fault → spec.Failed engine.old engine.new }
     ensures stays { Stays engine.old engine.new }
@@ -113,7 +117,8 @@ fn shown(
     out: &mut [u8],
 ) -> Judged
     ensures shown { result.code ≡ codes.done → spec.IsShown generation verdict.now result.verdict out.new changes.new }
-    ensures room { result.code ≡ codes.no_room → spec.TakesMoreFor generation verdict.now result.verdict (length_of out.old) (length_of changes.old) }
+    ensures room { result.code ≡ codes.no_room → spec.TakesMoreFor generation verdict.now result.verdict
+        (length_of out.old) (length_of changes.old) }
     ensures untouched { result.code ≢ codes.done → out.new ≡ out.old }
     ensures unchanged { result.code ≢ codes.done → changes.new ≡ changes.old }
     ensures known { (result.code ≢ codes.is_closed) × (result.code < codes.host_fault) }

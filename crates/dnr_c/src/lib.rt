@@ -46,10 +46,12 @@ pub extern "C" fn dnr_open(
     out: &mut [u8],
     length: &mut usize,
 ) -> u32
-    ensures opened { result ≡ codes.done → Opened (task_of (from_c.words_of words.now)) (from_c.files_of files.now) seat.new.handle.engine }
+    ensures opened { result ≡ codes.done → Opened (task_of (from_c.words_of words.now))
+        (from_c.files_of files.now) seat.new.handle.engine }
     ensures same { result ≢ codes.done → seat.new.handle.engine ≡ seat.old.handle.engine }
     ensures is_opened { (result ≡ codes.is_opened) ↔ (seat.old.handle.engine ≢ None) }
-    ensures refused { result ≢ codes.done → result ≢ codes.is_opened → IsRefused words.now files.now result length.new out.new }
+    ensures refused { result ≢ codes.done → result ≢ codes.is_opened
+        → IsRefused words.now files.now result length.new out.new }
 {
     *length = 0;
     if seat.is_open {
@@ -80,11 +82,13 @@ pub extern "C" fn dnr_ask(
     out: &mut [u8],
     length: &mut usize,
 ) -> u32
-    ensures answered { result ≡ codes.done → Answered seat.old.handle.engine number line.now (take length.new out.new) seat.new.handle.engine }
+    ensures answered { result ≡ codes.done → Answered seat.old.handle.engine number line.now
+        (take length.new out.new) seat.new.handle.engine }
     ensures within { result ≡ codes.done → length.new ≤ length_of out.new }
     ensures stays { result ≢ codes.done → Keeps seat.old.handle.engine seat.new.handle.engine }
     ensures untouched { result ≢ codes.done → out.new ≡ out.old }
-    ensures room { result ≡ codes.no_room → LacksRoom seat.old.handle.engine number line.now length.new (length_of out.old) }
+    ensures room { result ≡ codes.no_room → LacksRoom seat.old.handle.engine number line.now length.new
+        (length_of out.old) }
     ensures closed { (result ≡ codes.is_closed) ↔ (seat.old.handle.engine ≡ None) }
 {
     let taken = replace(seat, Seat::closed(alloc));
@@ -107,7 +111,8 @@ pub extern "C" fn dnr_decide(
     out: &mut [u8],
 ) -> u32
     ensures decided { result ≡ codes.done → DecidedBy seat.old.handle.engine request.now verdict.new out.new changes.new }
-    ensures room { result ≡ codes.no_room → LacksPlace seat.old.handle.engine request.now verdict.new (length_of out.old) (length_of changes.old) }
+    ensures room { result ≡ codes.no_room → LacksPlace seat.old.handle.engine request.now verdict.new
+        (length_of out.old) (length_of changes.old) }
     ensures bad { codes.host_fault < result → IsBad request.now result }
     ensures fault { result ≡ codes.host_fault → HostFailed seat.old.handle.engine seat.new.handle.engine }
     ensures stays { Keeps seat.old.handle.engine seat.new.handle.engine }

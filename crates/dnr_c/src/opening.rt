@@ -43,7 +43,8 @@ pub(crate) fn open_seat(
     words: &[GivenText<'_>],
     files: &[GivenFile<'_>],
 ) -> Result<Seat, Fault>
-    ensures opened { IfOk result (λ seat. Opened (task_of (from_c.words_of words.now)) (from_c.files_of files.now) seat.handle.engine) }
+    ensures opened { IfOk result (λ seat. Opened (task_of (from_c.words_of words.now))
+        (from_c.files_of files.now) seat.handle.engine) }
     ensures failed { IfErr result (Fails words.now files.now) }
 {
     if !are_texts(words, files) {

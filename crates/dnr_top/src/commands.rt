@@ -129,7 +129,8 @@ fn answer_requests<
         (H.faults checker.old ∷ map H.faults finders.old) (H.faults checker.new ∷ map H.faults finders.new)
         (F.Source.left shelf.new))
         (O.taken out.old) (O.taken out.new) result }
-    ensures later { NoneFell (H.faults checker.old ∷ map H.faults finders.old) (H.faults checker.new ∷ map H.faults finders.new) }
+    ensures later { NoneFell (H.faults checker.old ∷ map H.faults finders.old)
+        (H.faults checker.new ∷ map H.faults finders.new) }
     ensures read_fault { result ≡ Status.ReadFault → Rose (F.Source.faults shelf.old) (F.Source.faults shelf.new) }
     ensures write_fault { result ≡ Status.WriteFault → Rose (O.faults out.old) (O.faults out.new) }
 {
@@ -160,7 +161,8 @@ fn serve_script<R: Threads + Wait + Sync, F: Shelf, O: Sink, H: RegexHost + Send
         (H.faults checker.old ∷ map H.faults finders.old) (H.faults checker.new ∷ map H.faults finders.new)
         (F.Source.left shelf.new))
         (O.taken out.old) (O.taken out.new) result }
-    ensures later { NoneFell (H.faults checker.old ∷ map H.faults finders.old) (H.faults checker.new ∷ map H.faults finders.new) }
+    ensures later { NoneFell (H.faults checker.old ∷ map H.faults finders.old)
+        (H.faults checker.new ∷ map H.faults finders.new) }
     ensures read_fault { result ≡ Status.ReadFault → Rose (F.Source.faults shelf.old) (F.Source.faults shelf.new) }
     ensures write_fault { result ≡ Status.WriteFault → Rose (O.faults out.old) (O.faults out.new) }
 {

@@ -52,7 +52,8 @@ pub fn serve<R: Threads + Wait + Sync, F: Shelf, O: Sink, H: RegexHost + Send, G
         (count (F.Source.starts shelf.old) (F.Source.starts shelf.new)) (count (O.faults out.old) (O.faults out.new))
         (H.faults checker.old ∷ map H.faults finders.old) (H.faults checker.new ∷ map H.faults finders.new)
         (F.Source.left shelf.new)) result }
-    ensures later { NoneFell (H.faults checker.old ∷ map H.faults finders.old) (H.faults checker.new ∷ map H.faults finders.new) }
+    ensures later { NoneFell (H.faults checker.old ∷ map H.faults finders.old)
+        (H.faults checker.new ∷ map H.faults finders.new) }
     ensures shelf_later { F.Source.faults shelf.old ≤ F.Source.faults shelf.new }
     ensures read_fault { result ≡ Status.ReadFault → Rose (F.Source.faults shelf.old) (F.Source.faults shelf.new) }
     ensures write_fault { result ≡ Status.WriteFault → Rose (O.faults out.old) (O.faults out.new) }
@@ -91,7 +92,8 @@ fn serve_started<R: Threads + Wait + Sync, S: Source, O: Sink, H: RegexHost + Se
     ensures served { IfSome (S.left source.old) (λ script. EndsServing (O.taken out.old) (O.taken out.new)
         (counts_between (H.faults checker.old ∷ map H.faults finders.old) (H.faults checker.new ∷ map H.faults finders.new))
         (record { suffixes = generation.suffixes; workers = workers; updates = updates; follows = follows }) generation.state script (S.left source.new) result) }
-    ensures later { NoneFell (H.faults checker.old ∷ map H.faults finders.old) (H.faults checker.new ∷ map H.faults finders.new) }
+    ensures later { NoneFell (H.faults checker.old ∷ map H.faults finders.old)
+        (H.faults checker.new ∷ map H.faults finders.new) }
     ensures told { is_some (S.left source.new) ≡ is_some (S.left source.old) }
     ensures starts { S.starts source.new ≡ S.starts source.old }
     ensures read_fault { HasCauseOf ServeStop.ReadFault (S.faults source.old) (S.faults source.new) result }
@@ -127,7 +129,8 @@ fn serve_beside<R: Threads + Wait + Sync, S: Source, O: Sink, H: RegexHost + Sen
     ensures served { IfSome (S.left source.old) (λ script. EndsServing (O.taken out.old) (O.taken out.new)
         (counts_between (H.faults checker.old ∷ map H.faults finders.old) (H.faults checker.new ∷ map H.faults finders.new))
         (record { suffixes = generation.suffixes; workers = workers; updates = true; follows = false }) generation.state script (S.left source.new) result) }
-    ensures later { NoneFell (H.faults checker.old ∷ map H.faults finders.old) (H.faults checker.new ∷ map H.faults finders.new) }
+    ensures later { NoneFell (H.faults checker.old ∷ map H.faults finders.old)
+        (H.faults checker.new ∷ map H.faults finders.new) }
     ensures told { is_some (S.left source.new) ≡ is_some (S.left source.old) }
     ensures starts { S.starts source.new ≡ S.starts source.old }
     ensures read_fault { HasCauseOf ServeStop.ReadFault (S.faults source.old) (S.faults source.new) result }
@@ -153,7 +156,8 @@ fn serve_in_turn<S: Source, O: Sink, H: RegexHost>(
     ensures served { IfSome (S.left source.old) (λ script. EndsServing (O.taken out.old) (O.taken out.new)
         (counts_between (H.faults checker.old ∷ map H.faults finders.old) (H.faults checker.new ∷ map H.faults finders.new))
         (record { suffixes = generation.suffixes; workers = workers; updates = false; follows = follows }) generation.state script (S.left source.new) result) }
-    ensures later { NoneFell (H.faults checker.old ∷ map H.faults finders.old) (H.faults checker.new ∷ map H.faults finders.new) }
+    ensures later { NoneFell (H.faults checker.old ∷ map H.faults finders.old)
+        (H.faults checker.new ∷ map H.faults finders.new) }
     ensures told { is_some (S.left source.new) ≡ is_some (S.left source.old) }
     ensures starts { S.starts source.new ≡ S.starts source.old }
     ensures read_fault { HasCauseOf ServeStop.ReadFault (S.faults source.old) (S.faults source.new) result }

@@ -151,7 +151,8 @@ fn accept(
     next: Generation,
     into: &mut String,
 ) -> Result<Option<Generation>, NoMemory>
-    ensures appended { OnOk result (string_bytes into.new ≡ string_bytes into.old ++ accepted_line number next.state.count) }
+    ensures appended { OnOk result (string_bytes into.new ≡ string_bytes into.old
+        ++ accepted_line number next.state.count) }
     ensures next { IfOk result (λ given. given ≡ Some next) }
 {
     match write_reply(alloc, number, &Reply::Accepted(next.number()), into) {
@@ -161,7 +162,8 @@ fn accept(
 }
 
 fn refuse(alloc: Global, number: u32, refusal: Refusal, into: &mut String) -> Result<(), NoMemory>
-    ensures { OnOk result (IsNamed refusal × (string_bytes into.new ≡ string_bytes into.old ++ refused_line number refusal)) }
+    ensures { OnOk result (IsNamed refusal
+        × (string_bytes into.new ≡ string_bytes into.old ++ refused_line number refusal)) }
 {
     match refusal {
         Refusal::NoMemory => Err(NoMemory),
@@ -175,7 +177,8 @@ fn refuse_batch(
     refusal: BatchRefusal,
     into: &mut String,
 ) -> Result<(), NoMemory>
-    ensures { OnOk result (IsNamed refusal.cause × (string_bytes into.new ≡ string_bytes into.old ++ refused_batch_line number refusal.place refusal.cause)) }
+    ensures { OnOk result (IsNamed refusal.cause
+        × (string_bytes into.new ≡ string_bytes into.old ++ refused_batch_line number refusal.place refusal.cause)) }
 {
     match refusal.cause {
         Refusal::NoMemory => Err(NoMemory),

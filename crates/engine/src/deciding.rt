@@ -36,8 +36,10 @@ pub(crate) fn decide<H: RegexHost>(
     given: &GivenRequest<'_>,
     host: &mut H,
 ) -> Result<Verdict, Undecided>
-    ensures decided { IfOk result (IsDecidedBy generation.now.suffixes generation.now.state (request_of number given.now)) }
-    ensures undecided { IfErr result (IsUndecidedBy generation.now.state (request_of number given.now) (H.faults host.old) (H.faults host.new)) }
+    ensures decided { IfOk result (IsDecidedBy generation.now.suffixes generation.now.state
+        (request_of number given.now)) }
+    ensures undecided { IfErr result (IsUndecidedBy generation.now.state (request_of number given.now)
+        (H.faults host.old) (H.faults host.new)) }
     ensures later { H.faults host.old ≤ H.faults host.new }
 {
     match read_request(alloc, number, given) {

@@ -151,7 +151,8 @@ impl Engine {
         into: &mut String,
     ) -> Result<Option<Generation>, NoMemory>
         requires { string_bytes into.old ≡ [] }
-        ensures heard { IfOk result (λ next. Answers self.old number line.now (string_bytes into.new) (left_by self.new next)) }
+        ensures heard { IfOk result (λ next. Answers self.old number line.now (string_bytes into.new)
+            (left_by self.new next)) }
         ensures suffixes { IfOk result (λ next. IfSome next (λ basis. basis.suffixes ≡ self.new.suffixes)) }
         ensures stays { Stays self.old self.new }
     {

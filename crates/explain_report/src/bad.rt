@@ -57,7 +57,8 @@ fn push_bad_with(line: u32, fields: &str, into: &mut String) -> Result<(), NoMem
 
 // Appends which field of a line is at fault.
 fn push_bad_command(line: u32, field: CommandPath, into: &mut String) -> Result<(), NoMemory>
-    ensures { OnOk result (string_bytes into.new ≡ string_bytes into.old ++ spec.bad_with line (spec.command_fields field)) }
+    ensures { OnOk result (string_bytes into.new ≡ string_bytes into.old ++ spec.bad_with line
+        (spec.command_fields field)) }
 {
     push_start(line, into)?;
     push_command_fields(field.name(), into)?;
@@ -80,7 +81,8 @@ fn push_bad_url(
     refusal: ViewRefusal,
     into: &mut String,
 ) -> Result<(), NoMemory>
-    ensures { OnOk result (string_bytes into.new ≡ string_bytes into.old ++ spec.bad_with line (spec.url_fields field refusal)) }
+    ensures { OnOk result (string_bytes into.new ≡ string_bytes into.old ++ spec.bad_with line
+        (spec.url_fields field refusal)) }
 {
     push_start(line, into)?;
     push_url_fields(field.name(), view_why(refusal), into)?;

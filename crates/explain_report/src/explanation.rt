@@ -22,7 +22,8 @@ pub fn write_explain(
     explanation: &Explanation,
     into: &mut String,
 ) -> Result<(), NoMemory>
-    ensures appended { OnOk result (string_bytes into.new ≡ string_bytes into.old ++ spec.explain_line line number explanation.now) }
+    ensures appended { OnOk result (string_bytes into.new ≡ string_bytes into.old
+        ++ spec.explain_line line number explanation.now) }
     ensures kept { OnErr result (string_bytes into.new ≡ string_bytes into.old) }
 {
     let mut text = new_line(alloc)?;

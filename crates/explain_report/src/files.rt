@@ -17,7 +17,8 @@ use std::alloc::Global;
 ///
 /// `NoMemory`: no memory is left for it, and nothing is appended.
 pub fn write_bad_json(alloc: Global, file: &str, into: &mut String) -> Result<(), NoMemory>
-    ensures appended { OnOk result (string_bytes into.new ≡ string_bytes into.old ++ spec.refusal_line file.now bad_json) }
+    ensures appended { OnOk result (string_bytes into.new ≡ string_bytes into.old
+        ++ spec.refusal_line file.now bad_json) }
     ensures kept { OnErr result (string_bytes into.new ≡ string_bytes into.old) }
 {
     let mut text = new_line(alloc)?;
@@ -35,7 +36,8 @@ pub fn write_refused_rule(
     refusal: &PlacedRefusal,
     into: &mut String,
 ) -> Result<(), NoMemory>
-    ensures appended { OnOk result (string_bytes into.new ≡ string_bytes into.old ++ spec.refusal_line file.now (bad_rules refusal.now)) }
+    ensures appended { OnOk result (string_bytes into.new ≡ string_bytes into.old ++ spec.refusal_line file.now
+        (bad_rules refusal.now)) }
     ensures kept { OnErr result (string_bytes into.new ≡ string_bytes into.old) }
 {
     let mut text = new_line(alloc)?;
@@ -82,7 +84,8 @@ pub fn write_suffix_refusal(
     refusal: SuffixRefusal,
     into: &mut String,
 ) -> Result<(), NoMemory>
-    ensures appended { OnOk result (string_bytes into.new ≡ string_bytes into.old ++ spec.suffixes_line file.now refusal) }
+    ensures appended { OnOk result (string_bytes into.new ≡ string_bytes into.old
+        ++ spec.suffixes_line file.now refusal) }
     ensures kept { OnErr result (string_bytes into.new ≡ string_bytes into.old) }
 {
     let mut text = new_line(alloc)?;
@@ -113,7 +116,8 @@ pub fn write_too_many_rules(
     count: usize,
     into: &mut String,
 ) -> Result<(), NoMemory>
-    ensures appended { OnOk result (string_bytes into.new ≡ string_bytes into.old ++ spec.list_line file.now (spec.too_many_rules count)) }
+    ensures appended { OnOk result (string_bytes into.new ≡ string_bytes into.old ++ spec.list_line file.now
+        (spec.too_many_rules count)) }
     ensures kept { OnErr result (string_bytes into.new ≡ string_bytes into.old) }
 {
     let mut text = new_line(alloc)?;
@@ -132,7 +136,8 @@ pub fn write_list_fault(
     line: u32,
     into: &mut String,
 ) -> Result<(), NoMemory>
-    ensures appended { OnOk result (string_bytes into.new ≡ string_bytes into.old ++ spec.list_line file.now (spec.host_failed line)) }
+    ensures appended { OnOk result (string_bytes into.new ≡ string_bytes into.old ++ spec.list_line file.now
+        (spec.host_failed line)) }
     ensures kept { OnErr result (string_bytes into.new ≡ string_bytes into.old) }
 {
     let mut text = new_line(alloc)?;

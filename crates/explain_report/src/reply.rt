@@ -99,7 +99,8 @@ fn push_refused_batch(
     refusal: &Refusal,
     into: &mut String,
 ) -> Result<(), NoMemory>
-    ensures { OnOk result (string_bytes into.new ≡ string_bytes into.old ++ spec.refused_batch_line line place refusal.now) }
+    ensures { OnOk result (string_bytes into.new ≡ string_bytes into.old
+        ++ spec.refused_batch_line line place refusal.now) }
 {
     push_start(line, into)?;
     push_update_fields(alloc, refusal, into)?;
@@ -114,7 +115,8 @@ pub(crate) fn push_refused_batch_rule(
     refusal: &PlacedRefusal,
     into: &mut String,
 ) -> Result<(), NoMemory>
-    ensures { OnOk result (string_bytes into.new ≡ string_bytes into.old ++ spec.refused_batch_rule_line line place refusal.now) }
+    ensures { OnOk result (string_bytes into.new ≡ string_bytes into.old
+        ++ spec.refused_batch_rule_line line place refusal.now) }
 {
     push_start(line, into)?;
     push_rule_fields(alloc, refusal, into)?;

@@ -30,7 +30,8 @@ pub fn write_unsupported(
     reported: &Reported,
     into: &mut String,
 ) -> Result<(), NoMemory>
-    ensures appended { OnOk result (string_bytes into.new ≡ string_bytes into.old ++ spec.unsupported_line reported.now) }
+    ensures appended { OnOk result (string_bytes into.new ≡ string_bytes into.old
+        ++ spec.unsupported_line reported.now) }
     ensures kept { OnErr result (string_bytes into.new ≡ string_bytes into.old) }
 {
     let mut text = new_line(alloc)?;
@@ -53,7 +54,8 @@ pub(crate) fn push_unsupported(line: u32, code: &str, into: &mut String) -> Resu
 }
 
 fn push_name_field(alloc: Global, name: Option<&str>, into: &mut String) -> Result<(), NoMemory>
-    ensures { OnOk result (string_bytes into.new ≡ string_bytes into.old ++ spec.name_field (option_copied name.entry)) }
+    ensures { OnOk result (string_bytes into.new ≡ string_bytes into.old ++ spec.name_field
+        (option_copied name.entry)) }
 {
     let Some(name) = name else {
         return Ok(());

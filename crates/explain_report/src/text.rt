@@ -78,7 +78,8 @@ pub(crate) fn push_text_or_null(
     text: Option<&str>,
     into: &mut String,
 ) -> Result<(), NoMemory>
-    ensures { OnOk result (string_bytes into.new ≡ string_bytes into.old ++ spec.text_or_null (option_copied text.entry)) }
+    ensures { OnOk result (string_bytes into.new ≡ string_bytes into.old ++ spec.text_or_null
+        (option_copied text.entry)) }
 {
     match text {
         Some(text) => push_quoted(alloc, text, into),

@@ -19,7 +19,8 @@ pub fn write_unhidden(
     reported: &HideReported,
     into: &mut String,
 ) -> Result<(), NoMemory>
-    ensures appended { OnOk result (string_bytes into.new ≡ string_bytes into.old ++ hiding.unhidden_line reported.now) }
+    ensures appended { OnOk result (string_bytes into.new ≡ string_bytes into.old
+        ++ hiding.unhidden_line reported.now) }
     ensures kept { OnErr result (string_bytes into.new ≡ string_bytes into.old) }
 {
     let mut text = new_line(alloc)?;
@@ -37,7 +38,8 @@ pub fn write_selectors(
     selectors: &[Text],
     into: &mut String,
 ) -> Result<(), NoMemory>
-    ensures appended { OnOk result (string_bytes into.new ≡ string_bytes into.old ++ hiding.selectors_line host.now selectors.now) }
+    ensures appended { OnOk result (string_bytes into.new ≡ string_bytes into.old
+        ++ hiding.selectors_line host.now selectors.now) }
     ensures kept { OnErr result (string_bytes into.new ≡ string_bytes into.old) }
 {
     let mut text = new_line(alloc)?;

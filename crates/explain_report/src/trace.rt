@@ -75,7 +75,8 @@ pub fn write_hop_fault(
     rule: &RuleName,
     into: &mut String,
 ) -> Result<(), NoMemory>
-    ensures appended { OnOk result (string_bytes into.new ≡ string_bytes into.old ++ spec.hop_fault_line line hop rule.now) }
+    ensures appended { OnOk result (string_bytes into.new ≡ string_bytes into.old
+        ++ spec.hop_fault_line line hop rule.now) }
     ensures kept { OnErr result (string_bytes into.new ≡ string_bytes into.old) }
 {
     let mut text = new_line(alloc)?;

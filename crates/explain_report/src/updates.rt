@@ -67,7 +67,8 @@ fn push_field_unless_named(
 
 // Appends what a refusal adds to its code.
 fn push_update_field(alloc: Global, refusal: &Refusal, into: &mut String) -> Result<(), NoMemory>
-    ensures { OnOk result (string_bytes into.new ≡ string_bytes into.old ++ spec.update_field (spec.update_detail refusal.now)) }
+    ensures { OnOk result (string_bytes into.new ≡ string_bytes into.old ++ spec.update_field
+        (spec.update_detail refusal.now)) }
 {
     match refusal {
         Refusal::NoExtension(name) | Refusal::ExtensionThere(name) => {

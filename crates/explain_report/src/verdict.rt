@@ -23,7 +23,8 @@ pub fn write_verdict(
     verdict: &Verdict,
     into: &mut String,
 ) -> Result<(), NoMemory>
-    ensures appended { OnOk result (string_bytes into.new ≡ string_bytes into.old ++ spec.verdict_line line number verdict.now) }
+    ensures appended { OnOk result (string_bytes into.new ≡ string_bytes into.old
+        ++ spec.verdict_line line number verdict.now) }
     ensures kept { OnErr result (string_bytes into.new ≡ string_bytes into.old) }
 {
     let mut text = new_line(alloc)?;
@@ -43,7 +44,8 @@ pub fn write_fault(
     rule: &RuleName,
     into: &mut String,
 ) -> Result<(), NoMemory>
-    ensures appended { OnOk result (string_bytes into.new ≡ string_bytes into.old ++ spec.fault_line line number rule.now) }
+    ensures appended { OnOk result (string_bytes into.new ≡ string_bytes into.old
+        ++ spec.fault_line line number rule.now) }
     ensures kept { OnErr result (string_bytes into.new ≡ string_bytes into.old) }
 {
     let mut text = new_line(alloc)?;

@@ -28,7 +28,8 @@ pub(crate) fn push_list<T: Written>(
 }
 
 fn push_items<T: Written>(alloc: Global, items: &[T], into: &mut String) -> Result<(), NoMemory>
-    ensures { OnOk result (string_bytes into.new ≡ string_bytes into.old ++ spec.between_commas (map T.text items.now)) }
+    ensures { OnOk result (string_bytes into.new ≡ string_bytes into.old ++ spec.between_commas
+        (map T.text items.now)) }
 {
     let Some((first, rest)) = items.split_first() else {
         return Ok(());

@@ -77,7 +77,8 @@ fn decided_target<H: RegexHost>(
     request: &Request,
     host: &mut H,
 ) -> Result<Option<Text>, MatchRefusal>
-    ensures value { IfOk result (λ target. target ≡ spec.decided_target decision.now decision.now.live.rule.action request.now) }
+    ensures value { IfOk result (λ target. target
+        ≡ spec.decided_target decision.now decision.now.live.rule.action request.now) }
     ensures asked { IsErrOf result MatchRefusal.HostFault → IsSome decision.now.live.rule.condition.regex_filter }
     ensures cause { HasCauseOf MatchRefusal.HostFault (H.faults host.old) (H.faults host.new) result }
     ensures calm { IsCalm (H.faults host.old) (H.faults host.new) result }
@@ -106,7 +107,8 @@ fn sent<H: RegexHost>(
     host: &mut H,
 ) -> Result<Verdict, DecideRefusal>
     ensures verdict { IfOk result (λ verdict. verdict ≡ choice.sent outcome request.now decision.now) }
-    ensures ends { Ends (IsPattern decision.now.extension (decision.now.live ∷ [])) (H.faults host.old) (H.faults host.new) result }
+    ensures ends { Ends (IsPattern decision.now.extension (decision.now.live ∷ [])) (H.faults host.old)
+        (H.faults host.new) result }
 {
     let Ok(rule) = decision.rule(alloc) else {
         return Err(DecideRefusal::NoMemory);
@@ -125,7 +127,8 @@ fn settled(
     kepts: &[Kept<'_>],
 ) -> Result<Verdict, NoMemory>
     requires { choice.IsSettled decision.now.verb }
-    ensures { IfOk result (λ verdict. verdict ≡ choice.decided_by request.now (choice.ops_in kepts.now) decision.now decision.now.verb) }
+    ensures { IfOk result (λ verdict. verdict ≡ choice.decided_by request.now
+        (choice.ops_in kepts.now) decision.now decision.now.verb) }
 {
     let rule = Some(decision.rule(alloc)?);
     if decision.verb == Verb::Block {
@@ -142,8 +145,10 @@ fn decided<H: RegexHost>(
     kepts: &[Kept<'_>],
     host: &mut H,
 ) -> Result<Verdict, DecideRefusal>
-    ensures verdict { IfOk result (λ verdict. verdict ≡ choice.decided_by request.now (choice.ops_in kepts.now) decision.now decision.now.verb) }
-    ensures ends { Ends (IsPattern decision.now.extension (decision.now.live ∷ [])) (H.faults host.old) (H.faults host.new) result }
+    ensures verdict { IfOk result (λ verdict. verdict ≡ choice.decided_by request.now
+        (choice.ops_in kepts.now) decision.now decision.now.verb) }
+    ensures ends { Ends (IsPattern decision.now.extension (decision.now.live ∷ [])) (H.faults host.old)
+        (H.faults host.new) result }
 {
     match decision.verb {
         Verb::Redirect => sent(alloc, Outcome::Redirect, decision, request, host),
@@ -159,8 +164,10 @@ pub(crate) fn conclude<H: RegexHost>(
     kepts: &[Kept<'_>],
     host: &mut H,
 ) -> Result<Verdict, DecideRefusal>
-    ensures verdict { IfOk result (λ verdict. verdict ≡ choice.verdict_of request.now (choice.ops_in kepts.now) (choice.deciding_in kepts.now)) }
-    ensures ends { Ends (choice.IsDecidingPattern (choice.deciding_in kepts.now)) (H.faults host.old) (H.faults host.new) result }
+    ensures verdict { IfOk result (λ verdict. verdict ≡ choice.verdict_of request.now (choice.ops_in kepts.now)
+        (choice.deciding_in kepts.now)) }
+    ensures ends { Ends (choice.IsDecidingPattern (choice.deciding_in kepts.now)) (H.faults host.old)
+        (H.faults host.new) result }
 {
     match deciding(kepts) {
         Some(decision) => decided(alloc, &decision, request, kepts, host),

@@ -83,7 +83,8 @@ impl Generation {
     pub fn next(&self, alloc: Global, update: &Update) -> Result<Generation, Refusal>
         ensures suffixes { IfOk result (λ next. next.suffixes ≡ self.now.suffixes) }
         ensures judged { OnOk result (judge_update self.now.state (update_seen update.now) ≡ None) }
-        ensures applied { IfOk result (λ next. next.state ≡ entries.after self.now.state (entries.one (update_seen update.now))) }
+        ensures applied { IfOk result (λ next. next.state ≡ entries.after self.now.state
+            (entries.one (update_seen update.now))) }
         ensures refused { IfErr result (IsRefusalOf (judge_update self.now.state (update_seen update.now))) }
     {
         let store = self.store.apply(alloc, update)?;
@@ -104,8 +105,10 @@ impl Generation {
         requires few { length updates.now ≤ 256 }
         ensures suffixes { IfOk result (λ next. next.suffixes ≡ self.now.suffixes) }
         ensures judged { OnOk result (entries.judge self.now.state (entries.batch (updates_seen updates.now)) ≡ None) }
-        ensures applied { IfOk result (λ next. next.state ≡ entries.after self.now.state (entries.batch (updates_seen updates.now))) }
-        ensures refused { IfErr result (IsBatchRefusal (entries.judge self.now.state (entries.batch (updates_seen updates.now)))) }
+        ensures applied { IfOk result (λ next. next.state ≡ entries.after self.now.state
+            (entries.batch (updates_seen updates.now))) }
+        ensures refused { IfErr result (IsBatchRefusal (entries.judge self.now.state
+            (entries.batch (updates_seen updates.now)))) }
     {
         let store = self.store.apply_batch(alloc, updates)?;
         match Arc::try_clone(&self.list) {
@@ -178,7 +181,8 @@ impl Generation {
         steps: &mut Steps<L>,
     ) -> Result<Explanation, DecideRefusal>
         requires { length request.now.frames ≤ max_frames }
-        ensures explanation { IfOk result (λ explanation. explanation ≡ explanation_of self.now.suffixes self.now.state request.now) }
+        ensures explanation { IfOk result (λ explanation. explanation
+            ≡ explanation_of self.now.suffixes self.now.state request.now) }
         ensures bound { steps.new ≤ steps.old + pairs_of self.now.state request.now }
         ensures ends { Ends (NamesPattern self.now.state) (H.faults host.old) (H.faults host.new) result }
     {
@@ -253,7 +257,8 @@ impl Generation {
         host: &mut H,
     ) -> Result<Explanation, DecideRefusal>
         requires { kepts.now ≡ kept_from self.now.suffixes request.now 0 self.now.state.extensions }
-        ensures explanation { IfOk result (λ explanation. explanation ≡ explanation_of self.now.suffixes self.now.state request.now) }
+        ensures explanation { IfOk result (λ explanation. explanation
+            ≡ explanation_of self.now.suffixes self.now.state request.now) }
         ensures ends { Ends (NamesPattern self.now.state) (H.faults host.old) (H.faults host.new) result }
     {
         let verdict = match self.concluded(alloc, request, kepts, host) {

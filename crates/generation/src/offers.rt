@@ -22,7 +22,8 @@ fn add_ops<'a>(
     direction: Direction,
     ops: &'a [HeaderOp],
 ) -> Result<Vec<Offer<'a>>, NoMemory>
-    ensures { IfOk result (λ new. new.items ≡ offers.entry.items ++ spec.offers_by age (record { ext = extension.now; set = set.now; id = id }) direction ops.now) }
+    ensures { IfOk result (λ new. new.items ≡ offers.entry.items ++ spec.offers_by age
+        (record { ext = extension.now; set = set.now; id = id }) direction ops.now) }
 {
     for op in ops {
         offers.push(Offer {
@@ -75,7 +76,8 @@ fn add_lives<'a>(
     kept: &Kept<'a>,
     lives: &[Live<'a>],
 ) -> Result<Vec<Offer<'a>>, NoMemory>
-    ensures { IfOk result (λ new. new.items ≡ offers.entry.items ++ flat_map (choice.offers_by_live kept.now) lives.now) }
+    ensures { IfOk result (λ new. new.items ≡ offers.entry.items ++ flat_map
+        (choice.offers_by_live kept.now) lives.now) }
 {
     let mut offers = offers;
     for live in lives {

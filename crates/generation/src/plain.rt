@@ -135,7 +135,8 @@ impl<'r> PlainScan<'r> {
         steps: &mut Steps<L>,
     ) -> Option<Candidate>
         requires { spec.is_plain_rule live.now.rule ≡ true }
-        ensures level { level_in result ≡ max (level_in best) (spec.level_at self.now.suffixes self.now.request live.now.rule part) }
+        ensures level { level_in result ≡ max (level_in best)
+            (spec.level_at self.now.suffixes self.now.request live.now.rule part) }
         ensures few { steps.new ≤ steps.old + 1 }
     {
         let Some(verb) = live.verb() else {
@@ -166,7 +167,8 @@ impl<'r> PlainScan<'r> {
         steps: &mut Steps<L>,
     ) -> Option<Candidate>
         requires { are_plain (rules_by (lives_in block.now)) ≡ true }
-        ensures level { level_in result ≡ max (level_in best) (spec.hit_level self.now.suffixes self.now.request block.now (place, part)) }
+        ensures level { level_in result ≡ max (level_in best)
+            (spec.hit_level self.now.suffixes self.now.request block.now (place, part)) }
         ensures few { steps.new ≤ steps.old + live_count block.now (place, part) }
     {
         match block.live_at(place as usize) {
@@ -342,7 +344,8 @@ impl<'r> PlainScan<'r> {
     ) -> bool
         requires { are_plain (flat_map spec.rules_of extensions.now) ≡ true }
         ensures value { result ≡ spec.some_blocks self.now.suffixes self.now.request extensions.now }
-        ensures bound { steps.new ≤ steps.old + pairs_of_rules (flat_map spec.rules_of extensions.now) self.now.request }
+        ensures bound { steps.new ≤ steps.old + pairs_of_rules
+            (flat_map spec.rules_of extensions.now) self.now.request }
     {
         for extension in extensions {
             if self.blocks(extension, steps) {

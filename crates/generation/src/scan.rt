@@ -181,7 +181,8 @@ impl<'r> Scan<'r> {
     ) -> Result<(), DecideRefusal>
         ensures kept { OnOk result (kept.new ≡ with_hit self.now.suffixes self.now.request block.now kept.old hit) }
         ensures few { steps.new ≤ steps.old + live_count block.now hit }
-        ensures ends { Ends (IsPattern kept.old.name (option_to_list (live_there block.now hit.0))) (H.faults host.old) (H.faults host.new) result }
+        ensures ends { Ends (IsPattern kept.old.name (option_to_list (live_there block.now hit.0)))
+            (H.faults host.old) (H.faults host.new) result }
     {
         match block.live_at(hit.0 as usize) {
             Some(live) => self.take_live(kept, live, part_at(hit.1), asked, host, steps),
@@ -199,9 +200,11 @@ impl<'r> Scan<'r> {
         host: &mut H,
         steps: &mut Steps<L>,
     ) -> Result<Kept<'a>, DecideRefusal>
-        ensures kept { IfOk result (λ new. new ≡ fold (with_hit self.now.suffixes self.now.request block.now) kept.entry hits.now) }
+        ensures kept { IfOk result (λ new. new ≡ fold
+            (with_hit self.now.suffixes self.now.request block.now) kept.entry hits.now) }
         ensures few { steps.new ≤ steps.old + sum_by (live_count block.now) hits.now }
-        ensures ends { Ends (IsPattern kept.entry.name (lives_in block.now)) (H.faults host.old) (H.faults host.new) result }
+        ensures ends { Ends (IsPattern kept.entry.name (lives_in block.now)) (H.faults host.old)
+            (H.faults host.new) result }
     {
         let mut kept = kept;
         for hit in hits {
@@ -222,9 +225,11 @@ impl<'r> Scan<'r> {
         host: &mut H,
         steps: &mut Steps<L>,
     ) -> Result<Kept<'a>, DecideRefusal>
-        ensures kept { IfOk result (λ new. new ≡ spec.with_lives self.now.suffixes self.now.request kept.entry (lives_in block.now)) }
+        ensures kept { IfOk result (λ new. new ≡ spec.with_lives self.now.suffixes self.now.request kept.entry
+            (lives_in block.now)) }
         ensures bound { steps.new ≤ steps.old + pairs_by (lives_in block.now) self.now.request }
-        ensures ends { Ends (IsPattern kept.entry.name (lives_in block.now)) (H.faults host.old) (H.faults host.new) result }
+        ensures ends { Ends (IsPattern kept.entry.name (lives_in block.now)) (H.faults host.old)
+            (H.faults host.new) result }
     {
         let Scratch { hits, asked } = scratch;
         match find(hits, block, self.request, &self.own, &self.long) {
@@ -244,9 +249,12 @@ impl<'r> Scan<'r> {
         host: &mut H,
         steps: &mut Steps<L>,
     ) -> Result<Kept<'a>, DecideRefusal>
-        ensures kept { IfOk result (λ new. new ≡ spec.with_lives self.now.suffixes self.now.request kept.entry (live_with rank set.now (live_among segments.now))) }
-        ensures bound { steps.new ≤ steps.old + pairs_by (live_with rank set.now (live_among segments.now)) self.now.request }
-        ensures ends { Ends (IsPattern kept.entry.name (live_with rank set.now (live_among segments.now))) (H.faults host.old) (H.faults host.new) result }
+        ensures kept { IfOk result (λ new. new ≡ spec.with_lives self.now.suffixes self.now.request kept.entry
+            (live_with rank set.now (live_among segments.now))) }
+        ensures bound { steps.new ≤ steps.old + pairs_by
+            (live_with rank set.now (live_among segments.now)) self.now.request }
+        ensures ends { Ends (IsPattern kept.entry.name (live_with rank set.now (live_among segments.now)))
+            (H.faults host.old) (H.faults host.new) result }
     {
         let mut kept = kept;
         for segment in segments {
@@ -268,9 +276,11 @@ impl<'r> Scan<'r> {
         host: &mut H,
         steps: &mut Steps<L>,
     ) -> Result<Kept<'a>, DecideRefusal>
-        ensures kept { IfOk result (λ new. new ≡ spec.with_lives self.now.suffixes self.now.request kept.entry (added_to extension.now)) }
+        ensures kept { IfOk result (λ new. new ≡ spec.with_lives self.now.suffixes self.now.request kept.entry
+            (added_to extension.now)) }
         ensures bound { steps.new ≤ steps.old + pairs_by (added_to extension.now) self.now.request }
-        ensures ends { Ends (IsPattern kept.entry.name (added_to extension.now)) (H.faults host.old) (H.faults host.new) result }
+        ensures ends { Ends (IsPattern kept.entry.name (added_to extension.now)) (H.faults host.old)
+            (H.faults host.new) result }
     {
         let session = extension.session().segments();
         let dynamic = extension.dynamic().segments();
@@ -309,7 +319,8 @@ impl<'r> Scan<'r> {
     ) -> Result<Kept<'r>, DecideRefusal>
         ensures kept { IfOk result (λ kept. kept ≡ spec.kept_of self.now.suffixes self.now.request age extension.now) }
         ensures bound { steps.new ≤ steps.old + pairs_by (live_rules extension.now) self.now.request }
-        ensures ends { Ends (IsPattern extension.now.name (live_rules extension.now)) (H.faults host.old) (H.faults host.new) result }
+        ensures ends { Ends (IsPattern extension.now.name (live_rules extension.now)) (H.faults host.old)
+            (H.faults host.new) result }
     {
         // An age past the end of its type is a want of room like another.
         let Some(age) = narrow(age) else {
@@ -329,7 +340,8 @@ impl<'r> Scan<'r> {
         host: &mut H,
         steps: &mut Steps<L>,
     ) -> Result<Vec<Kept<'r>>, DecideRefusal>
-        ensures kept { IfOk result (λ kepts. kepts.items ≡ spec.kept_from self.now.suffixes self.now.request 0 extensions.now) }
+        ensures kept { IfOk result (λ kepts. kepts.items
+            ≡ spec.kept_from self.now.suffixes self.now.request 0 extensions.now) }
         ensures bound { steps.new ≤ steps.old + pairs_in extensions.now self.now.request }
         ensures ends { Ends (IsPatternOf extensions.now) (H.faults host.old) (H.faults host.new) result }
     {

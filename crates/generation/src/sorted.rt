@@ -70,7 +70,8 @@ fn last_first<'a>(mut lives: Vec<Live<'a>>) -> Vec<Live<'a>>
 // The rules, the strongest first, without those that an `allow` outdoes. Where neither of two comes first, which is so in
 // no ruleset that was read, the definition has the later one first.
 fn sorted<'a>(alloc: Global, allowed: u32, lives: &[Live<'a>]) -> Result<Vec<Live<'a>>, NoMemory>
-    ensures { IfOk result (λ sorted. sorted.items ≡ spec.in_order (filter (λ live. nat_le allowed live.rule.priority) lives.now)) }
+    ensures { IfOk result (λ sorted. sorted.items ≡ spec.in_order
+        (filter (λ live. nat_le allowed live.rule.priority) lives.now)) }
 {
     let list = not_outdone(alloc, allowed, lives)?;
     let mut sorted = last_first(list);

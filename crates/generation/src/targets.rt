@@ -59,7 +59,8 @@ fn plain_target(
     view: &View,
 ) -> Result<Option<Text>, NoMemory>
     requires { IsPlain redirect.now }
-    ensures { IfOk result (λ target. (places : List (Option Span)) → target ≡ target_of redirect.now extension.now view.now places) }
+    ensures { IfOk result (λ target. (places : List (Option Span))
+        → target ≡ target_of redirect.now extension.now view.now places) }
 {
     target(alloc, redirect, extension, view, &[None; 10])
 }

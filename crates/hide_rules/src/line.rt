@@ -92,7 +92,8 @@ fn read_hiding(
     before: &[u8],
     behind: &[u8],
 ) -> Result<Line, NoMemory>
-    ensures { IfOk result (λ line. line_seen line ≡ spec.hiding_unless_fault (spec.hiding_line exception before.now behind.now)) }
+    ensures { IfOk result (λ line. line_seen line ≡ spec.hiding_unless_fault
+        (spec.hiding_line exception before.now behind.now)) }
 {
     let Ok(selector) = std::str::from_utf8(selector_of(behind)) else {
         return Ok(Line::Unsupported(HideReason::NotUtf8));

@@ -58,7 +58,8 @@ impl Taken {
 
     fn report(&mut self, line: u32, reason: HideReason) -> Result<(), NoMemory>
         ensures lines { self.new.lines ≡ self.old.lines }
-        ensures reported { OnOk result (self.new.reported.items ≡ self.old.reported.items ++ record { line = line; reason = reason } ∷ []) }
+        ensures reported { OnOk result (self.new.reported.items ≡ self.old.reported.items
+            ++ record { line = line; reason = reason } ∷ []) }
     {
         self.reported.push(HideReported { line, reason })?;
         Ok(())

@@ -83,7 +83,8 @@ fn next_fields<'a>(
 ) -> Result<Form, Fault>
     requires empty { All IsEmpty fields.old }
     requires apart { AreApart fields.old }
-    ensures ok { IfOk result (λ form. (d : Data) × (converted of_json (value depth reader.old) ≡ Some (d, reader.new)) × Gives form fields.new d) }
+    ensures ok { IfOk result (λ form. (d : Data) × (converted of_json (value depth reader.old) ≡ Some (d, reader.new))
+        × Gives form fields.new d) }
     ensures keys { map key_of fields.new ≡ map key_of fields.old }
     ensures shorter { OnOk result (length reader.new < length reader.old) }
     ensures bad { result ≡ Err Fault.BadJson → converted of_json (value depth reader.old) ≡ None }
@@ -124,10 +125,13 @@ fn fill_fields<'a>(
 ) -> Result<(), Fault>
     requires empty { All IsEmpty fields.old }
     requires apart { AreApart fields.old }
-    ensures ok { OnOk result ((ms : Members) × (converted (λ ms. of_members ms no_members) (members (value depth) (length reader.old) reader.old) ≡ Some (ms, reader.new)) × Holds fields.new ms) }
+    ensures ok { OnOk result ((ms : Members)
+        × (converted (λ ms. of_members ms no_members) (members (value depth) (length reader.old) reader.old) ≡ Some
+        (ms, reader.new)) × Holds fields.new ms) }
     ensures keys { map key_of fields.new ≡ map key_of fields.old }
     ensures shorter { OnOk result (length reader.new < length reader.old) }
-    ensures bad { result ≡ Err Fault.BadJson → converted (λ ms. of_members ms no_members) (members (value depth) (length reader.old) reader.old) ≡ None }
+    ensures bad { result ≡ Err Fault.BadJson → converted (λ ms. of_members ms no_members)
+        (members (value depth) (length reader.old) reader.old) ≡ None }
 {
     'members: while let Some(name) = reader.next_key()? {
         next_field(alloc, reader, depth, name, fields)?;
@@ -144,7 +148,8 @@ fn next_field<'a>(
     fields: &mut [Field<'_, 'a>],
 ) -> Result<(), Fault>
     requires apart { AreApart fields.old }
-    ensures ok { OnOk result ((d : Data) × (converted of_json (value depth reader.old) ≡ Some (d, reader.new)) × IsPut name.now d fields.old fields.new) }
+    ensures ok { OnOk result ((d : Data) × (converted of_json (value depth reader.old) ≡ Some (d, reader.new))
+        × IsPut name.now d fields.old fields.new) }
     ensures keys { map key_of fields.new ≡ map key_of fields.old }
     ensures shorter { OnOk result (length reader.new < length reader.old) }
     ensures bad { result ≡ Err Fault.BadJson → converted of_json (value depth reader.old) ≡ None }

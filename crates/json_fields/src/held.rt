@@ -36,7 +36,8 @@ pub(crate) fn next_held<'a>(
     depth: usize,
     keeps: bool,
 ) -> Result<Held<'a>, Fault>
-    ensures ok { IfOk result (λ held. (d : Data) × (converted of_json (value depth reader.old) ≡ Some (d, reader.new)) × Shows keeps held d) }
+    ensures ok { IfOk result (λ held. (d : Data) × (converted of_json (value depth reader.old) ≡ Some (d, reader.new))
+        × Shows keeps held d) }
     ensures shorter { OnOk result (length reader.new < length reader.old) }
     ensures bad { result ≡ Err Fault.BadJson → converted of_json (value depth reader.old) ≡ None }
 {
@@ -72,9 +73,12 @@ fn list_held<'a>(
     depth: usize,
     keeps: bool,
 ) -> Result<Held<'a>, Fault>
-    ensures ok { IfOk result (λ held. (ds : Items) × (converted of_items (items (value depth) (length reader.old) reader.old) ≡ Some (ds, reader.new)) × Shows keeps held (array ds)) }
+    ensures ok { IfOk result (λ held. (ds : Items)
+        × (converted of_items (items (value depth) (length reader.old) reader.old) ≡ Some (ds, reader.new))
+        × Shows keeps held (array ds)) }
     ensures shorter { OnOk result (length reader.new < length reader.old) }
-    ensures bad { result ≡ Err Fault.BadJson → converted of_items (items (value depth) (length reader.old) reader.old) ≡ None }
+    ensures bad { result ≡ Err Fault.BadJson → converted of_items (items (value depth) (length reader.old) reader.old)
+        ≡ None }
 {
     if keeps {
         Ok(Held::List(next_items(alloc, reader, depth)?))
@@ -91,9 +95,12 @@ fn object_held<'a>(
     depth: usize,
     keeps: bool,
 ) -> Result<Held<'a>, Fault>
-    ensures ok { IfOk result (λ held. (ms : Members) × (converted (λ ms. of_members ms no_members) (members (value depth) (length reader.old) reader.old) ≡ Some (ms, reader.new)) × Shows keeps held (object ms)) }
+    ensures ok { IfOk result (λ held. (ms : Members)
+        × (converted (λ ms. of_members ms no_members) (members (value depth) (length reader.old) reader.old) ≡ Some
+        (ms, reader.new)) × Shows keeps held (object ms)) }
     ensures shorter { OnOk result (length reader.new < length reader.old) }
-    ensures bad { result ≡ Err Fault.BadJson → converted (λ ms. of_members ms no_members) (members (value depth) (length reader.old) reader.old) ≡ None }
+    ensures bad { result ≡ Err Fault.BadJson → converted (λ ms. of_members ms no_members)
+        (members (value depth) (length reader.old) reader.old) ≡ None }
 {
     if keeps {
         Ok(Held::Object(next_members(alloc, reader, depth)?))

@@ -81,7 +81,8 @@ pub fn next_shaped<S: Shape>(
     depth: usize,
     shape: S,
 ) -> Result<Value, Fault>
-    ensures ok { IfOk result (λ kept. (d : Data) × (value_at depth reader.old ≡ Some (d, reader.new)) × Kept S.wants S.item_shape S.member_shape S.accepts depth shape d (view kept)) }
+    ensures ok { IfOk result (λ kept. (d : Data) × (value_at depth reader.old ≡ Some (d, reader.new))
+        × Kept S.wants S.item_shape S.member_shape S.accepts depth shape d (view kept)) }
     ensures shorter { OnOk result (length reader.new < length reader.old) }
     ensures bad { result ≡ Err Fault.BadJson → value_at depth reader.old ≡ None }
 {
@@ -156,9 +157,13 @@ fn list_kept<S: Shape>(
     depth: usize,
     shape: S,
 ) -> Result<Value, Fault>
-    ensures ok { IfOk result (λ kept. (ds : Items) × (converted of_items (items (value depth) (length reader.old) reader.old) ≡ Some (ds, reader.new)) × KeptList (Kept S.wants S.item_shape S.member_shape S.accepts depth (S.item_shape shape)) (S.wants shape) ds (view kept)) }
+    ensures ok { IfOk result (λ kept. (ds : Items)
+        × (converted of_items (items (value depth) (length reader.old) reader.old) ≡ Some (ds, reader.new))
+        × KeptList (Kept S.wants S.item_shape S.member_shape S.accepts depth (S.item_shape shape)) (S.wants shape) ds
+        (view kept)) }
     ensures shorter { OnOk result (length reader.new < length reader.old) }
-    ensures bad { result ≡ Err Fault.BadJson → converted of_items (items (value depth) (length reader.old) reader.old) ≡ None }
+    ensures bad { result ≡ Err Fault.BadJson → converted of_items (items (value depth) (length reader.old) reader.old)
+        ≡ None }
 {
     match shape.wanted() {
         Wanted::List => {
@@ -180,9 +185,12 @@ fn items_kept<S: Shape>(
     depth: usize,
     shape: S,
 ) -> Result<Vec<Value>, Fault>
-    ensures ok { IfOk result (λ kept. (ds : Items) × (converted of_items (items (value depth) (length reader.old) reader.old) ≡ Some (ds, reader.new)) × KeptItems (Kept S.wants S.item_shape S.member_shape S.accepts depth shape) ds (items_view kept.items)) }
+    ensures ok { IfOk result (λ kept. (ds : Items)
+        × (converted of_items (items (value depth) (length reader.old) reader.old) ≡ Some (ds, reader.new))
+        × KeptItems (Kept S.wants S.item_shape S.member_shape S.accepts depth shape) ds (items_view kept.items)) }
     ensures shorter { OnOk result (length reader.new < length reader.old) }
-    ensures bad { result ≡ Err Fault.BadJson → converted of_items (items (value depth) (length reader.old) reader.old) ≡ None }
+    ensures bad { result ≡ Err Fault.BadJson → converted of_items (items (value depth) (length reader.old) reader.old)
+        ≡ None }
 {
     let mut found = Vec::new(alloc);
     'items: while !reader.take_end_array() {
@@ -206,9 +214,12 @@ fn few_kept<S: Shape>(
     most: usize,
     shape: S,
 ) -> Result<Value, Fault>
-    ensures ok { IfOk result (λ kept. (ds : Items) × (converted of_items (items (value depth) (length reader.old) reader.old) ≡ Some (ds, reader.new)) × KeptFew (Kept S.wants S.item_shape S.member_shape S.accepts depth shape) (has_few most ds) ds (view kept)) }
+    ensures ok { IfOk result (λ kept. (ds : Items)
+        × (converted of_items (items (value depth) (length reader.old) reader.old) ≡ Some (ds, reader.new))
+        × KeptFew (Kept S.wants S.item_shape S.member_shape S.accepts depth shape) (has_few most ds) ds (view kept)) }
     ensures shorter { OnOk result (length reader.new < length reader.old) }
-    ensures bad { result ≡ Err Fault.BadJson → converted of_items (items (value depth) (length reader.old) reader.old) ≡ None }
+    ensures bad { result ≡ Err Fault.BadJson → converted of_items (items (value depth) (length reader.old) reader.old)
+        ≡ None }
 {
     let mut found = Vec::new(alloc);
     'items: while !reader.take_end_array() {
@@ -231,9 +242,13 @@ fn object_kept<S: Shape>(
     depth: usize,
     shape: S,
 ) -> Result<Value, Fault>
-    ensures ok { IfOk result (λ kept. (ms : Members) × (converted (λ ms. of_members ms no_members) (members (value depth) (length reader.old) reader.old) ≡ Some (ms, reader.new)) × KeptObject (Kept S.wants S.item_shape S.member_shape S.accepts depth) (S.member_shape shape) (S.accepts shape) (S.wants shape) ms (view kept)) }
+    ensures ok { IfOk result (λ kept. (ms : Members)
+        × (converted (λ ms. of_members ms no_members) (members (value depth) (length reader.old) reader.old) ≡ Some
+        (ms, reader.new)) × KeptObject (Kept S.wants S.item_shape S.member_shape S.accepts depth)
+        (S.member_shape shape) (S.accepts shape) (S.wants shape) ms (view kept)) }
     ensures shorter { OnOk result (length reader.new < length reader.old) }
-    ensures bad { result ≡ Err Fault.BadJson → converted (λ ms. of_members ms no_members) (members (value depth) (length reader.old) reader.old) ≡ None }
+    ensures bad { result ≡ Err Fault.BadJson → converted (λ ms. of_members ms no_members)
+        (members (value depth) (length reader.old) reader.old) ≡ None }
 {
     match shape.wanted() {
         Wanted::Object => {
@@ -264,9 +279,13 @@ fn members_kept<S: Shape>(
     depth: usize,
     shape: S,
 ) -> Result<Map<String, Value>, Fault>
-    ensures ok { IfOk result (λ kept. (ms : Members) × (converted (λ ms. of_members ms no_members) (members (value depth) (length reader.old) reader.old) ≡ Some (ms, reader.new)) × KeptMembers (Kept S.wants S.item_shape S.member_shape S.accepts depth) (S.member_shape shape) ms (members_view kept.entries)) }
+    ensures ok { IfOk result (λ kept. (ms : Members)
+        × (converted (λ ms. of_members ms no_members) (members (value depth) (length reader.old) reader.old) ≡ Some
+        (ms, reader.new)) × KeptMembers (Kept S.wants S.item_shape S.member_shape S.accepts depth)
+        (S.member_shape shape) ms (members_view kept.entries)) }
     ensures shorter { OnOk result (length reader.new < length reader.old) }
-    ensures bad { result ≡ Err Fault.BadJson → converted (λ ms. of_members ms no_members) (members (value depth) (length reader.old) reader.old) ≡ None }
+    ensures bad { result ≡ Err Fault.BadJson → converted (λ ms. of_members ms no_members)
+        (members (value depth) (length reader.old) reader.old) ≡ None }
 {
     let mut kept = Map::new(alloc);
     'members: while let Some(name) = reader.next_key()? {
@@ -285,7 +304,9 @@ fn keep_member<S: Shape>(
     shape: S,
     kept: &mut Map<String, Value>,
 ) -> Result<(), Fault>
-    ensures ok { OnOk result ((d : Data) × (value_at depth reader.old ≡ Some (d, reader.new)) × KeepsMember (Kept S.wants S.item_shape S.member_shape S.accepts depth) (S.member_shape shape) name.now d (members_view kept.old.entries) (members_view kept.new.entries)) }
+    ensures ok { OnOk result ((d : Data) × (value_at depth reader.old ≡ Some (d, reader.new))
+        × KeepsMember (Kept S.wants S.item_shape S.member_shape S.accepts depth) (S.member_shape shape) name.now d
+        (members_view kept.old.entries) (members_view kept.new.entries)) }
     ensures shorter { OnOk result (length reader.new < length reader.old) }
     ensures bad { result ≡ Err Fault.BadJson → value_at depth reader.old ≡ None }
 {
@@ -307,7 +328,8 @@ fn put_member(
     member: Value,
     kept: &mut Map<String, Value>,
 ) -> Result<(), Fault>
-    ensures ok { OnOk result (members_view kept.new.entries ≡ put name.now (view member) (members_view kept.old.entries)) }
+    ensures ok { OnOk result (members_view kept.new.entries ≡ put name.now (view member)
+        (members_view kept.old.entries)) }
     ensures bad { result ≡ Err Fault.BadJson → ⊥ }
 {
     let key = String::from_str(alloc, name)?;

@@ -141,7 +141,8 @@ fn answer_script<F: Shelf, O: Sink, H: RegexHost, D: Disk>(
     requires agrees { IsTrue (D.tells disk.old) → Agrees (D.images disk.old) keep }
     ensures ends { IsTrue (D.tells disk.old) → EndsOpened (F.Source.files shelf.old) script.now (O.taken out.old) (O.taken out.new)
         (between (H.faults host.old) (H.faults host.new)) keep (D.images disk.old) (D.images disk.new) result }
-    ensures sound { IsTrue (D.tells disk.old) → Sound keep.name (D.images disk.old) → Sound keep.name (D.images disk.new) }
+    ensures sound { IsTrue (D.tells disk.old) → Sound keep.name (D.images disk.old)
+        → Sound keep.name (D.images disk.new) }
     ensures tells { D.tells disk.new ≡ D.tells disk.old }
     ensures later { H.faults host.old ≤ H.faults host.new }
     ensures read_fault { HasCauseOf KeepStop.ReadFault (F.Source.faults shelf.old) (F.Source.faults shelf.new) result }
@@ -174,7 +175,8 @@ fn ended(answered: Result<(), KeepStop>) -> Status
 
 // Prints the line of a file that is refused, unless memory ran out for it.
 fn refuse<O: Sink>(line: Result<String, NoMemory>, out: &mut O) -> Status
-    ensures { EndsRefused (O.taken out.old) (O.taken out.new) (between (O.faults out.old) (O.faults out.new)) line result }
+    ensures { EndsRefused (O.taken out.old) (O.taken out.new)
+        (between (O.faults out.old) (O.faults out.new)) line result }
 {
     let Ok(text) = line else {
         return Status::NoMemory;

@@ -95,7 +95,8 @@ impl CutLine {
     /// Those of `read_line`, but for `RuleRefused` and `InBatch`.
     pub fn read_plain(&self, alloc: Global, memo: &mut Memo) -> Result<Command, LineFault>
         requires { IsPlainLine self.now }
-        ensures read { IfOk result (λ command. spec.command_of self.now.number self.now.bytes ≡ Ok (command_seen command)) }
+        ensures read { IfOk result (λ command. spec.command_of self.now.number self.now.bytes ≡ Ok
+            (command_seen command)) }
         ensures within_limits { IfOk result (λ command. spec.IsWithinLimits (command_seen command)) }
         ensures refused { IfErr result (IsFaultOf (spec.command_of self.now.number self.now.bytes)) }
     {

@@ -28,15 +28,17 @@ pub fn round_with_tools<
 {
     if writer.is_quick(shared) {
         writer.write(rt, shared, gate);
-        work_all(rt, gate, shared, seats, tools);
+        seats_with_tools(rt, gate, shared, seats, tools);
     } else {
         join_mut(
             rt,
             &mut || writer.write(rt, shared, gate),
             &mut ||
-                requires { IsSync R.row × IsSync G.row × IsSync C.row × IsSend S.row × IsSend T.row × All (S.can_work shared.now) seats.now × (length tools.now ≡ length seats.now) }
-                ensures { AllZip (S.worked shared.entry.now) seats.entry.now seats.exit.now × AllZip S.used tools.entry.now tools.exit.now }
-            { work_all(rt, gate, shared, seats, tools) },
+                requires { IsSync R.row × IsSync G.row × IsSync C.row × IsSend S.row × IsSend T.row
+                    × All (S.can_work shared.now) seats.now × (length tools.now ≡ length seats.now) }
+                ensures { AllZip (S.worked shared.entry.now) seats.entry.now seats.exit.now
+                    × AllZip S.used tools.entry.now tools.exit.now }
+            { seats_with_tools(rt, gate, shared, seats, tools) },
         );
     }
 }
@@ -57,6 +59,7 @@ fn are_idle<C, T, S: ToolSeat<C, T>>(shared: &C, seats: &[S]) -> bool
 
 /// Does the work of each seat, each once, beside each other, and returns when all have ended: a round without a writer. Each
 /// seat has the tool at its place.
+#[cycle(seats)]
 pub fn seats_with_tools<
     R: Threads + Sync,
     C: Sync,
@@ -69,23 +72,6 @@ pub fn seats_with_tools<
     ensures worked { AllZip (S.worked shared.now) seats.old seats.new }
     ensures used { AllZip S.used tools.old tools.new }
 {
-    work_all(rt, gate, shared, seats, tools);
-}
-
-// The work of each seat with the tool at its place.
-#[cycle(seats)]
-fn work_all<R: Threads + Sync, C: Sync, T: Send, S: ToolSeat<C, T> + Send, G: Gate + Sync>(
-    rt: &R,
-    gate: &G,
-    shared: &C,
-    seats: &mut [S],
-    tools: &mut [T],
-)
-    requires seats { All (S.can_work shared.now) seats.old }
-    requires tools { length tools.old ≡ length seats.old }
-    ensures worked { AllZip (S.worked shared.now) seats.old seats.new }
-    ensures used { AllZip S.used tools.old tools.new }
-{
     let Some((first, rest)) = seats.split_first_mut() else {
         return;
     };
@@ -93,7 +79,7 @@ fn work_all<R: Threads + Sync, C: Sync, T: Send, S: ToolSeat<C, T> + Send, G: Ga
         return;
     };
     if first.is_idle(shared) {
-        work_all(rt, gate, shared, rest, others);
+        seats_with_tools(rt, gate, shared, rest, others);
     } else if are_idle(shared, rest) {
         first.work(shared, tool, gate);
     } else {
@@ -124,8 +110,10 @@ fn work_beside<R: Threads + Sync, C: Sync, T: Send, S: ToolSeat<C, T> + Send, G:
         rt,
         &mut || first.work(shared, tool, gate),
         &mut ||
-            requires { IsSync R.row × IsSync G.row × IsSync C.row × IsSend S.row × IsSend T.row × All (S.can_work shared.now) rest.now × (length others.now ≡ length rest.now) }
-            ensures { AllZip (S.worked shared.entry.now) rest.entry.now rest.exit.now × AllZip S.used others.entry.now others.exit.now }
-        { work_all(rt, gate, shared, rest, others) },
+            requires { IsSync R.row × IsSync G.row × IsSync C.row × IsSend S.row × IsSend T.row
+                × All (S.can_work shared.now) rest.now × (length others.now ≡ length rest.now) }
+            ensures { AllZip (S.worked shared.entry.now) rest.entry.now rest.exit.now
+                × AllZip S.used others.entry.now others.exit.now }
+        { seats_with_tools(rt, gate, shared, rest, others) },
     );
 }

@@ -50,7 +50,8 @@ pub fn read_extension<F: Shelf, H: RegexHost>(
     ensures files { F.Source.files shelf.new ≡ F.Source.files shelf.old }
     ensures left { F.Source.left shelf.new ≡ F.Source.left shelf.old }
     ensures starts { F.Source.starts shelf.new ≡ F.Source.starts shelf.old }
-    ensures cause { HasCauseOf ManifestRefusal.ReadFault (F.Source.faults shelf.old) (F.Source.faults shelf.new) result }
+    ensures cause { HasCauseOf ManifestRefusal.ReadFault (F.Source.faults shelf.old)
+        (F.Source.faults shelf.new) result }
 {
     let manifest = read_manifest(alloc, shelf, name)?;
     let sets = read_sets(alloc, shelf, name, &manifest.resources, host)?;
@@ -74,7 +75,8 @@ fn read_manifest<F: Shelf>(
     ensures files { F.Source.files shelf.new ≡ F.Source.files shelf.old }
     ensures left { F.Source.left shelf.new ≡ F.Source.left shelf.old }
     ensures starts { F.Source.starts shelf.new ≡ F.Source.starts shelf.old }
-    ensures cause { HasCauseOf ManifestRefusal.ReadFault (F.Source.faults shelf.old) (F.Source.faults shelf.new) result }
+    ensures cause { HasCauseOf ManifestRefusal.ReadFault (F.Source.faults shelf.old)
+        (F.Source.faults shelf.new) result }
 {
     let file = file_in(alloc, name, "manifest.json")?;
     let mut bytes = Vec::new(alloc);
@@ -136,7 +138,8 @@ fn read_sets<F: Shelf, H: RegexHost>(
     ensures files { F.Source.files shelf.new ≡ F.Source.files shelf.old }
     ensures left { F.Source.left shelf.new ≡ F.Source.left shelf.old }
     ensures starts { F.Source.starts shelf.new ≡ F.Source.starts shelf.old }
-    ensures cause { HasCauseOf ManifestRefusal.ReadFault (F.Source.faults shelf.old) (F.Source.faults shelf.new) result }
+    ensures cause { HasCauseOf ManifestRefusal.ReadFault (F.Source.faults shelf.old)
+        (F.Source.faults shelf.new) result }
 {
     let mut sets = Vec::with_capacity(alloc, resources.len())?;
     for resource in resources {
@@ -164,7 +167,8 @@ fn read_set<F: Shelf, H: RegexHost>(
     ensures files { F.Source.files shelf.new ≡ F.Source.files shelf.old }
     ensures left { F.Source.left shelf.new ≡ F.Source.left shelf.old }
     ensures starts { F.Source.starts shelf.new ≡ F.Source.starts shelf.old }
-    ensures cause { HasCauseOf ManifestRefusal.ReadFault (F.Source.faults shelf.old) (F.Source.faults shelf.new) result }
+    ensures cause { HasCauseOf ManifestRefusal.ReadFault (F.Source.faults shelf.old)
+        (F.Source.faults shelf.new) result }
 {
     let file = file_in(alloc, name, resource.path())?;
     match load_rules(alloc, file.as_str(), RuleKind::Static, shelf, host) {

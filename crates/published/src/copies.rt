@@ -48,9 +48,11 @@ pub fn next_copy_together(
     requires some { 0 < length updates.now }
     requires few { length updates.now ≤ 256 }
     requires head { head.now ≡ shown.now.book }
-    ensures judged { OnOk result (entries.judge shown.now.basis.state (entries.batch (updates_seen updates.now)) ≡ None) }
+    ensures judged { OnOk result (entries.judge shown.now.basis.state (entries.batch (updates_seen updates.now))
+        ≡ None) }
     ensures next { IfOk result (λ next. next ≡ next_of shown.now (entries.batch (updates_seen updates.now))) }
-    ensures refused { IfErr result (IsBatchRefusal (entries.judge shown.now.basis.state (entries.batch (updates_seen updates.now)))) }
+    ensures refused { IfErr result (IsBatchRefusal (entries.judge shown.now.basis.state
+        (entries.batch (updates_seen updates.now)))) }
 {
     let next = shown.generation().next_batch(alloc, updates)?;
     let generation = Arc::new(alloc, next).map_err(|_| no_memory())?;

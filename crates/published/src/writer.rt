@@ -121,9 +121,11 @@ impl<P: Pair> Writer<P> {
     pub fn prepare(&mut self, update: &Update) -> Result<(), Refusal>
         requires { self.old.staged ≡ [] }
         ensures list { self.new.list ≡ self.old.list }
-        ensures judged { OnOk result (judge_update (replay P.opening.state self.old.list) (update_seen update.now) ≡ None) }
+        ensures judged { OnOk result (judge_update (replay P.opening.state self.old.list) (update_seen update.now)
+            ≡ None) }
         ensures staged { OnOk result (self.new.staged ≡ entries.one (update_seen update.now) ∷ []) }
-        ensures refused { IfErr result (IsRefusalOf (judge_update (replay P.opening.state self.old.list) (update_seen update.now))) }
+        ensures refused { IfErr result (IsRefusalOf (judge_update (replay P.opening.state self.old.list)
+            (update_seen update.now))) }
         ensures nothing { OnErr result (self.new.staged ≡ []) }
     {
         let next = next_copy(self.alloc, self.copies.published(), &self.head, update)?;
@@ -143,9 +145,11 @@ impl<P: Pair> Writer<P> {
         requires few { length updates.now ≤ 256 }
         requires idle { self.old.staged ≡ [] }
         ensures list { self.new.list ≡ self.old.list }
-        ensures judged { OnOk result (entries.judge (replay P.opening.state self.old.list) (entries.batch (updates_seen updates.now)) ≡ None) }
+        ensures judged { OnOk result (entries.judge (replay P.opening.state self.old.list)
+            (entries.batch (updates_seen updates.now)) ≡ None) }
         ensures staged { OnOk result (self.new.staged ≡ entries.batch (updates_seen updates.now) ∷ []) }
-        ensures refused { IfErr result (IsBatchRefusal (entries.judge (replay P.opening.state self.old.list) (entries.batch (updates_seen updates.now)))) }
+        ensures refused { IfErr result (IsBatchRefusal (entries.judge (replay P.opening.state self.old.list)
+            (entries.batch (updates_seen updates.now)))) }
         ensures nothing { OnErr result (self.new.staged ≡ []) }
     {
         let next = next_copy_together(self.alloc, self.copies.published(), &self.head, updates)?;

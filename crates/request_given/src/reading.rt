@@ -321,7 +321,8 @@ fn header_of(
     name: Option<&str>,
     value: Option<&str>,
 ) -> Result<Option<Header>, NoMemory>
-    ensures { IfOk result (λ header. header ≡ line.header_of (option_map (λ t. t.now) name.entry) (option_map (λ t. t.now) value.entry)) }
+    ensures { IfOk result (λ header. header ≡ line.header_of (option_map (λ t. t.now) name.entry)
+        (option_map (λ t. t.now) value.entry)) }
 {
     match (name, value) {
         (Some(name), Some(value)) if is_name(name) && is_one_value(value) => Ok(Some(Header {

@@ -32,7 +32,8 @@ pub fn next_request_parts(
     reader: &mut Reader<'_>,
     depth: usize,
 ) -> Result<Value, Fault>
-    ensures read { IfOk result (λ kept. (d : Data) × (value_at depth reader.old ≡ Some (d, reader.new)) × SaysAs (view kept) d) }
+    ensures read { IfOk result (λ kept. (d : Data) × (value_at depth reader.old ≡ Some (d, reader.new))
+        × SaysAs (view kept) d) }
     ensures shorter { OnOk result (length reader.new < length reader.old) }
     ensures bad { result ≡ Err Fault.BadJson → value_at depth reader.old ≡ None }
 {

@@ -314,7 +314,8 @@ fn methods_field(
     condition: &Value,
     field: RulePath,
 ) -> Result<Option<MethodSet>, RuleRefusal>
-    ensures ok { IfOk result (λ methods. field_in as_methods field (view condition.now) ≡ Ok (option_map methods_of methods)) }
+    ensures ok { IfOk result (λ methods. field_in as_methods field (view condition.now) ≡ Ok
+        (option_map methods_of methods)) }
     ensures refused { IfErr result (IsRefused (field_in as_methods field (view condition.now))) }
 {
     let Some(value) = condition.get(field.key()) else {

@@ -61,7 +61,8 @@ pub(crate) fn as_kinds(alloc: Global, value: &Value) -> Result<Option<KindSet>, 
 }
 
 fn kinds_in(alloc: Global, values: &[Value]) -> Result<Option<Vec<Kind>>, NoMemory>
-    ensures { IfOk result (λ kinds. option_map (λ list. list.items) kinds ≡ form.each form.as_kind (items_view values.now)) }
+    ensures { IfOk result (λ kinds. option_map (λ list. list.items) kinds ≡ form.each form.as_kind
+        (items_view values.now)) }
 {
     let mut kinds = Vec::with_capacity(alloc, values.len())?;
     for value in values {
@@ -97,7 +98,8 @@ pub(crate) fn as_methods(alloc: Global, value: &Value) -> Result<Option<MethodSe
 }
 
 fn methods_in(alloc: Global, values: &[Value]) -> Result<Option<Vec<Method>>, NoMemory>
-    ensures { IfOk result (λ methods. option_map (λ list. list.items) methods ≡ form.each form.as_method (items_view values.now)) }
+    ensures { IfOk result (λ methods. option_map (λ list. list.items) methods ≡ form.each form.as_method
+        (items_view values.now)) }
 {
     let mut methods = Vec::with_capacity(alloc, values.len())?;
     for value in values {
@@ -133,7 +135,8 @@ pub(crate) fn as_tabs(alloc: Global, value: &Value) -> Result<Option<Items<i32>>
 }
 
 fn tabs_in(alloc: Global, values: &[Value]) -> Result<Option<Vec<i32>>, NoMemory>
-    ensures { IfOk result (λ tabs. option_map (λ list. list.items) tabs ≡ form.each form.as_tab (items_view values.now)) }
+    ensures { IfOk result (λ tabs. option_map (λ list. list.items) tabs ≡ form.each form.as_tab
+        (items_view values.now)) }
 {
     let mut tabs = Vec::with_capacity(alloc, values.len())?;
     for value in values {

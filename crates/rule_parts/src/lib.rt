@@ -27,7 +27,8 @@ use std::alloc::Global;
 /// - `BadJson`: the tokens are no value.
 /// - `NoMemory`: memory ran out.
 pub fn next_rule(alloc: Global, reader: &mut Reader<'_>, depth: usize) -> Result<Value, Fault>
-    ensures read { IfOk result (λ kept. (d : Data) × (value_at depth reader.old ≡ Some (d, reader.new)) × ReadsAs (view kept) d) }
+    ensures read { IfOk result (λ kept. (d : Data) × (value_at depth reader.old ≡ Some (d, reader.new))
+        × ReadsAs (view kept) d) }
     ensures shorter { OnOk result (length reader.new < length reader.old) }
     ensures bad { result ≡ Err Fault.BadJson → value_at depth reader.old ≡ None }
 {

@@ -65,7 +65,8 @@ fn fault_of(
     place: usize,
     one: Shadow,
 ) -> Option<CheckRefusal>
-    ensures { result ≡ fault_by (rule_in table.now) (contains nat_cmp removed.now) (contains nat_cmp before.now) place one }
+    ensures { result ≡ fault_by (rule_in table.now) (contains nat_cmp removed.now)
+        (contains nat_cmp before.now) place one }
 {
     let s = rule_of(table, one.removed);
     let k = rule_of(table, one.by);
@@ -130,7 +131,8 @@ fn checked(
     rules: &[Rule],
     proof: &[Shadow],
 ) -> Result<Result<Vec<Rule>, CheckRefusal>, NoMemory>
-    ensures { IfOk result (λ answer. MatchResult answer (λ rest. spec.checked rules.now proof.now ≡ Ok rest.items) (λ refusal. spec.checked rules.now proof.now ≡ Err refusal)) }
+    ensures { IfOk result (λ answer. MatchResult answer (λ rest. spec.checked rules.now proof.now ≡ Ok rest.items)
+        (λ refusal. spec.checked rules.now proof.now ≡ Err refusal)) }
 {
     let removed = removed_by(alloc, proof)?;
     if let Some(refusal) = first_fault(alloc, rules, proof, &removed)? {
@@ -162,7 +164,8 @@ pub(crate) fn are_rules(rules: &[Rule])
 pub fn check(alloc: Global, rules: &[Rule], proof: &[Shadow]) -> Result<Vec<Rule>, CheckRefusal>
     requires { IdsDiffer rules.now }
     ensures rest { IfOk result (λ rest. spec.checked rules.now proof.now ≡ Ok rest.items) }
-    ensures refused { IfErr result (λ refusal. (refusal ≡ CheckRefusal.NoMemory) ⊎ (spec.checked rules.now proof.now ≡ Err refusal)) }
+    ensures refused { IfErr result (λ refusal. (refusal ≡ CheckRefusal.NoMemory)
+        ⊎ (spec.checked rules.now proof.now ≡ Err refusal)) }
     ensures same { IfOk result (λ rest. DoAlike rules.now rest.items) }
 {
     rest_does_the_same();

@@ -49,7 +49,8 @@ fn add<'a>(
 
 // Puts a place behind the others, if its rule has no filter.
 fn add_other(others: &mut Vec<usize>, condition: &Condition, place: usize) -> Result<(), NoMemory>
-    ensures { OnOk result (others.new.items ≡ (if spec.has_no_filter condition.now then others.old.items ++ place ∷ [] else others.old.items)) }
+    ensures { OnOk result (others.new.items ≡ (if spec.has_no_filter condition.now then others.old.items ++ place
+        ∷ [] else others.old.items)) }
 {
     if has_no_filter(condition) {
         others.push(place)?;

@@ -142,7 +142,8 @@ pub fn find(alloc: Global, rules: &[Rule]) -> Result<Vec<Shadow>, PruneRefusal>
     requires { IdsDiffer rules.now }
     ensures found { IfOk result (λ removals. removals.items ≡ spec.removals rules.now) }
     ensures few { IfOk result (λ removals. length rules.now ≤ max_rules) }
-    ensures refused { IfErr result (λ refusal. ((refusal ≡ PruneRefusal.TooManyRules (length rules.now)) × (max_rules < length rules.now)) ⊎ ((refusal ≡ PruneRefusal.NoMemory) × (length rules.now ≤ max_rules))) }
+    ensures refused { IfErr result (λ refusal. ((refusal ≡ PruneRefusal.TooManyRules (length rules.now))
+        × (max_rules < length rules.now)) ⊎ ((refusal ≡ PruneRefusal.NoMemory) × (length rules.now ≤ max_rules))) }
     ensures accepted { IfOk result (λ removals. spec.checked rules.now removals.items ≡ Ok (spec.kept rules.now)) }
 {
     found_is_accepted();

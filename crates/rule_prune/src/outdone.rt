@@ -59,7 +59,8 @@ impl Search<'_> {
     // Whether the rule at another place may outdo it, by what both test of response headers.
     fn may_be_outdone_by(&self, other: usize) -> bool
         requires { IsReady self.now }
-        ensures { spec.one_outdoes self.now.rules.now (slice_get self.now.rules.now other) (slice_get self.now.rules.now self.now.place) ≡ true → result ≡ true }
+        ensures { spec.one_outdoes self.now.rules.now (slice_get self.now.rules.now other)
+            (slice_get self.now.rules.now self.now.place) ≡ true → result ≡ true }
     {
         may_be_same(
             digest_at(self.digests, other),
@@ -70,7 +71,8 @@ impl Search<'_> {
     // Whether it outdoes it, by all of their fields.
     fn loses_to(&self, other: usize) -> bool
         requires { IdsDiffer self.now.rules.now }
-        ensures { result ≡ spec.one_outdoes self.now.rules.now (slice_get self.now.rules.now other) (slice_get self.now.rules.now self.now.place) }
+        ensures { result ≡ spec.one_outdoes self.now.rules.now (slice_get self.now.rules.now other)
+            (slice_get self.now.rules.now self.now.place) }
     {
         let Some(k) = rule_at(self.rules, other) else {
             return false;
@@ -84,7 +86,8 @@ impl Search<'_> {
     // Whether it outdoes it.
     fn is_outdone_by(&self, other: usize) -> bool
         requires { IsReady self.now }
-        ensures { result ≡ spec.one_outdoes self.now.rules.now (slice_get self.now.rules.now other) (slice_get self.now.rules.now self.now.place) }
+        ensures { result ≡ spec.one_outdoes self.now.rules.now (slice_get self.now.rules.now other)
+            (slice_get self.now.rules.now self.now.place) }
     {
         if self.may_be_outdone_by(other) {
             return self.loses_to(other);
@@ -113,7 +116,8 @@ impl Search<'_> {
 
     fn nearest(&self, so_far: Option<usize>, places: &[usize]) -> Option<usize>
         requires { IsReady self.now }
-        ensures { result ≡ spec.nearest (spec.keeps self.now.rules.now self.now.gone.now self.now.place) so_far places.now }
+        ensures { result ≡ spec.nearest
+            (spec.keeps self.now.rules.now self.now.gone.now self.now.place) so_far places.now }
     {
         let mut best = so_far;
         for other in places {
@@ -124,7 +128,8 @@ impl Search<'_> {
 
     fn under(&self, best: Option<usize>, table: &Table<'_>, text: &str) -> Option<usize>
         requires { IsReady self.now }
-        ensures { result ≡ spec.nearest (spec.keeps self.now.rules.now self.now.gone.now self.now.place) best (spec.places_under table.now text.now) }
+        ensures { result ≡ spec.nearest (spec.keeps self.now.rules.now self.now.gone.now self.now.place) best
+            (spec.places_under table.now text.now) }
     {
         match table.get(text) {
             Some(places) => self.nearest(best, places.as_slice()),
@@ -139,7 +144,8 @@ impl Search<'_> {
         text: Option<&str>,
     ) -> Option<usize>
         requires { IsReady self.now }
-        ensures { result ≡ spec.nearest (spec.keeps self.now.rules.now self.now.gone.now self.now.place) best (spec.under_given table.now (option_copied text.entry)) }
+        ensures { result ≡ spec.nearest (spec.keeps self.now.rules.now self.now.gone.now self.now.place) best
+            (spec.under_given table.now (option_copied text.entry)) }
     {
         match text {
             Some(text) => self.under(best, table, text),
@@ -150,7 +156,8 @@ impl Search<'_> {
     // Among those under what stands behind each dot of the text.
     fn behind_dots(&self, so_far: Option<usize>, table: &Table<'_>, text: &str) -> Option<usize>
         requires { IsReady self.now }
-        ensures { result ≡ spec.nearest (spec.keeps self.now.rules.now self.now.gone.now self.now.place) so_far (spec.behind_dots table.now text.now) }
+        ensures { result ≡ spec.nearest (spec.keeps self.now.rules.now self.now.gone.now self.now.place) so_far
+            (spec.behind_dots table.now text.now) }
     {
         let mut best = so_far;
         let mut rest = text;
@@ -168,7 +175,8 @@ impl Search<'_> {
         domain: Option<&str>,
     ) -> Option<usize>
         requires { IsReady self.now }
-        ensures { result ≡ spec.nearest (spec.keeps self.now.rules.now self.now.gone.now self.now.place) best (spec.under_domain table.now (option_copied domain.entry)) }
+        ensures { result ≡ spec.nearest (spec.keeps self.now.rules.now self.now.gone.now self.now.place) best
+            (spec.under_domain table.now (option_copied domain.entry)) }
     {
         match domain {
             Some(domain) => self.behind_dots(self.under(best, table, domain), table, domain),
@@ -179,7 +187,8 @@ impl Search<'_> {
     // The first rule that outdoes it, of those that may.
     pub(crate) fn first(&self, filters: &Filters<'_>, s: &Condition) -> Option<usize>
         requires { IsReady self.now }
-        ensures { result ≡ spec.nearest (spec.keeps self.now.rules.now self.now.gone.now self.now.place) None (spec.candidates filters.now s.now) }
+        ensures { result ≡ spec.nearest (spec.keeps self.now.rules.now self.now.gone.now self.now.place) None
+            (spec.candidates filters.now s.now) }
     {
         let best = self.nearest(None, filters.others.as_slice());
         let best = self.under_given(best, &filters.patterns, pattern_text(s));

@@ -199,7 +199,8 @@ fn method_names(alloc: Global, methods: MethodSet) -> Result<Vec<Value>, NoMemor
 }
 
 fn given_methods(alloc: Global, methods: Option<MethodSet>) -> Result<Option<Value>, NoMemory>
-    ensures { IfOk result (λ value. option_map view value ≡ option_map methods_written (option_map methods_of methods)) }
+    ensures { IfOk result (λ value. option_map view value ≡ option_map methods_written
+        (option_map methods_of methods)) }
 {
     match methods {
         Some(methods) => Ok(Some(Value::Array(method_names(alloc, methods)?))),

@@ -15,7 +15,8 @@ pub(crate) fn given_tests(
     alloc: Global,
     tests: Option<&Items<HeaderTest>>,
 ) -> Result<Option<Value>, NoMemory>
-    ensures { IfOk result (λ value. option_map view value ≡ option_map (written_list test_written) (option_copied tests.entry)) }
+    ensures { IfOk result (λ value. option_map view value ≡ option_map (written_list test_written)
+        (option_copied tests.entry)) }
 {
     match tests {
         Some(tests) => Ok(Some(Value::Array(test_values(alloc, tests.as_slice())?))),

@@ -51,7 +51,8 @@ pub fn load_rules<F: Shelf, H: RegexHost>(
     host: &mut H,
 ) -> Result<Vec<Rule>, LoadRefusal>
     requires { F.allows name.now }
-    ensures ok { IfOk result (λ rules. IfSome (F.Source.files shelf.old) (λ files. HoldsRules files kind name.now rules.items)) }
+    ensures ok { IfOk result (λ rules. IfSome (F.Source.files shelf.old)
+        (λ files. HoldsRules files kind name.now rules.items)) }
     ensures read { IfOk result (AreRead kind) }
     ensures refused { IfErr result (λ refusal. IfSome (F.Source.files shelf.old) (λ files.
         Refuses files kind name.now (Rose (H.faults host.old) (H.faults host.new)) refusal)) }

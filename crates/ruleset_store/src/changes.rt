@@ -80,7 +80,8 @@ fn without(
     extensions: &[InstalledExtension],
     name: &str,
 ) -> Result<Vec<InstalledExtension>, NoMemory>
-    ensures { IfOk result (λ next. next.items ≡ filter (λ extension. not (update.has_name name.now extension)) extensions.now) }
+    ensures { IfOk result (λ next. next.items ≡ filter
+        (λ extension. not (update.has_name name.now extension)) extensions.now) }
 {
     let mut next = Vec::with_capacity(alloc, extensions.len())?;
     for extension in extensions {
@@ -128,9 +129,12 @@ fn dynamic_after(
     remove: &[u32],
     add: &[SharedRule],
 ) -> Result<InstalledExtension, Refusal>
-    ensures judged { OnOk result (spec.first_refusal (tests.dynamic_tests count remove.now add.now extension.now.dynamic) ≡ None) }
-    ensures next { IfOk result (λ next. next ≡ record extension.now { dynamic = update.replaced remove.now add.now extension.now.dynamic }) }
-    ensures refused { IfErr result (IsRefusalOf (spec.first_refusal (tests.dynamic_tests count remove.now add.now extension.now.dynamic))) }
+    ensures judged { OnOk result (spec.first_refusal
+        (tests.dynamic_tests count remove.now add.now extension.now.dynamic) ≡ None) }
+    ensures next { IfOk result (λ next. next
+        ≡ record extension.now { dynamic = update.replaced remove.now add.now extension.now.dynamic }) }
+    ensures refused { IfErr result (IsRefusalOf (spec.first_refusal
+        (tests.dynamic_tests count remove.now add.now extension.now.dynamic))) }
     ensures fits { OnOk result (count < spec.max_updates) }
 {
     let rules = replaced(alloc, extension.dynamic(), remove, add)?;
@@ -145,9 +149,12 @@ fn session_after(
     remove: &[u32],
     add: &[SharedRule],
 ) -> Result<InstalledExtension, Refusal>
-    ensures judged { OnOk result (spec.first_refusal (tests.session_tests count remove.now add.now extension.now.session) ≡ None) }
-    ensures next { IfOk result (λ next. next ≡ record extension.now { session = update.replaced remove.now add.now extension.now.session }) }
-    ensures refused { IfErr result (IsRefusalOf (spec.first_refusal (tests.session_tests count remove.now add.now extension.now.session))) }
+    ensures judged { OnOk result (spec.first_refusal
+        (tests.session_tests count remove.now add.now extension.now.session) ≡ None) }
+    ensures next { IfOk result (λ next. next
+        ≡ record extension.now { session = update.replaced remove.now add.now extension.now.session }) }
+    ensures refused { IfErr result (IsRefusalOf (spec.first_refusal
+        (tests.session_tests count remove.now add.now extension.now.session))) }
     ensures fits { OnOk result (count < spec.max_updates) }
 {
     let rules = replaced(alloc, extension.session(), remove, add)?;
@@ -164,8 +171,10 @@ pub(crate) fn after_dynamic(
     remove: &[u32],
     add: &[SharedRule],
 ) -> Result<Vec<InstalledExtension>, Refusal>
-    ensures made { IfOk result (λ next. IsMadeIn extensions.now count (update.dynamic name.now remove.now add.now) next.items) }
-    ensures refused { IfErr result (IsRefusalOf (judge_in extensions.now count (update.dynamic name.now remove.now add.now))) }
+    ensures made { IfOk result (λ next. IsMadeIn extensions.now count
+        (update.dynamic name.now remove.now add.now) next.items) }
+    ensures refused { IfErr result (IsRefusalOf (judge_in extensions.now count
+        (update.dynamic name.now remove.now add.now))) }
     ensures fits { OnOk result (count < spec.max_updates) }
 {
     match named(extensions, name) {
@@ -186,8 +195,10 @@ pub(crate) fn after_session(
     remove: &[u32],
     add: &[SharedRule],
 ) -> Result<Vec<InstalledExtension>, Refusal>
-    ensures made { IfOk result (λ next. IsMadeIn extensions.now count (update.session name.now remove.now add.now) next.items) }
-    ensures refused { IfErr result (IsRefusalOf (judge_in extensions.now count (update.session name.now remove.now add.now))) }
+    ensures made { IfOk result (λ next. IsMadeIn extensions.now count
+        (update.session name.now remove.now add.now) next.items) }
+    ensures refused { IfErr result (IsRefusalOf (judge_in extensions.now count
+        (update.session name.now remove.now add.now))) }
     ensures fits { OnOk result (count < spec.max_updates) }
 {
     match named(extensions, name) {
@@ -208,7 +219,8 @@ fn judge_switched(
     disable: &[Text],
     enable: &[Text],
 ) -> Result<(), Refusal>
-    ensures { Answers (spec.first_refused (spec.lacks_set extension.now) refusal.NoRuleset (disable.now ++ enable.now)) result }
+    ensures { Answers (spec.first_refused (spec.lacks_set extension.now) refusal.NoRuleset
+        (disable.now ++ enable.now)) result }
 {
     match judge_set_ids(alloc, extension, disable) {
         Ok(()) => judge_set_ids(alloc, extension, enable),
@@ -249,8 +261,10 @@ pub(crate) fn after_rulesets(
     disable: &[Text],
     enable: &[Text],
 ) -> Result<Vec<InstalledExtension>, Refusal>
-    ensures made { IfOk result (λ next. IsMadeIn extensions.now count (update.rulesets name.now disable.now enable.now) next.items) }
-    ensures refused { IfErr result (IsRefusalOf (judge_in extensions.now count (update.rulesets name.now disable.now enable.now))) }
+    ensures made { IfOk result (λ next. IsMadeIn extensions.now count
+        (update.rulesets name.now disable.now enable.now) next.items) }
+    ensures refused { IfErr result (IsRefusalOf (judge_in extensions.now count
+        (update.rulesets name.now disable.now enable.now))) }
     ensures fits { OnOk result (count < spec.max_updates) }
 {
     match named(extensions, name) {
@@ -269,7 +283,8 @@ fn judge_rules_switched(
     disable: &[i128],
     enable: &[i128],
 ) -> Result<(), Refusal>
-    ensures { Answers (spec.first_refused (spec.lacks_rule set.now) refusal.NoStaticRule (disable.now ++ enable.now)) result }
+    ensures { Answers (spec.first_refused (spec.lacks_rule set.now) refusal.NoStaticRule
+        (disable.now ++ enable.now)) result }
 {
     match judge_rule_ids(set, disable) {
         Ok(()) => judge_rule_ids(set, enable),
@@ -297,12 +312,15 @@ fn with_switched(
     disable: &[i128],
     enable: &[i128],
 ) -> Result<InstalledExtension, Refusal>
-    requires { lists_of (tests.sets_after id.now disable.now enable.now set.now extension.now) ≡ lists_of extension.now.sets }
-    ensures judged { OnOk result (spec.first_refusal (tests.switched_tests count id.now disable.now enable.now set.now extension.now) ≡ None) }
+    requires { lists_of (tests.sets_after id.now disable.now enable.now set.now extension.now)
+        ≡ lists_of extension.now.sets }
+    ensures judged { OnOk result (spec.first_refusal
+        (tests.switched_tests count id.now disable.now enable.now set.now extension.now) ≡ None) }
     ensures next { IfOk result (λ next. next ≡ record extension.now {
       sets = tests.sets_after id.now disable.now enable.now set.now extension.now;
     }) }
-    ensures refused { IfErr result (IsRefusalOf (spec.first_refusal (tests.switched_tests count id.now disable.now enable.now set.now extension.now))) }
+    ensures refused { IfErr result (IsRefusalOf (spec.first_refusal
+        (tests.switched_tests count id.now disable.now enable.now set.now extension.now))) }
     ensures fits { OnOk result (count < spec.max_updates) }
 {
     judge_rules_switched(set, disable, enable)?;
@@ -321,11 +339,13 @@ fn static_after(
     disable: &[i128],
     enable: &[i128],
 ) -> Result<InstalledExtension, Refusal>
-    ensures judged { OnOk result (spec.first_refusal (tests.static_tests count id.now disable.now enable.now extension.now) ≡ None) }
+    ensures judged { OnOk result (spec.first_refusal
+        (tests.static_tests count id.now disable.now enable.now extension.now) ≡ None) }
     ensures next { IfOk result (λ next. next ≡ record extension.now {
       sets = update.with_first (update.has_set_id id.now) (update.with_rules_switched disable.now enable.now) extension.now.sets;
     }) }
-    ensures refused { IfErr result (IsRefusalOf (spec.first_refusal (tests.static_tests count id.now disable.now enable.now extension.now))) }
+    ensures refused { IfErr result (IsRefusalOf (spec.first_refusal
+        (tests.static_tests count id.now disable.now enable.now extension.now))) }
     ensures fits { OnOk result (count < spec.max_updates) }
 {
     match set_named(extension.sets(), id) {
@@ -344,8 +364,10 @@ pub(crate) fn after_static(
     disable: &[i128],
     enable: &[i128],
 ) -> Result<Vec<InstalledExtension>, Refusal>
-    ensures made { IfOk result (λ next. IsMadeIn extensions.now count (update.static name.now set.now disable.now enable.now) next.items) }
-    ensures refused { IfErr result (IsRefusalOf (judge_in extensions.now count (update.static name.now set.now disable.now enable.now))) }
+    ensures made { IfOk result (λ next. IsMadeIn extensions.now count
+        (update.static name.now set.now disable.now enable.now) next.items) }
+    ensures refused { IfErr result (IsRefusalOf (judge_in extensions.now count
+        (update.static name.now set.now disable.now enable.now))) }
     ensures fits { OnOk result (count < spec.max_updates) }
 {
     match named(extensions, name) {
@@ -370,7 +392,8 @@ fn with_installed(
     requires { installed.now ≡ update.installed extension.now }
     ensures judged { OnOk result (spec.first_refusal (tests.install_tests count extension.now extensions.now) ≡ None) }
     ensures next { IfOk result (λ next. next.items ≡ extensions.now ++ update.installed extension.now ∷ []) }
-    ensures refused { IfErr result (IsRefusalOf (spec.first_refusal (tests.install_tests count extension.now extensions.now))) }
+    ensures refused { IfErr result (IsRefusalOf (spec.first_refusal
+        (tests.install_tests count extension.now extensions.now))) }
     ensures fits { OnOk result (count < spec.max_updates) }
 {
     judge_name(alloc, extensions, extension.name())?;
@@ -390,8 +413,10 @@ pub(crate) fn after_install(
     count: u32,
     extension: &Arc<Extension>,
 ) -> Result<Vec<InstalledExtension>, Refusal>
-    ensures made { IfOk result (λ next. IsMadeIn extensions.now count (update.install (arc_value extension.now)) next.items) }
-    ensures refused { IfErr result (IsRefusalOf (judge_in extensions.now count (update.install (arc_value extension.now)))) }
+    ensures made { IfOk result (λ next. IsMadeIn extensions.now count
+        (update.install (arc_value extension.now)) next.items) }
+    ensures refused { IfErr result (IsRefusalOf (judge_in extensions.now count
+        (update.install (arc_value extension.now)))) }
     ensures fits { OnOk result (count < spec.max_updates) }
 {
     match InstalledExtension::of(alloc, extension) {

@@ -108,7 +108,8 @@ impl Store {
         requires some { 0 < length updates.now }
         requires few { length updates.now ≤ 256 }
         ensures judged { OnOk result (entries.judge self.now (entries.batch (updates_seen updates.now)) ≡ None) }
-        ensures refused { IfErr result (IsBatchRefusal (entries.judge self.now (entries.batch (updates_seen updates.now)))) }
+        ensures refused { IfErr result (IsBatchRefusal (entries.judge self.now
+            (entries.batch (updates_seen updates.now)))) }
     {
         match self.changed_by_all(alloc, updates) {
             Ok(_) => Ok(()),
@@ -125,8 +126,10 @@ impl Store {
         requires some { 0 < length updates.now }
         requires few { length updates.now ≤ 256 }
         ensures judged { OnOk result (entries.judge self.now (entries.batch (updates_seen updates.now)) ≡ None) }
-        ensures applied { IfOk result (λ store. store ≡ entries.after self.now (entries.batch (updates_seen updates.now))) }
-        ensures refused { IfErr result (IsBatchRefusal (entries.judge self.now (entries.batch (updates_seen updates.now)))) }
+        ensures applied { IfOk result (λ store. store ≡ entries.after self.now
+            (entries.batch (updates_seen updates.now))) }
+        ensures refused { IfErr result (IsBatchRefusal (entries.judge self.now
+            (entries.batch (updates_seen updates.now)))) }
     {
         match self.changed_by_all(alloc, updates) {
             Ok(store) => Ok(store.counted()),
@@ -170,7 +173,8 @@ impl Store {
 
     fn with_install(&self, alloc: Global, extension: &Arc<Extension>) -> Result<Store, Refusal>
         ensures made { IfOk result (IsMade self.now (update.install (arc_value extension.now))) }
-        ensures refused { IfErr result (IsRefusalOf (spec.judge_update self.now (update.install (arc_value extension.now)))) }
+        ensures refused { IfErr result (IsRefusalOf (spec.judge_update self.now
+            (update.install (arc_value extension.now)))) }
         ensures fits { OnOk result (self.now.count < spec.max_updates) }
     {
         match after_install(alloc, self.extensions(), self.count, extension) {
@@ -185,8 +189,10 @@ impl Store {
         alloc: Global,
         update: &Update,
     ) -> Result<Vec<InstalledExtension>, Refusal>
-        ensures made { IfOk result (λ next. IsMadeIn self.now.extensions self.now.count (update_seen update.now) next.items) }
-        ensures refused { IfErr result (IsRefusalOf (judge_in self.now.extensions self.now.count (update_seen update.now))) }
+        ensures made { IfOk result (λ next. IsMadeIn self.now.extensions self.now.count
+            (update_seen update.now) next.items) }
+        ensures refused { IfErr result (IsRefusalOf (judge_in self.now.extensions self.now.count
+            (update_seen update.now))) }
         ensures fits { OnOk result (self.now.count < spec.max_updates) }
     {
         let all = self.extensions();

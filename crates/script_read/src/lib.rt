@@ -24,4 +24,4 @@ pub use asked::Asked;
 pub use command::Command;
 pub use line_spec::{CommandPath, LineFault, UpdateField};
 pub use memo::Memo;
-pub use reading::{ask_line, finish_line, is_blank, read_line, read_line_with};
+pub use reading::{ask_line, finish_line, read_line, read_line_with};

@@ -133,8 +133,8 @@ pub fn finish_line<H: RegexHost>(
     }
 }
 
-/// Whether the line has spaces and tabs alone.
-pub fn is_blank(bytes: &[u8]) -> bool
+// Whether the line has spaces and tabs alone.
+fn is_blank(bytes: &[u8]) -> bool
     ensures { result ≡ lines.is_blank bytes.now }
 {
     bytes.iter().all(|byte| *byte == b' ' || *byte == b'\t')

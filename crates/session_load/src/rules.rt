@@ -118,7 +118,8 @@ fn write_refusal(
     refusal: &FileRefusal,
     into: &mut String,
 ) -> Result<(), NoMemory>
-    ensures { OnOk result (string_bytes into.new ≡ string_bytes into.old ++ refusal_line file.now (refusal_seen refusal.now)) }
+    ensures { OnOk result (string_bytes into.new ≡ string_bytes into.old ++ refusal_line file.now
+        (refusal_seen refusal.now)) }
 {
     match refusal {
         FileRefusal::BadJson => write_bad_json(alloc, file, into),

@@ -133,7 +133,8 @@ fn outcome_of(
     host: &mut PackHost,
 ) -> Result<Outcome, NoMemory>
     requires { request.now.frames ≡ [] }
-    ensures { IfOk result (λ outcome. outcome ≡ (scan generation.now.suffixes generation.now.state request.now).outcome) }
+    ensures { IfOk result (λ outcome. outcome
+        ≡ (scan generation.now.suffixes generation.now.state request.now).outcome) }
 {
     outcome_over::<Brand>(alloc, generation, request, host, Blank::new(1))
 }
@@ -149,7 +150,8 @@ fn outcome_over<L: Ledger>(
     requires name { blank.name ≡ L.name }
     requires parts { blank.parts ≡ L.parts }
     requires one { blank.parts ≡ 1 }
-    ensures { IfOk result (λ outcome. outcome ≡ (scan generation.now.suffixes generation.now.state request.now).outcome) }
+    ensures { IfOk result (λ outcome. outcome
+        ≡ (scan generation.now.suffixes generation.now.state request.now).outcome) }
 {
     let mut steps = Steps::<L>::open(blank);
     match generation.decide(alloc, request, host, &mut steps) {

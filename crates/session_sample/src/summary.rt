@@ -44,7 +44,8 @@ pub fn summary_of(alloc: Global, sample: &Sample) -> Result<Summary, NoMemory>
 fn begin(alloc: Global, sample: &Sample) -> Result<Session, NoMemory>
     ensures opened { IfOk result (λ session. opening (spec.extension_of (spec.drawn_rules sample.now.rules (spec.generator_of sample.now.seed)).0 ∷ [])
         ≡ Ok session.generation.state) }
-    ensures generator { IfOk result (λ session. session.generator ≡ (spec.drawn_rules sample.now.rules (spec.generator_of sample.now.seed)).1) }
+    ensures generator { IfOk result (λ session. session.generator
+        ≡ (spec.drawn_rules sample.now.rules (spec.generator_of sample.now.seed)).1) }
     ensures tally { IfOk result (λ session. session.tally ≡ spec.nothing_asked) }
     ensures suffixes { IfOk result (λ session. session.generation.suffixes ≡ []) }
 {

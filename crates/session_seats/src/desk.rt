@@ -197,7 +197,8 @@ impl<P: Pair> Desk<P> {
         ensures read { IfSome result (PlainReads line.now) }
         ensures asks { IfSome result (λ read. is_asking read ≡ true) }
         ensures kept { IsSome result → self.new ≡ self.old }
-        ensures none { IsNone result → HasReadOver (is_asked (command_of line.now.number line.now.bytes)) self.old self.new }
+        ensures none { IsNone result → HasReadOver (is_asked
+            (command_of line.now.number line.now.bytes)) self.old self.new }
     {
         match line.read_plain(self.alloc, &mut self.memo) {
             Ok(command) => asking_alone(ReadLine {

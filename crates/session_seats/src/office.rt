@@ -151,7 +151,8 @@ impl<P: Pair> Office<P> {
     ) -> Result<String, NoMemory>
         requires line { IsTaken line.now }
         requires idle { self.old.staged ≡ [] }
-        ensures said { IfOk result (λ text. WriterSaysTo P.opening line.now self.old.list (string_bytes text) self.new.list) }
+        ensures said { IfOk result (λ text. WriterSaysTo P.opening line.now self.old.list
+            (string_bytes text) self.new.list) }
         ensures idle { OnOk result (self.new.staged ≡ []) }
         ensures texts { self.new.texts ≡ self.old.texts }
         ensures stopped { self.new.stopped ≡ self.old.stopped }
@@ -183,7 +184,8 @@ impl<P: Pair> Office<P> {
     fn say<R: Wait>(&mut self, rt: &R, line: &ReadLine) -> Result<String, NoMemory>
         requires line { IsLine line.now }
         requires idle { self.old.staged ≡ [] }
-        ensures said { IfOk result (λ text. WriterLine P.opening line.now self.old.list (string_bytes text) self.new.list) }
+        ensures said { IfOk result (λ text. WriterLine P.opening line.now self.old.list
+            (string_bytes text) self.new.list) }
         ensures idle { OnOk result (self.new.staged ≡ []) }
         ensures texts { self.new.texts ≡ self.old.texts }
         ensures stopped { self.new.stopped ≡ self.old.stopped }
@@ -276,7 +278,8 @@ impl<P: Pair> Office<P> {
     }
 
     fn accept(&self, line: u32, into: &mut String) -> Result<(), NoMemory>
-        ensures { OnOk result (string_bytes into.new ≡ string_bytes into.old ++ accepted_line line (replay P.opening.state self.now.list).count) }
+        ensures { OnOk result (string_bytes into.new ≡ string_bytes into.old ++ accepted_line line
+            (replay P.opening.state self.now.list).count) }
     {
         let count = self.writer.generation().number();
         write_reply(self.alloc, line, &Reply::Accepted(count), into)
@@ -306,7 +309,8 @@ fn refuse_update(
     refusal: Refusal,
     into: &mut String,
 ) -> Result<(), NoMemory>
-    ensures { OnOk result (IsNamed refusal × (string_bytes into.new ≡ string_bytes into.old ++ refused_line line refusal)) }
+    ensures { OnOk result (IsNamed refusal
+        × (string_bytes into.new ≡ string_bytes into.old ++ refused_line line refusal)) }
 {
     match refusal {
         Refusal::NoMemory => Err(NoMemory),
@@ -320,7 +324,8 @@ fn refuse_batch(
     refusal: BatchRefusal,
     into: &mut String,
 ) -> Result<(), NoMemory>
-    ensures { OnOk result (IsNamed refusal.cause × (string_bytes into.new ≡ string_bytes into.old ++ refused_batch_line line refusal.place refusal.cause)) }
+    ensures { OnOk result (IsNamed refusal.cause
+        × (string_bytes into.new ≡ string_bytes into.old ++ refused_batch_line line refusal.place refusal.cause)) }
 {
     match refusal.cause {
         Refusal::NoMemory => Err(NoMemory),

@@ -93,7 +93,8 @@ impl RoundLines {
         requires short { bytes ≤ max_line }
         requires open { is_full self.old.held ≡ false }
         requires within { IsTaken line }
-        ensures ends { IfOk result (λ ends. ends ≡ (is_sync (read_seen (seen_line line).read) || is_full (held_with self.old.held bytes (seen_line line)))) }
+        ensures ends { IfOk result (λ ends. ends ≡ (is_sync (read_seen (seen_line line).read) || is_full
+            (held_with self.old.held bytes (seen_line line)))) }
         ensures held { OnOk result (self.new.held ≡ held_with self.old.held bytes (seen_line line)) }
         ensures appended { OnOk result (self.new.reads ≡ self.old.reads ++ seen_line line ∷ []) }
     {

@@ -65,7 +65,8 @@ pub fn serve_with_seats<
     ensures served { IfSome (S.left source.old) (λ script. EndsServing (O.taken out.old) (O.taken out.new)
         (counts_between (H.faults checker.old ∷ map H.faults finders.old) (H.faults checker.new ∷ map H.faults finders.new))
         (serving generation.suffixes (length finders.old)) generation.state script (S.left source.new) result) }
-    ensures later { NoneFell (H.faults checker.old ∷ map H.faults finders.old) (H.faults checker.new ∷ map H.faults finders.new) }
+    ensures later { NoneFell (H.faults checker.old ∷ map H.faults finders.old)
+        (H.faults checker.new ∷ map H.faults finders.new) }
     ensures told { is_some (S.left source.new) ≡ is_some (S.left source.old) }
     ensures starts { S.starts source.new ≡ S.starts source.old }
     ensures read_fault { HasCauseOf ServeStop.ReadFault (S.faults source.old) (S.faults source.new) result }
@@ -111,7 +112,8 @@ fn serve_pair<
     ensures served { IfSome (S.left source.old) (λ script. EndsServing (O.taken out.old) (O.taken out.new)
         (counts_between (H.faults checker.old ∷ map H.faults finders.old) (H.faults checker.new ∷ map H.faults finders.new))
         (serving P.opening.suffixes (length finders.old)) P.opening.state script (S.left source.new) result) }
-    ensures later { NoneFell (H.faults checker.old ∷ map H.faults finders.old) (H.faults checker.new ∷ map H.faults finders.new) }
+    ensures later { NoneFell (H.faults checker.old ∷ map H.faults finders.old)
+        (H.faults checker.new ∷ map H.faults finders.new) }
     ensures told { is_some (S.left source.new) ≡ is_some (S.left source.old) }
     ensures starts { S.starts source.new ≡ S.starts source.old }
     ensures read_fault { HasCauseOf ServeStop.ReadFault (S.faults source.old) (S.faults source.new) result }
@@ -160,7 +162,8 @@ fn serve_desks<
     ensures served { IfSome (S.left source.old) (λ script. EndsServing (O.taken out.old) (O.taken out.new)
         (counts_between (H.faults checker.old ∷ map H.faults finders.old) (H.faults checker.new ∷ map H.faults finders.new))
         (serving P.opening.suffixes (length finders.old)) P.opening.state script (S.left source.new) result) }
-    ensures later { NoneFell (H.faults checker.old ∷ map H.faults finders.old) (H.faults checker.new ∷ map H.faults finders.new) }
+    ensures later { NoneFell (H.faults checker.old ∷ map H.faults finders.old)
+        (H.faults checker.new ∷ map H.faults finders.new) }
     ensures told { is_some (S.left source.new) ≡ is_some (S.left source.old) }
     ensures starts { S.starts source.new ≡ S.starts source.old }
     ensures read_fault { HasCauseOf ServeStop.ReadFault (S.faults source.old) (S.faults source.new) result }
@@ -218,7 +221,8 @@ fn serve_lines<
     ensures served { IfSome (S.left source.old) (λ script. EndsServing (O.taken out.old) (O.taken out.new)
         (counts_between (H.faults checker.old ∷ map H.faults finders.old) (H.faults checker.new ∷ map H.faults finders.new))
         (serving P.opening.suffixes (length finders.old)) P.opening.state script (S.left source.new) result) }
-    ensures later { NoneFell (H.faults checker.old ∷ map H.faults finders.old) (H.faults checker.new ∷ map H.faults finders.new) }
+    ensures later { NoneFell (H.faults checker.old ∷ map H.faults finders.old)
+        (H.faults checker.new ∷ map H.faults finders.new) }
     ensures told { is_some (S.left source.new) ≡ is_some (S.left source.old) }
     ensures starts { S.starts source.new ≡ S.starts source.old }
     ensures read_fault { HasCauseOf ServeStop.ReadFault (S.faults source.old) (S.faults source.new) result }

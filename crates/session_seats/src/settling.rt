@@ -128,7 +128,9 @@ fn say_line<P: Pair, H: RegexHost>(
     ensures asks { IfOk result (λ asks. is_asking (seen_line line.now) ≡ asks) }
     ensures told { IfOk result (λ asks. IsTrue asks → SeatTold P.opening floor.now office.now.list (seen_line line.now).number (read_seen (seen_line line.now).read)
         latest.old latest.new (string_bytes into.old) (string_bytes into.new) counted.old counted.new) }
-    ensures text { IfOk result (λ asks. IsFalse asks → string_bytes into.new ≡ string_bytes into.old ++ text_with line.now (get_or office.now.texts place (string_bytes into.old))) }
+    ensures text { IfOk result (λ asks. IsFalse asks
+        → string_bytes into.new ≡ string_bytes into.old ++ text_with line.now
+        (get_or office.now.texts place (string_bytes into.old))) }
     ensures still { IfOk result (λ asks. IsFalse asks → (latest.new ≡ latest.old) × (counted.new ≡ counted.old)) }
     ensures latest { (latest.old ≤ latest.new) × (latest.new ≤ length office.now.list) }
     ensures counted { counted.new ≤ H.faults finder.new }
@@ -236,7 +238,9 @@ fn say_plain<P: Pair, H: RegexHost>(
     ensures asks { IfOk result (λ asks. is_asked (command_of line.now.number line.now.bytes) ≡ asks) }
     ensures told { IfOk result (λ asks. IsTrue asks → SeatTold P.opening floor.now office.now.list line.now.number (command_of line.now.number line.now.bytes)
         latest.old latest.new (string_bytes into.old) (string_bytes into.new) counted.old counted.new) }
-    ensures text { IfOk result (λ asks. IsFalse asks → string_bytes into.new ≡ string_bytes into.old ++ plain_text line.now.number (command_of line.now.number line.now.bytes)) }
+    ensures text { IfOk result (λ asks. IsFalse asks
+        → string_bytes into.new ≡ string_bytes into.old ++ plain_text line.now.number
+        (command_of line.now.number line.now.bytes)) }
     ensures still { IfOk result (λ asks. IsFalse asks → (latest.new ≡ latest.old) × (counted.new ≡ counted.old)) }
     ensures latest { (latest.old ≤ latest.new) × (latest.new ≤ length office.now.list) }
     ensures counted { counted.new ≤ H.faults finder.new }

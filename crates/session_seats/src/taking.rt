@@ -145,7 +145,8 @@ fn take_cut<H: RegexHost>(
     requires room { is_full round.old.held ≡ false }
     ensures ends { IfOk result (λ ends. ends_round round.old.held line.number line.bytes ≡ ends) }
     ensures held { OnOk result (round.new.held ≡ with_line round.old.held line.number line.bytes) }
-    ensures reads { OnOk result (ReadsLine line.number line.bytes (H.faults checker.old) (H.faults checker.new) round.old.reads round.new.reads) }
+    ensures reads { OnOk result (ReadsLine line.number line.bytes (H.faults checker.old)
+        (H.faults checker.new) round.old.reads round.new.reads) }
     ensures later { H.faults checker.old ≤ H.faults checker.new }
 {
     let count = line.bytes().len();

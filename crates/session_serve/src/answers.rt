@@ -87,7 +87,8 @@ impl Session {
         ensures updates { self.new.updates ≡ self.old.updates }
         ensures follows { self.new.follows ≡ self.old.follows }
         ensures seats { length finders.new ≡ length finders.old }
-        ensures later { NoneFell (H.faults checker.old ∷ map H.faults finders.old) (H.faults checker.new ∷ map H.faults finders.new) }
+        ensures later { NoneFell (H.faults checker.old ∷ map H.faults finders.old)
+            (H.faults checker.new ∷ map H.faults finders.new) }
     {
         match read_line_with(alloc, number, line, &mut self.memo, checker) {
             Ok(command) => match self.serve(alloc, number, asked, &command, finders, into) {
@@ -264,7 +265,8 @@ impl Session {
         next: Generation,
         into: &mut String,
     ) -> Result<(), NoMemory>
-        ensures appended { OnOk result (string_bytes into.new ≡ string_bytes into.old ++ accepted_line number next.state.count) }
+        ensures appended { OnOk result (string_bytes into.new ≡ string_bytes into.old
+            ++ accepted_line number next.state.count) }
         ensures next { self.new ≡ record {
           suffixes = next.suffixes;
           state = next.state;
@@ -292,7 +294,8 @@ fn refuse_update(
     refusal: Refusal,
     into: &mut String,
 ) -> Result<(), NoMemory>
-    ensures { OnOk result (IsNamed refusal × (string_bytes into.new ≡ string_bytes into.old ++ refused_line number refusal)) }
+    ensures { OnOk result (IsNamed refusal
+        × (string_bytes into.new ≡ string_bytes into.old ++ refused_line number refusal)) }
 {
     match refusal {
         Refusal::NoMemory => Err(NoMemory),
@@ -306,7 +309,8 @@ fn refuse_batch(
     refusal: BatchRefusal,
     into: &mut String,
 ) -> Result<(), NoMemory>
-    ensures { OnOk result (IsNamed refusal.cause × (string_bytes into.new ≡ string_bytes into.old ++ refused_batch_line number refusal.place refusal.cause)) }
+    ensures { OnOk result (IsNamed refusal.cause
+        × (string_bytes into.new ≡ string_bytes into.old ++ refused_batch_line number refusal.place refusal.cause)) }
 {
     match refusal.cause {
         Refusal::NoMemory => Err(NoMemory),

@@ -126,7 +126,8 @@ fn explanation_for<H: RegexHost>(
     host: &mut H,
 ) -> Result<Explanation, DecideRefusal>
     requires { length request.now.frames ≤ max_frames }
-    ensures explanation { IfOk result (λ explanation. explanation ≡ explanation_of generation.now.suffixes generation.now.state request.now) }
+    ensures explanation { IfOk result (λ explanation. explanation
+        ≡ explanation_of generation.now.suffixes generation.now.state request.now) }
     ensures ends { Ends (NamesPattern generation.now.state) (H.faults host.old) (H.faults host.new) result }
 {
     explanation_over::<H, Brand>(alloc, generation, request, host, Blank::new(1))
@@ -143,7 +144,8 @@ fn explanation_over<H: RegexHost, L: Ledger>(
     requires name { blank.name ≡ L.name }
     requires parts { blank.parts ≡ L.parts }
     requires one { blank.parts ≡ 1 }
-    ensures explanation { IfOk result (λ explanation. explanation ≡ explanation_of generation.now.suffixes generation.now.state request.now) }
+    ensures explanation { IfOk result (λ explanation. explanation
+        ≡ explanation_of generation.now.suffixes generation.now.state request.now) }
     ensures ends { Ends (NamesPattern generation.now.state) (H.faults host.old) (H.faults host.new) result }
 {
     let mut steps = Steps::<L>::open(blank);

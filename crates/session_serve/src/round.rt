@@ -80,7 +80,8 @@ impl Round {
         ensures updates { session.new.updates ≡ session.old.updates }
         ensures follows { session.new.follows ≡ session.old.follows }
         ensures seats { length finders.new ≡ length finders.old }
-        ensures later { NoneFell (H.faults checker.old ∷ map H.faults finders.old) (H.faults checker.new ∷ map H.faults finders.new) }
+        ensures later { NoneFell (H.faults checker.old ∷ map H.faults finders.old)
+            (H.faults checker.new ∷ map H.faults finders.new) }
         ensures cause { HasCauseOf ServeStop.WriteFault (O.faults out.old) (O.faults out.new) result }
     {
         let kind = session.answer(

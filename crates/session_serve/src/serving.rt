@@ -34,7 +34,8 @@ pub fn serve_lines<S: Source, O: Sink, H: RegexHost>(
     ensures served { IfSome (S.left source.old) (λ script. EndsServing (O.taken out.old) (O.taken out.new)
         (counts_between (H.faults checker.old ∷ map H.faults finders.old) (H.faults checker.new ∷ map H.faults finders.new))
         (setting_with session (length finders.old)) session.state script (S.left source.new) result) }
-    ensures later { NoneFell (H.faults checker.old ∷ map H.faults finders.old) (H.faults checker.new ∷ map H.faults finders.new) }
+    ensures later { NoneFell (H.faults checker.old ∷ map H.faults finders.old)
+        (H.faults checker.new ∷ map H.faults finders.new) }
     ensures told { is_some (S.left source.new) ≡ is_some (S.left source.old) }
     ensures starts { S.starts source.new ≡ S.starts source.old }
     ensures read_fault { HasCauseOf ServeStop.ReadFault (S.faults source.old) (S.faults source.new) result }

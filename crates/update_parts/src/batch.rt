@@ -29,7 +29,8 @@ pub fn next_batch(
     reader: &mut Reader<'_>,
     depth: usize,
 ) -> Result<Option<Vec<Value>>, Fault>
-    ensures read { IfOk result (λ kept. (d : Data) × (value_at depth reader.old ≡ Some (d, reader.new)) × HoldsBatch (items_kept kept) d) }
+    ensures read { IfOk result (λ kept. (d : Data) × (value_at depth reader.old ≡ Some (d, reader.new))
+        × HoldsBatch (items_kept kept) d) }
     ensures shorter { OnOk result (length reader.new < length reader.old) }
     ensures bad { result ≡ Err Fault.BadJson → value_at depth reader.old ≡ None }
 {
@@ -46,7 +47,8 @@ fn updates_of(
     reader: &mut Reader<'_>,
     depth: usize,
 ) -> Result<Option<Vec<Value>>, Fault>
-    ensures read { IfOk result (λ kept. (ms : Members) × (members_in depth reader.old ≡ Some (ms, reader.new)) × HoldsBatch (items_kept kept) (object ms)) }
+    ensures read { IfOk result (λ kept. (ms : Members) × (members_in depth reader.old ≡ Some (ms, reader.new))
+        × HoldsBatch (items_kept kept) (object ms)) }
     ensures shorter { OnOk result (length reader.new < length reader.old) }
     ensures bad { result ≡ Err Fault.BadJson → members_in depth reader.old ≡ None }
 {
@@ -65,7 +67,8 @@ fn with_member(
     name: &str,
     before: Option<Vec<Value>>,
 ) -> Result<Option<Vec<Value>>, Fault>
-    ensures read { IfOk result (λ kept. (d : Data) × (value_at depth reader.old ≡ Some (d, reader.new)) × HoldsMore name.now d (items_kept before) (items_kept kept)) }
+    ensures read { IfOk result (λ kept. (d : Data) × (value_at depth reader.old ≡ Some (d, reader.new))
+        × HoldsMore name.now d (items_kept before) (items_kept kept)) }
     ensures shorter { OnOk result (length reader.new < length reader.old) }
     ensures bad { result ≡ Err Fault.BadJson → value_at depth reader.old ≡ None }
 {
@@ -89,7 +92,8 @@ fn next_updates(
     reader: &mut Reader<'_>,
     depth: usize,
 ) -> Result<Option<Vec<Value>>, Fault>
-    ensures read { IfOk result (λ kept. (d : Data) × (value_at depth reader.old ≡ Some (d, reader.new)) × HoldsList (items_kept kept) (as_array d)) }
+    ensures read { IfOk result (λ kept. (d : Data) × (value_at depth reader.old ≡ Some (d, reader.new))
+        × HoldsList (items_kept kept) (as_array d)) }
     ensures shorter { OnOk result (length reader.new < length reader.old) }
     ensures bad { result ≡ Err Fault.BadJson → value_at depth reader.old ≡ None }
 {
@@ -106,9 +110,12 @@ fn few_updates(
     reader: &mut Reader<'_>,
     depth: usize,
 ) -> Result<Option<Vec<Value>>, Fault>
-    ensures read { IfOk result (λ kept. (ds : Items) × (converted of_items (items (value depth) (length reader.old) reader.old) ≡ Some (ds, reader.new)) × HoldsList (items_kept kept) (Some ds)) }
+    ensures read { IfOk result (λ kept. (ds : Items)
+        × (converted of_items (items (value depth) (length reader.old) reader.old) ≡ Some (ds, reader.new))
+        × HoldsList (items_kept kept) (Some ds)) }
     ensures shorter { OnOk result (length reader.new < length reader.old) }
-    ensures bad { result ≡ Err Fault.BadJson → converted of_items (items (value depth) (length reader.old) reader.old) ≡ None }
+    ensures bad { result ≡ Err Fault.BadJson → converted of_items (items (value depth) (length reader.old) reader.old)
+        ≡ None }
 {
     let mut kept = Vec::new(alloc);
     'items: while !reader.take_end_array() {

@@ -27,7 +27,8 @@ pub fn show(
     changes: &mut [ShownChange],
 ) -> Result<ShownVerdict, ShowRefusal>
     ensures shown { IfOk result (λ shown. Shows (spec.learnt_of generation verdict.now) shown out.new changes.new) }
-    ensures unshown { IfErr result (IsUnshown (spec.learnt_of generation verdict.now) (length out.old) (length changes.old)) }
+    ensures unshown { IfErr result (IsUnshown (spec.learnt_of generation verdict.now) (length out.old)
+        (length changes.old)) }
     ensures untouched { OnErr result (out.new ≡ out.old) }
     ensures unchanged { OnErr result (changes.new ≡ changes.old) }
     ensures room { length out.new ≡ length out.old }

@@ -35,7 +35,8 @@ fn nowhere() -> ShownText
 // A text, if there is one, and whether there is.
 #[tactic(auto, using(crate::proofs::Places::grows_same))]
 fn put_if(text: Option<&str>, into: &mut Vec<u8>) -> Result<(bool, ShownText), NoMemory>
-    ensures read { IfOk result (λ put. spec.if_given put.0 (spec.text_at into.new.items put.1) ≡ option_copied text.entry) }
+    ensures read { IfOk result (λ put. spec.if_given put.0 (spec.text_at into.new.items put.1)
+        ≡ option_copied text.entry) }
     ensures within { IfOk result (λ put. text_ends put.1 ≤ length into.new.items) }
     ensures grows { OnOk result (Grows into.old.items into.new.items) }
 {
