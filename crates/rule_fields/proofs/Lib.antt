@@ -1,3 +1,4 @@
 mod Sets
 mod Tabs
+mod Lengths
 mod Order

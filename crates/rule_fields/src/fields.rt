@@ -14,6 +14,7 @@ ghost use Rattle.rule_fields.specs.Groups.{response_tests, HasResponse};
 ghost use Rattle.rule_fields.specs.Groups.{HasNoForbidden, HasFilters, HasDomains, HasSets};
 ghost use Rattle.rule_fields.specs.Seen.{fields_seen};
 
+use crate::condition::Condition;
 use crate::forms;
 use crate::response_tests::{self, TestFields};
 use dnr_base::{Items, KindSet, MethodSet, Text};
@@ -57,6 +58,13 @@ pub fn read_fields(alloc: Global, condition: &Value) -> Result<Fields<'_>, RuleR
     ensures ok { IfOk result (λ fields. fields_in (view condition.now) ≡ Ok (fields_seen fields)) }
     ensures refused { IfErr result (IsRefused (fields_in (view condition.now))) }
 {
+    read_told(alloc, &Condition::new(condition))
+}
+
+fn read_told<'a>(alloc: Global, condition: &Condition<'a>) -> Result<Fields<'a>, RuleRefusal>
+    ensures ok { IfOk result (λ fields. fields_in (view condition.now.value.now) ≡ Ok (fields_seen fields)) }
+    ensures refused { IfErr result (IsRefused (fields_in (view condition.now.value.now))) }
+{
     test_forbidden(condition)?;
     let filters = read_filters(condition)?;
     let domains = read_domains(alloc, condition)?;
@@ -85,9 +93,9 @@ pub fn read_fields(alloc: Global, condition: &Value) -> Result<Fields<'_>, RuleR
 }
 
 // Refuses the fields that no rule may have.
-fn test_forbidden(condition: &Value) -> Result<(), RuleRefusal>
-    ensures absent { OnOk result (HasNoForbidden (view condition.now)) }
-    ensures refused { IfErr result (RefusesTest (first_refusal (forbidden_tests (view condition.now))) ⊥) }
+fn test_forbidden(condition: &Condition<'_>) -> Result<(), RuleRefusal>
+    ensures absent { OnOk result (HasNoForbidden (view condition.now.value.now)) }
+    ensures refused { IfErr result (RefusesTest (first_refusal (forbidden_tests (view condition.now.value.now))) ⊥) }
 {
     test_absent(condition, RulePath::TopDomains)?;
     test_absent(condition, RulePath::ExcludedTopDomains)
@@ -100,9 +108,9 @@ struct FilterFields<'a> {
     case_sensitive: Option<bool>,
 }
 
-fn read_filters(condition: &Value) -> Result<FilterFields<'_>, RuleRefusal>
-    ensures read { IfOk result (HasFilters (view condition.now)) }
-    ensures refused { IfErr result (RefusesTest (first_refusal (filter_tests (view condition.now))) ⊥) }
+fn read_filters<'a>(condition: &Condition<'a>) -> Result<FilterFields<'a>, RuleRefusal>
+    ensures read { IfOk result (HasFilters (view condition.now.value.now)) }
+    ensures refused { IfErr result (RefusesTest (first_refusal (filter_tests (view condition.now.value.now))) ⊥) }
 {
     let url_filter = text_field(condition, RulePath::UrlFilter)?;
     let regex_filter = text_field(condition, RulePath::RegexFilter)?;
@@ -124,9 +132,9 @@ struct DomainFields {
     not_hosts: Option<Items<Text>>,
 }
 
-fn read_domains(alloc: Global, condition: &Value) -> Result<DomainFields, RuleRefusal>
-    ensures read { IfOk result (HasDomains (view condition.now)) }
-    ensures refused { IfErr result (RefusesTest (first_refusal (domain_tests (view condition.now))) ⊥) }
+fn read_domains(alloc: Global, condition: &Condition<'_>) -> Result<DomainFields, RuleRefusal>
+    ensures read { IfOk result (HasDomains (view condition.now.value.now)) }
+    ensures refused { IfErr result (RefusesTest (first_refusal (domain_tests (view condition.now.value.now))) ⊥) }
 {
     let initiators = texts_field(alloc, condition, RulePath::InitiatorDomains)?;
     let not_initiators = texts_field(alloc, condition, RulePath::ExcludedInitiatorDomains)?;
@@ -160,9 +168,9 @@ struct SetFields {
     not_tabs: Option<Items<i32>>,
 }
 
-fn read_sets(alloc: Global, condition: &Value) -> Result<SetFields, RuleRefusal>
-    ensures read { IfOk result (HasSets (view condition.now)) }
-    ensures refused { IfErr result (RefusesTest (first_refusal (set_tests (view condition.now))) ⊥) }
+fn read_sets(alloc: Global, condition: &Condition<'_>) -> Result<SetFields, RuleRefusal>
+    ensures read { IfOk result (HasSets (view condition.now.value.now)) }
+    ensures refused { IfErr result (RefusesTest (first_refusal (set_tests (view condition.now.value.now))) ⊥) }
 {
     let third_party = party_field(condition, RulePath::DomainType)?;
     let kinds = kinds_field(alloc, condition, RulePath::ResourceTypes)?;
@@ -188,9 +196,9 @@ struct ResponseFields {
     not_header_tests: Option<Items<TestFields>>,
 }
 
-fn read_response(alloc: Global, condition: &Value) -> Result<ResponseFields, RuleRefusal>
-    ensures read { IfOk result (HasResponse (view condition.now)) }
-    ensures refused { IfErr result (RefusesTest (first_refusal (response_tests (view condition.now))) ⊥) }
+fn read_response(alloc: Global, condition: &Condition<'_>) -> Result<ResponseFields, RuleRefusal>
+    ensures read { IfOk result (HasResponse (view condition.now.value.now)) }
+    ensures refused { IfErr result (RefusesTest (first_refusal (response_tests (view condition.now.value.now))) ⊥) }
 {
     let header_tests = tests_field(alloc, condition, RulePath::ResponseHeaders)?;
     let not_header_tests = tests_field(alloc, condition, RulePath::ExcludedResponseHeaders)?;
@@ -202,22 +210,25 @@ fn read_response(alloc: Global, condition: &Value) -> Result<ResponseFields, Rul
 
 // Refuses a field that no rule may have.
 #[tactic(auto, unfolding(json_spec::specs::RuleFields::absent_in))]
-fn test_absent(condition: &Value, field: RulePath) -> Result<(), RuleRefusal>
-    ensures ok { OnOk result (absent_in field (view condition.now) ≡ Ok tt) }
-    ensures refused { IfErr result (IsRefused (absent_in field (view condition.now))) }
+fn test_absent(condition: &Condition<'_>, field: RulePath) -> Result<(), RuleRefusal>
+    ensures ok { OnOk result (absent_in field (view condition.now.value.now) ≡ Ok tt) }
+    ensures refused { IfErr result (IsRefused (absent_in field (view condition.now.value.now))) }
 {
-    match condition.get(field.key()) {
+    match condition.get(field) {
         None => Ok(()),
         Some(_) => Err(RuleRefusal::BadField(field)),
     }
 }
 
 #[tactic(auto, unfolding(json_spec::specs::RuleFields::field_in))]
-fn text_field(condition: &Value, field: RulePath) -> Result<Option<&str>, RuleRefusal>
-    ensures ok { IfOk result (λ text. field_in as_str field (view condition.now) ≡ Ok (option_copied text)) }
-    ensures refused { IfErr result (IsRefused (field_in as_str field (view condition.now))) }
+fn text_field<'a>(
+    condition: &Condition<'a>,
+    field: RulePath,
+) -> Result<Option<&'a str>, RuleRefusal>
+    ensures ok { IfOk result (λ text. field_in as_str field (view condition.now.value.now) ≡ Ok (option_copied text)) }
+    ensures refused { IfErr result (IsRefused (field_in as_str field (view condition.now.value.now))) }
 {
-    match condition.get(field.key()) {
+    match condition.get(field) {
         None => Ok(None),
         Some(value) => match value.as_str() {
             Some(text) => Ok(Some(text)),
@@ -227,11 +238,11 @@ fn text_field(condition: &Value, field: RulePath) -> Result<Option<&str>, RuleRe
 }
 
 #[tactic(auto, unfolding(json_spec::specs::RuleFields::field_in))]
-fn bool_field(condition: &Value, field: RulePath) -> Result<Option<bool>, RuleRefusal>
-    ensures ok { IfOk result (λ value. field_in as_bool field (view condition.now) ≡ Ok value) }
-    ensures refused { IfErr result (IsRefused (field_in as_bool field (view condition.now))) }
+fn bool_field(condition: &Condition<'_>, field: RulePath) -> Result<Option<bool>, RuleRefusal>
+    ensures ok { IfOk result (λ value. field_in as_bool field (view condition.now.value.now) ≡ Ok value) }
+    ensures refused { IfErr result (IsRefused (field_in as_bool field (view condition.now.value.now))) }
 {
-    match condition.get(field.key()) {
+    match condition.get(field) {
         None => Ok(None),
         Some(value) => match value.as_bool() {
             Some(value) => Ok(Some(value)),
@@ -241,11 +252,11 @@ fn bool_field(condition: &Value, field: RulePath) -> Result<Option<bool>, RuleRe
 }
 
 #[tactic(auto, unfolding(json_spec::specs::RuleFields::field_in))]
-fn party_field(condition: &Value, field: RulePath) -> Result<Option<bool>, RuleRefusal>
-    ensures ok { IfOk result (λ party. field_in as_party field (view condition.now) ≡ Ok party) }
-    ensures refused { IfErr result (IsRefused (field_in as_party field (view condition.now))) }
+fn party_field(condition: &Condition<'_>, field: RulePath) -> Result<Option<bool>, RuleRefusal>
+    ensures ok { IfOk result (λ party. field_in as_party field (view condition.now.value.now) ≡ Ok party) }
+    ensures refused { IfErr result (IsRefused (field_in as_party field (view condition.now.value.now))) }
 {
-    match condition.get(field.key()) {
+    match condition.get(field) {
         None => Ok(None),
         Some(value) => match forms::as_party(value) {
             Some(party) => Ok(Some(party)),
@@ -257,13 +268,13 @@ fn party_field(condition: &Value, field: RulePath) -> Result<Option<bool>, RuleR
 #[tactic(auto, unfolding(json_spec::specs::RuleFields::field_in))]
 fn texts_field(
     alloc: Global,
-    condition: &Value,
+    condition: &Condition<'_>,
     field: RulePath,
 ) -> Result<Option<Items<Text>>, RuleRefusal>
-    ensures ok { IfOk result (λ texts. field_in as_texts field (view condition.now) ≡ Ok texts) }
-    ensures refused { IfErr result (IsRefused (field_in as_texts field (view condition.now))) }
+    ensures ok { IfOk result (λ texts. field_in as_texts field (view condition.now.value.now) ≡ Ok texts) }
+    ensures refused { IfErr result (IsRefused (field_in as_texts field (view condition.now.value.now))) }
 {
-    let Some(value) = condition.get(field.key()) else {
+    let Some(value) = condition.get(field) else {
         return Ok(None);
     };
     match forms::as_texts(alloc, value)? {
@@ -276,15 +287,15 @@ fn texts_field(
 #[tactic(auto, unfolding(json_spec::specs::RuleFields::old_list_in))]
 fn old_field(
     alloc: Global,
-    condition: &Value,
+    condition: &Condition<'_>,
     new: RulePath,
     old: RulePath,
 ) -> Result<Option<Items<Text>>, RuleRefusal>
-    ensures ok { IfOk result (λ texts. old_list_in new old (view condition.now) ≡ Ok texts) }
-    ensures refused { IfErr result (IsRefused (old_list_in new old (view condition.now))) }
+    ensures ok { IfOk result (λ texts. old_list_in new old (view condition.now.value.now) ≡ Ok texts) }
+    ensures refused { IfErr result (IsRefused (old_list_in new old (view condition.now.value.now))) }
 {
     let texts = texts_field(alloc, condition, old)?;
-    if texts.is_some() && condition.get(new.key()).is_some() {
+    if texts.is_some() && condition.get(new).is_some() {
         return Err(RuleRefusal::BadField(old));
     }
     Ok(texts)
@@ -293,13 +304,13 @@ fn old_field(
 #[tactic(auto, unfolding(json_spec::specs::RuleFields::field_in))]
 fn kinds_field(
     alloc: Global,
-    condition: &Value,
+    condition: &Condition<'_>,
     field: RulePath,
 ) -> Result<Option<KindSet>, RuleRefusal>
-    ensures ok { IfOk result (λ kinds. field_in as_kinds field (view condition.now) ≡ Ok (option_map kinds_of kinds)) }
-    ensures refused { IfErr result (IsRefused (field_in as_kinds field (view condition.now))) }
+    ensures ok { IfOk result (λ kinds. field_in as_kinds field (view condition.now.value.now) ≡ Ok (option_map kinds_of kinds)) }
+    ensures refused { IfErr result (IsRefused (field_in as_kinds field (view condition.now.value.now))) }
 {
-    let Some(value) = condition.get(field.key()) else {
+    let Some(value) = condition.get(field) else {
         return Ok(None);
     };
     match forms::as_kinds(alloc, value)? {
@@ -311,14 +322,14 @@ fn kinds_field(
 #[tactic(auto, unfolding(json_spec::specs::RuleFields::field_in))]
 fn methods_field(
     alloc: Global,
-    condition: &Value,
+    condition: &Condition<'_>,
     field: RulePath,
 ) -> Result<Option<MethodSet>, RuleRefusal>
-    ensures ok { IfOk result (λ methods. field_in as_methods field (view condition.now) ≡ Ok
+    ensures ok { IfOk result (λ methods. field_in as_methods field (view condition.now.value.now) ≡ Ok
         (option_map methods_of methods)) }
-    ensures refused { IfErr result (IsRefused (field_in as_methods field (view condition.now))) }
+    ensures refused { IfErr result (IsRefused (field_in as_methods field (view condition.now.value.now))) }
 {
-    let Some(value) = condition.get(field.key()) else {
+    let Some(value) = condition.get(field) else {
         return Ok(None);
     };
     match forms::as_methods(alloc, value)? {
@@ -330,13 +341,13 @@ fn methods_field(
 #[tactic(auto, unfolding(json_spec::specs::RuleFields::field_in))]
 fn tabs_field(
     alloc: Global,
-    condition: &Value,
+    condition: &Condition<'_>,
     field: RulePath,
 ) -> Result<Option<Items<i32>>, RuleRefusal>
-    ensures ok { IfOk result (λ tabs. field_in as_tabs field (view condition.now) ≡ Ok tabs) }
-    ensures refused { IfErr result (IsRefused (field_in as_tabs field (view condition.now))) }
+    ensures ok { IfOk result (λ tabs. field_in as_tabs field (view condition.now.value.now) ≡ Ok tabs) }
+    ensures refused { IfErr result (IsRefused (field_in as_tabs field (view condition.now.value.now))) }
 {
-    let Some(value) = condition.get(field.key()) else {
+    let Some(value) = condition.get(field) else {
         return Ok(None);
     };
     match forms::as_tabs(alloc, value)? {
@@ -348,13 +359,13 @@ fn tabs_field(
 #[tactic(auto, unfolding(json_spec::specs::RuleFields::field_in))]
 fn tests_field(
     alloc: Global,
-    condition: &Value,
+    condition: &Condition<'_>,
     field: RulePath,
 ) -> Result<Option<Items<TestFields>>, RuleRefusal>
-    ensures ok { IfOk result (λ tests. field_in as_header_tests field (view condition.now) ≡ Ok tests) }
-    ensures refused { IfErr result (IsRefused (field_in as_header_tests field (view condition.now))) }
+    ensures ok { IfOk result (λ tests. field_in as_header_tests field (view condition.now.value.now) ≡ Ok tests) }
+    ensures refused { IfErr result (IsRefused (field_in as_header_tests field (view condition.now.value.now))) }
 {
-    let Some(value) = condition.get(field.key()) else {
+    let Some(value) = condition.get(field) else {
         return Ok(None);
     };
     match response_tests::as_header_tests(alloc, value)? {

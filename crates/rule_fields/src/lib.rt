@@ -3,6 +3,7 @@
 //! What each is read as stands in `json_spec`, `specs/RuleFields.antt`.
 #![tactic(auto)]
 
+mod condition;
 mod fields;
 mod forms;
 mod response_tests;
