@@ -204,7 +204,7 @@ def workers_part(rows, of):
     head = f"""
 ## Workers
 
-By the clock, so other work on the machine shows here. {"The rules of the lists" if of["lists"] else "Rules that are drawn"}, as one ruleset, and {int(of["requests"]):,} requests; with updates there is one every 100 lines.
+By the clock, so other work on the machine shows here. {"The rules of the lists" if of["lists"] else "Rules that are drawn"}, as one ruleset, and {int(of.get("served", of["requests"])):,} requests; with updates there is one every 100 lines.
 What the machine has to give is told by programs side by side, which share nothing.
 
 """
