@@ -132,7 +132,7 @@ def compiled(program, name, folder):
 
 
 def counted(measures, requests):
-    """For each name what is counted of each of so many requests: nothing where valgrind is missing.
+    """For each name what is counted of each of so many requests, and of all before them: nothing where valgrind is missing.
 
     A measure is two functions that give the counts of the part and of the whole. Other work changes nothing of a count, so all
     of them run side by side.
@@ -142,14 +142,18 @@ def counted(measures, requests):
     with ThreadPoolExecutor(len(os.sched_getaffinity(0))) as pool:
         found = {name: [pool.submit(it) for it in pair] for name, pair in measures.items()}
     pairs = {name: [it.result() for it in pair] for name, pair in found.items()}
-    return {name: {it: (whole[it] - part[it]) / requests for it in whole} for name, (part, whole) in pairs.items()}
+    before = {name: {"load_instructions": part["request_instructions"]} for name, (part, _) in pairs.items()}
+    return {name: {it: (whole[it] - part[it]) / requests for it in whole} | before[name] for name, (part, whole) in pairs.items()}
+
+
+INSTRUCTIONS = ("request_instructions", "load_instructions")
 
 
 def counts_told(each):
     """What is counted of each request, as it is written into a file."""
     # (where memory lies moves a miss or two from the whole to the part)
-    misses = {name: f"{max(0.0, count):.2f}" for name, count in each.items() if name != "request_instructions"}
-    return {"request_instructions": round(each["request_instructions"]) if each else "", **misses}
+    misses = {name: f"{max(0.0, count):.2f}" for name, count in each.items() if name not in INSTRUCTIONS}
+    return {name: round(each[name]) if each else "" for name in INSTRUCTIONS} | misses
 
 
 def figures(requests, load, beyond, peak, each):

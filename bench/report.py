@@ -54,7 +54,17 @@ def misses_in(rows):
     return [it for it in MISSES if any(row.get(it) for row in rows)]
 
 
-def told_of(row, by, misses=()):
+def are_loads_counted(rows):
+    return any(row.get("load_instructions") for row in rows)
+
+
+def each_rule(row):
+    """The instructions until the first request, by the count of rules."""
+    count = int(row["rules"])
+    return f"{int(row['load_instructions']) / count:,.0f}" if count and row.get("load_instructions") else ""
+
+
+def told_of(row, by, misses=(), loads=False):
     """What requests took in a row, and a ratio of each column that has one."""
     return [
         number(row["request_us"], ".2f", " µs"),
@@ -63,25 +73,26 @@ def told_of(row, by, misses=()):
         by("request_instructions"),
         *(number(row[it], ",.1f") for it in misses),
         seconds(row["load_s"]),
+        *([each_rule(row)] if loads else []),
         peak_of(row),
     ]
 
 
-def row_of(row, others, misses=()):
+def row_of(row, others, misses=(), loads=False):
     """A row of requests, with what `dnr` takes by what each plain program does."""
     mine = next(it for it in others if it["program"] == "dnr" and it["rules"] == row["rules"])
-    return [f"{int(row['rules']):,}", row["program"], *told_of(row, partial(ratio, mine, row), misses)]
+    return [f"{int(row['rules']):,}", row["program"], *told_of(row, partial(ratio, mine, row), misses, loads)]
 
 
-def head_of(misses=()):
+def head_of(misses=(), loads=False):
     """The head of what requests took."""
-    return ["a request", "ratio", "instructions", "ratio", *(MISSES[it] for it in misses), "loading", "peak"]
+    return ["a request", "ratio", "instructions", "ratio", *(MISSES[it] for it in misses), "loading", *(["instructions a rule"] if loads else []), "peak"]
 
 
 def request_table(rows):
     """A row for each program over each count of rules."""
-    misses = misses_in(rows)
-    return table(["rules", "program", *head_of(misses)], [row_of(it, rows, misses) for it in rows])
+    shown = misses_in(rows), are_loads_counted(rows)
+    return table(["rules", "program", *head_of(*shown)], [row_of(it, rows, *shown) for it in rows])
 
 
 def peak_of(row):
