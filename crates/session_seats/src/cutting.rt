@@ -115,7 +115,7 @@ impl Cutter {
             &mut self.cut,
             self.whole,
         );
-        ask_run(alloc, &mut self.cut);
+        ask_ready(alloc, &mut self.cut);
     }
 
     /// Hands over the lines that were cut.
@@ -286,6 +286,13 @@ fn move_buffers(alloc: Global, round: &mut RoundLines, buffers: &mut Vec<Vec<u8>
             return;
         }
     }
+}
+
+// Asks the lines that were cut what they ask for. Plain lines are left to the seats.
+fn ask_ready(alloc: Global, cut: &mut Vec<CutLine>)
+    ensures { cut.new.items ≡ cut.old.items }
+{
+    ask_run(alloc, cut);
 }
 
 /// Asks the lines that were cut what they ask for, in at most so many threads. Plain lines are left to the seats.

@@ -5,5 +5,6 @@ use Rattle.session_seats.proofs.cutting.Cutter.cut_ready.Goals as goal
 pub returns : goal.returns
 returns c =
     let done = c.cut_whole-self-inside.ensures in
-    subst (λ (k : CutterSeen). CutsReady k (record { reading = c.cut_whole-self-inside.new.lines; lines = c.cut_whole-self-inside.new.cut.items })) c.self.view_is
-    (record { cut = done.cut; given = omega (arith, done.counted, c.self.invariant.0.within); live = done.live })
+    rw c.ask_ready.ensures
+    (subst (λ (k : CutterSeen). CutsReady k (record { reading = c.cut_whole-self-inside.new.lines; lines = c.cut_whole-self-inside.new.cut.items })) c.self.view_is
+    (record { cut = done.cut; given = omega (arith, done.counted, c.self.invariant.0.within); live = done.live }))
