@@ -6,44 +6,66 @@ ghost use Rattle.kept_pool.specs.Errands.{last_of};
 use crate::record::Parcel;
 use crate::{Errand, Named, Post, Record};
 use history::Log;
-use lookup_pool::{Gate, ToolSeat};
+use lookup_pool::{Gate, SharedWriter, ToolSeat};
 use std::sync::{Arc, Wait};
 
-/// Does the work of each seat, each once, beside each other, and returns when all have ended. Each seat has the tool at
-/// its place. What gets no thread is done by the thread that calls, and so is the work of the first seat where there are
-/// fewer posts than seats.
+/// Does the writer's work and that of each seat, each once, beside each other, and returns when all have ended. Each seat has
+/// the tool at its place. The thread that calls does the writer's work, and then what gets no thread: the work of the first
+/// seat where there are fewer posts than seats.
 ///
 /// It returns only when each seat that was sent to a thread has come back.
-pub fn round<R: Wait, G: Gate, C: Drop, T: Drop, S: ToolSeat<C, T> + Drop, N: Named>(
+pub fn round<
+    R: Wait,
+    G: Gate,
+    C: Drop,
+    W: SharedWriter<C>,
+    T: Drop,
+    S: ToolSeat<C, T> + Drop,
+    N: Named,
+>(
     rt: &R,
     gate: &G,
     record: &mut Record<C, T, S, N>,
     posts: &[Post<C, T, S, N>],
     shared: &Arc<C>,
+    writer: &mut W,
     seats: &mut Vec<S>,
     tools: &mut Vec<T>,
 )
+    requires writer { W.can_write (arc_value shared.now) writer.old }
     requires seats { All (S.can_work (arc_value shared.now)) seats.old.items }
     requires tools { length tools.old.items ≡ length seats.old.items }
+    ensures wrote { W.wrote (arc_value shared.now) writer.old writer.new }
     ensures worked { AllZip (S.worked (arc_value shared.now)) seats.old.items seats.new.items }
     ensures used { AllZip S.used tools.old.items tools.new.items }
 {
-    work_all(rt, gate, record, posts, shared, seats, tools);
+    work_all(rt, gate, record, posts, shared, writer, seats, tools);
 }
 
-// The work of all seats. The last one is taken out and sent, and put back when the others have worked.
+// The work of all. The last seat is taken out and sent, and put back when the others have worked.
 #[cycle(seats)]
-fn work_all<R: Wait, G: Gate, C: Drop, T: Drop, S: ToolSeat<C, T> + Drop, N: Named>(
+fn work_all<
+    R: Wait,
+    G: Gate,
+    C: Drop,
+    W: SharedWriter<C>,
+    T: Drop,
+    S: ToolSeat<C, T> + Drop,
+    N: Named,
+>(
     rt: &R,
     gate: &G,
     record: &mut Record<C, T, S, N>,
     posts: &[Post<C, T, S, N>],
     shared: &Arc<C>,
+    writer: &mut W,
     seats: &mut Vec<S>,
     tools: &mut Vec<T>,
 )
+    requires writer { W.can_write (arc_value shared.now) writer.old }
     requires seats { All (S.can_work (arc_value shared.now)) seats.old.items }
     requires tools { length tools.old.items ≡ length seats.old.items }
+    ensures wrote { W.wrote (arc_value shared.now) writer.old writer.new }
     ensures worked { AllZip (S.worked (arc_value shared.now)) seats.old.items seats.new.items }
     ensures used { AllZip S.used tools.old.items tools.new.items }
     ensures seat_count { vec_len seats.new ≡ vec_len seats.old }
@@ -52,12 +74,15 @@ fn work_all<R: Wait, G: Gate, C: Drop, T: Drop, S: ToolSeat<C, T> + Drop, N: Nam
     ensures tool_room { vec_capacity tools.old ≤ vec_capacity tools.new }
 {
     let Some(seat) = take_last(shared, seats) else {
+        writer.write(rt, shared, gate);
         return;
     };
     let Some(tool) = tools.pop() else {
         return;
     };
-    let (seat, tool) = work_beside(rt, gate, record, posts, shared, seat, tool, seats, tools);
+    let (seat, tool) = work_beside(
+        rt, gate, record, posts, shared, writer, seat, tool, seats, tools,
+    );
     put_back(seats, seat);
     put_back(tools, tool);
 }
@@ -88,22 +113,33 @@ fn put_back<X: Drop>(items: &mut Vec<X>, item: X)
 
 // The work of a seat beside that of the others.
 #[cycle(seats)]
-fn work_beside<R: Wait, G: Gate, C: Drop, T: Drop, S: ToolSeat<C, T> + Drop, N: Named>(
+fn work_beside<
+    R: Wait,
+    G: Gate,
+    C: Drop,
+    W: SharedWriter<C>,
+    T: Drop,
+    S: ToolSeat<C, T> + Drop,
+    N: Named,
+>(
     rt: &R,
     gate: &G,
     record: &mut Record<C, T, S, N>,
     posts: &[Post<C, T, S, N>],
     shared: &Arc<C>,
+    writer: &mut W,
     seat: S,
     tool: T,
     seats: &mut Vec<S>,
     tools: &mut Vec<T>,
 ) -> (S, T)
     requires seat { S.can_work (arc_value shared.now) seat }
+    requires writer { W.can_write (arc_value shared.now) writer.old }
     requires seats { All (S.can_work (arc_value shared.now)) seats.old.items }
     requires tools { length tools.old.items ≡ length seats.old.items }
     ensures seat { S.worked (arc_value shared.now) seat result.0 }
     ensures tool { S.used tool result.1 }
+    ensures wrote { W.wrote (arc_value shared.now) writer.old writer.new }
     ensures worked { AllZip (S.worked (arc_value shared.now)) seats.old.items seats.new.items }
     ensures used { AllZip S.used tools.old.items tools.new.items }
     ensures seat_count { vec_len seats.new ≡ vec_len seats.old }
@@ -112,42 +148,59 @@ fn work_beside<R: Wait, G: Gate, C: Drop, T: Drop, S: ToolSeat<C, T> + Drop, N: 
     ensures tool_room { vec_capacity tools.old ≤ vec_capacity tools.new }
 {
     if seat.is_idle(shared) {
-        return work_last(rt, gate, record, posts, shared, seat, tool, seats, tools);
+        return work_last(
+            rt, gate, record, posts, shared, writer, seat, tool, seats, tools,
+        );
     }
     let Some((post, others)) = next_ready(rt, posts) else {
-        return work_last(rt, gate, record, posts, shared, seat, tool, seats, tools);
+        return work_last(
+            rt, gate, record, posts, shared, writer, seat, tool, seats, tools,
+        );
     };
     match record.pack(shared, seat, tool) {
         Ok(parcel) => {
             let Parcel { sent, log } = parcel;
             post.give(rt, sent);
-            work_all(rt, gate, record, others, shared, seats, tools);
+            work_all(rt, gate, record, others, shared, writer, seats, tools);
             back(rt, post, &log)
         }
         Err((seat, tool)) => {
-            work_last(rt, gate, record, others, shared, seat, tool, seats, tools)
+            work_last(
+                rt, gate, record, others, shared, writer, seat, tool, seats, tools,
+            )
         }
     }
 }
 
 // The work of a seat in this thread, once the others have been sent and have come back.
 #[cycle(seats)]
-fn work_last<R: Wait, G: Gate, C: Drop, T: Drop, S: ToolSeat<C, T> + Drop, N: Named>(
+fn work_last<
+    R: Wait,
+    G: Gate,
+    C: Drop,
+    W: SharedWriter<C>,
+    T: Drop,
+    S: ToolSeat<C, T> + Drop,
+    N: Named,
+>(
     rt: &R,
     gate: &G,
     record: &mut Record<C, T, S, N>,
     posts: &[Post<C, T, S, N>],
     shared: &Arc<C>,
+    writer: &mut W,
     seat: S,
     tool: T,
     seats: &mut Vec<S>,
     tools: &mut Vec<T>,
 ) -> (S, T)
     requires seat { S.can_work (arc_value shared.now) seat }
+    requires writer { W.can_write (arc_value shared.now) writer.old }
     requires seats { All (S.can_work (arc_value shared.now)) seats.old.items }
     requires tools { length tools.old.items ≡ length seats.old.items }
     ensures seat { S.worked (arc_value shared.now) seat result.0 }
     ensures tool { S.used tool result.1 }
+    ensures wrote { W.wrote (arc_value shared.now) writer.old writer.new }
     ensures worked { AllZip (S.worked (arc_value shared.now)) seats.old.items seats.new.items }
     ensures used { AllZip S.used tools.old.items tools.new.items }
     ensures seat_count { vec_len seats.new ≡ vec_len seats.old }
@@ -155,7 +208,7 @@ fn work_last<R: Wait, G: Gate, C: Drop, T: Drop, S: ToolSeat<C, T> + Drop, N: Na
     ensures seat_room { vec_capacity seats.old ≤ vec_capacity seats.new }
     ensures tool_room { vec_capacity tools.old ≤ vec_capacity tools.new }
 {
-    work_all(rt, gate, record, posts, shared, seats, tools);
+    work_all(rt, gate, record, posts, shared, writer, seats, tools);
     let mut seat = seat;
     let mut tool = tool;
     seat.work(shared, &mut tool, gate);
