@@ -17,7 +17,7 @@ use crate::names::{
 };
 use crate::replacing::replaced;
 use crate::{Extension, InstalledExtension, InstalledSet, SharedRule};
-use dnr_base::{NoMemory, Text};
+use dnr_base::{Items, NoMemory, Text};
 use std::alloc::Global;
 use std::sync::Arc;
 use update_spec::Refusal;
@@ -93,10 +93,10 @@ fn without(
 }
 
 // The refusal of an update of an extension that is not there.
-fn missing(alloc: Global, name: &str) -> Refusal
+fn missing(alloc: Global, name: &Text) -> Refusal
     ensures { IsRefusalOf (Some (refusal.NoExtension name.now)) result }
 {
-    match text_of(alloc, name) {
+    match text_of(alloc, name.as_str()) {
         Ok(name) => Refusal::NoExtension(name),
         Err(NoMemory) => Refusal::NoMemory,
     }
@@ -106,13 +106,13 @@ fn missing(alloc: Global, name: &str) -> Refusal
 fn placed(
     alloc: Global,
     extensions: &[InstalledExtension],
-    name: &str,
+    name: &Text,
     next: Result<InstalledExtension, Refusal>,
 ) -> Result<Vec<InstalledExtension>, Refusal>
     ensures { Places extensions.now name.now next result }
 {
     match next {
-        Ok(extension) => match with_extension(alloc, extensions, name, extension) {
+        Ok(extension) => match with_extension(alloc, extensions, name.as_str(), extension) {
             Ok(list) => Ok(list),
             Err(NoMemory) => Err(Refusal::NoMemory),
         },
@@ -126,8 +126,8 @@ fn dynamic_after(
     alloc: Global,
     extension: &InstalledExtension,
     count: u32,
-    remove: &[u32],
-    add: &[SharedRule],
+    remove: &Items<u32>,
+    add: &Items<SharedRule>,
 ) -> Result<InstalledExtension, Refusal>
     ensures judged { OnOk result (spec.first_refusal
         (tests.dynamic_tests count remove.now add.now extension.now.dynamic) ≡ None) }
@@ -137,7 +137,12 @@ fn dynamic_after(
         (tests.dynamic_tests count remove.now add.now extension.now.dynamic))) }
     ensures fits { OnOk result (count < spec.max_updates) }
 {
-    let rules = replaced(alloc, extension.dynamic(), remove, add)?;
+    let rules = replaced(
+        alloc,
+        extension.dynamic(),
+        remove.as_slice(),
+        add.as_slice(),
+    )?;
     judge_dynamic(count, &rules)?;
     Ok(extension.with_dynamic(alloc, rules)?)
 }
@@ -146,8 +151,8 @@ fn session_after(
     alloc: Global,
     extension: &InstalledExtension,
     count: u32,
-    remove: &[u32],
-    add: &[SharedRule],
+    remove: &Items<u32>,
+    add: &Items<SharedRule>,
 ) -> Result<InstalledExtension, Refusal>
     ensures judged { OnOk result (spec.first_refusal
         (tests.session_tests count remove.now add.now extension.now.session) ≡ None) }
@@ -157,7 +162,12 @@ fn session_after(
         (tests.session_tests count remove.now add.now extension.now.session))) }
     ensures fits { OnOk result (count < spec.max_updates) }
 {
-    let rules = replaced(alloc, extension.session(), remove, add)?;
+    let rules = replaced(
+        alloc,
+        extension.session(),
+        remove.as_slice(),
+        add.as_slice(),
+    )?;
     judge_session(count, &rules)?;
     Ok(extension.with_session(alloc, rules)?)
 }
@@ -167,9 +177,9 @@ pub(crate) fn after_dynamic(
     alloc: Global,
     extensions: &[InstalledExtension],
     count: u32,
-    name: &str,
-    remove: &[u32],
-    add: &[SharedRule],
+    name: &Text,
+    remove: &Items<u32>,
+    add: &Items<SharedRule>,
 ) -> Result<Vec<InstalledExtension>, Refusal>
     ensures made { IfOk result (λ next. IsMadeIn extensions.now count
         (update.dynamic name.now remove.now add.now) next.items) }
@@ -191,9 +201,9 @@ pub(crate) fn after_session(
     alloc: Global,
     extensions: &[InstalledExtension],
     count: u32,
-    name: &str,
-    remove: &[u32],
-    add: &[SharedRule],
+    name: &Text,
+    remove: &Items<u32>,
+    add: &Items<SharedRule>,
 ) -> Result<Vec<InstalledExtension>, Refusal>
     ensures made { IfOk result (λ next. IsMadeIn extensions.now count
         (update.session name.now remove.now add.now) next.items) }
@@ -233,9 +243,9 @@ fn rulesets_after(
     extensions: &[InstalledExtension],
     extension: &InstalledExtension,
     count: u32,
-    name: &str,
-    disable: &[Text],
-    enable: &[Text],
+    name: &Text,
+    disable: &Items<Text>,
+    enable: &Items<Text>,
 ) -> Result<Vec<InstalledExtension>, Refusal>
     ensures judged { OnOk result (spec.first_refusal (tests.ruleset_tests count disable.now enable.now extension.now
         (switched_among extensions.now name.now disable.now enable.now extension.now)) ≡ None) }
@@ -245,9 +255,10 @@ fn rulesets_after(
         extension.now (switched_among extensions.now name.now disable.now enable.now extension.now)))) }
     ensures fits { OnOk result (count < spec.max_updates) }
 {
+    let (disable, enable) = (disable.as_slice(), enable.as_slice());
     judge_switched(alloc, extension, disable, enable)?;
     let switched = extension.switched(alloc, disable, enable)?;
-    let next = with_extension(alloc, extensions, name, switched.again()?)?;
+    let next = with_extension(alloc, extensions, name.as_str(), switched.again()?)?;
     judge_sets(count, switched.sets(), &next)?;
     Ok(next)
 }
@@ -257,9 +268,9 @@ pub(crate) fn after_rulesets(
     alloc: Global,
     extensions: &[InstalledExtension],
     count: u32,
-    name: &str,
-    disable: &[Text],
-    enable: &[Text],
+    name: &Text,
+    disable: &Items<Text>,
+    enable: &Items<Text>,
 ) -> Result<Vec<InstalledExtension>, Refusal>
     ensures made { IfOk result (λ next. IsMadeIn extensions.now count
         (update.rulesets name.now disable.now enable.now) next.items) }
@@ -293,10 +304,10 @@ fn judge_rules_switched(
 }
 
 // The refusal of an update of a ruleset that is not there.
-fn missing_set(alloc: Global, id: &str) -> Refusal
+fn missing_set(alloc: Global, id: &Text) -> Refusal
     ensures { IsRefusalOf (Some (refusal.NoRuleset id.now)) result }
 {
-    match text_of(alloc, id) {
+    match text_of(alloc, id.as_str()) {
         Ok(id) => Refusal::NoRuleset(id),
         Err(NoMemory) => Refusal::NoMemory,
     }
@@ -308,9 +319,9 @@ fn with_switched(
     extension: &InstalledExtension,
     count: u32,
     set: &InstalledSet,
-    id: &str,
-    disable: &[i128],
-    enable: &[i128],
+    id: &Text,
+    disable: &Items<i128>,
+    enable: &Items<i128>,
 ) -> Result<InstalledExtension, Refusal>
     requires { lists_of (tests.sets_after id.now disable.now enable.now set.now extension.now)
         ≡ lists_of extension.now.sets }
@@ -323,10 +334,11 @@ fn with_switched(
         (tests.switched_tests count id.now disable.now enable.now set.now extension.now))) }
     ensures fits { OnOk result (count < spec.max_updates) }
 {
+    let (disable, enable) = (disable.as_slice(), enable.as_slice());
     judge_rules_switched(set, disable, enable)?;
     judge_both(alloc, disable, enable)?;
     let switched = set.with_rules_switched(alloc, disable, enable)?;
-    let next = extension.with_set(alloc, id, switched)?;
+    let next = extension.with_set(alloc, id.as_str(), switched)?;
     judge_disabled(count, next.sets())?;
     Ok(next)
 }
@@ -335,9 +347,9 @@ fn static_after(
     alloc: Global,
     extension: &InstalledExtension,
     count: u32,
-    id: &str,
-    disable: &[i128],
-    enable: &[i128],
+    id: &Text,
+    disable: &Items<i128>,
+    enable: &Items<i128>,
 ) -> Result<InstalledExtension, Refusal>
     ensures judged { OnOk result (spec.first_refusal
         (tests.static_tests count id.now disable.now enable.now extension.now) ≡ None) }
@@ -359,10 +371,10 @@ pub(crate) fn after_static(
     alloc: Global,
     extensions: &[InstalledExtension],
     count: u32,
-    name: &str,
-    set: &str,
-    disable: &[i128],
-    enable: &[i128],
+    name: &Text,
+    set: &Text,
+    disable: &Items<i128>,
+    enable: &Items<i128>,
 ) -> Result<Vec<InstalledExtension>, Refusal>
     ensures made { IfOk result (λ next. IsMadeIn extensions.now count
         (update.static name.now set.now disable.now enable.now) next.items) }
@@ -429,7 +441,7 @@ fn uninstalled(
     alloc: Global,
     extensions: &[InstalledExtension],
     count: u32,
-    name: &str,
+    name: &Text,
 ) -> Result<Vec<InstalledExtension>, Refusal>
     ensures judged { OnOk result (spec.first_refusal (tests.count_test count ∷ []) ≡ None) }
     ensures next { IfOk result (λ next. next.items
@@ -438,7 +450,7 @@ fn uninstalled(
     ensures fits { OnOk result (count < spec.max_updates) }
 {
     judge_count(count)?;
-    Ok(without(alloc, extensions, name)?)
+    Ok(without(alloc, extensions, name.as_str())?)
 }
 
 // The extensions once this one is uninstalled.
@@ -446,7 +458,7 @@ pub(crate) fn after_uninstall(
     alloc: Global,
     extensions: &[InstalledExtension],
     count: u32,
-    name: &str,
+    name: &Text,
 ) -> Result<Vec<InstalledExtension>, Refusal>
     ensures made { IfOk result (λ next. IsMadeIn extensions.now count (update.uninstall name.now) next.items) }
     ensures refused { IfErr result (IsRefusalOf (judge_in extensions.now count (update.uninstall name.now))) }

@@ -26,17 +26,19 @@ pub(crate) fn text_of(alloc: Global, text: &str) -> Result<Text, NoMemory>
 // The extension of this name.
 pub(crate) fn named<'a>(
     extensions: &'a [InstalledExtension],
-    name: &str,
+    name: &Text,
 ) -> Option<&'a InstalledExtension>
     ensures { option_copied result ≡ spec.named name.now extensions.now }
 {
+    let name = name.as_str();
     extensions.iter().find(|extension| extension.name() == name)
 }
 
 // The ruleset of this id.
-pub(crate) fn set_named<'a>(sets: &'a [InstalledSet], id: &str) -> Option<&'a InstalledSet>
+pub(crate) fn set_named<'a>(sets: &'a [InstalledSet], id: &Text) -> Option<&'a InstalledSet>
     ensures { option_copied result ≡ find (has_set_id id.now) sets.now }
 {
+    let id = id.as_str();
     sets.iter().find(|set| set.id() == id)
 }
 

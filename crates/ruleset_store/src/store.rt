@@ -202,56 +202,25 @@ impl Store {
                 extension,
                 remove,
                 add,
-            } => after_dynamic(
-                alloc,
-                all,
-                count,
-                extension.as_str(),
-                remove.as_slice(),
-                add.as_slice(),
-            ),
+            } => after_dynamic(alloc, all, count, extension, remove, add),
             Update::Session {
                 extension,
                 remove,
                 add,
-            } => after_session(
-                alloc,
-                all,
-                count,
-                extension.as_str(),
-                remove.as_slice(),
-                add.as_slice(),
-            ),
+            } => after_session(alloc, all, count, extension, remove, add),
             Update::Rulesets {
                 extension,
                 disable,
                 enable,
-            } => after_rulesets(
-                alloc,
-                all,
-                count,
-                extension.as_str(),
-                disable.as_slice(),
-                enable.as_slice(),
-            ),
+            } => after_rulesets(alloc, all, count, extension, disable, enable),
             Update::Static {
                 extension,
                 set,
                 disable,
                 enable,
-            } => after_static(
-                alloc,
-                all,
-                count,
-                extension.as_str(),
-                set.as_str(),
-                disable.as_slice(),
-                enable.as_slice(),
-            ),
+            } => after_static(alloc, all, count, extension, set, disable, enable),
             Update::Install { extension } => after_install(alloc, all, count, extension),
-            Update::Uninstall { extension } => {
-                after_uninstall(alloc, all, count, extension.as_str())
-            }
+            Update::Uninstall { extension } => after_uninstall(alloc, all, count, extension),
         }
     }
 

@@ -1,4 +1,5 @@
 ghost use Rattle.std.specs.Prelude.{◌≡◌, IfOk};
+ghost use Rattle.update_spec.specs.Update as spec;
 ghost use Rattle.ruleset_store.specs.Seen.{update_seen};
 
 use crate::{Extension, SharedRule};
@@ -68,6 +69,24 @@ fn numbers_again<T: Copy>(alloc: Global, numbers: &Items<T>) -> Result<Items<T>,
     Ok(Items::build(Vec::from_slice(alloc, numbers.as_slice())?))
 }
 
+// An equal update of which rules of a ruleset are off.
+fn static_again(
+    alloc: Global,
+    extension: &Text,
+    set: &Text,
+    disable: &Items<i128>,
+    enable: &Items<i128>,
+) -> Result<Update, NoMemory>
+    ensures { IfOk result (λ copy. update_seen copy ≡ spec.static extension.now set.now disable.now enable.now) }
+{
+    Ok(Update::Static {
+        extension: extension.copy(alloc)?,
+        set: set.copy(alloc)?,
+        disable: numbers_again(alloc, disable)?,
+        enable: numbers_again(alloc, enable)?,
+    })
+}
+
 impl Update {
     /// An equal update, which shares the rules and the extension that it adds.
     ///
@@ -108,12 +127,7 @@ impl Update {
                 set,
                 disable,
                 enable,
-            } => Ok(Update::Static {
-                extension: extension.copy(alloc)?,
-                set: set.copy(alloc)?,
-                disable: numbers_again(alloc, disable)?,
-                enable: numbers_again(alloc, enable)?,
-            }),
+            } => static_again(alloc, extension, set, disable, enable),
             Update::Install { extension } => Ok(Update::Install {
                 extension: Arc::try_clone(extension)?,
             }),
