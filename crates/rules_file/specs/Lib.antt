@@ -2,3 +2,4 @@ pub mod Answers
 pub mod Reading
 pub mod Load
 pub mod Listed
+pub mod Counts

@@ -5,6 +5,7 @@
 //! of `serde_json`, which is let go before the next one is read. Elements behind a refused one are passed over.
 #![tactic(auto)]
 
+mod each;
 mod list;
 mod listed;
 mod load;
@@ -17,6 +18,7 @@ ghost use Rattle.json_spec.specs.RulesFile.{rules_of};
 ghost use Rattle.rules_file.specs.Answers.{IsCalmFile, MayRefuse, named, of_no_rule};
 
 use json_fields::Fault;
+pub use each::{count_next, list_in, next_listed};
 pub use listed::{Listed, read_listed};
 pub use load::{LoadRefusal, MAX_FILE, load_rules};
 use regex_host::RegexHost;

@@ -58,7 +58,7 @@ pub fn read_listed<H: RegexHost>(
 }
 
 // How many members of the object have the name.
-fn times_in(bytes: &[u8], scratch: &mut Scratch, name: &str) -> Result<usize, Fault>
+pub(crate) fn times_in(bytes: &[u8], scratch: &mut Scratch, name: &str) -> Result<usize, Fault>
     ensures counted { IfOk result (HasTimesIn bytes.now name.now) }
     ensures bad { result ≡ Err Fault.BadJson → IsNoObject bytes.now }
 {
@@ -105,7 +105,7 @@ fn read_last<H: RegexHost>(
 }
 
 // Takes the brace that opens an object, if it is next.
-fn opens_object(reader: &mut Reader<'_>) -> bool
+pub(crate) fn opens_object(reader: &mut Reader<'_>) -> bool
     ensures is { result ≡ is_brace reader.old }
     ensures behind { IsTrue result → reader.old ≡ begin_object ∷ reader.new }
 {
@@ -113,7 +113,7 @@ fn opens_object(reader: &mut Reader<'_>) -> bool
 }
 
 // The rules at the last member of the name, of which there are so many, behind the object's brace.
-fn read_member<H: RegexHost>(
+pub(crate) fn read_member<H: RegexHost>(
     alloc: Global,
     reader: &mut Reader<'_>,
     depth: usize,

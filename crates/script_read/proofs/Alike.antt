@@ -1,5 +1,5 @@
 -- What was kept of a line reads as the updates that the whole reads as.
-use Rattle.std.proofs.Common.{◌≡◌, ℕ, List, Option, Some, None, Result, Ok, Err, sym, ap, ◌∙◌}
+use Rattle.std.proofs.Common.{◌≡◌, ℕ, List, true, false, Option, Some, None, Result, Ok, Err, sym, ap, ◌∙◌}
 use Rattle.std.specs.Prelude.{Vec}
 use Rattle.std.specs.declared.alloc.Global.{Global}
 use Rattle.std.specs.Result.{IfOk}
@@ -23,8 +23,8 @@ use Rattle.line_spec.specs.declared.update_fault.UpdateFault.TheVariants.{BadFie
 use Rattle.line_spec.specs.Batch.{elements_of, batch_in, updates_at}
 use Rattle.line_spec.specs.Updates.{update_in}
 use Rattle.line_spec.specs.Stops.{StopsInUpdate}
-use Rattle.script_read.specs.Apart.{added_by}
-use Rattle.update_parts.specs.SpeaksAs.{SpeaksAs}
+use Rattle.script_read.specs.Apart.{added_by, is_install}
+use Rattle.update_parts.specs.SpeaksAs.{SpeaksAs, StandsFor}
 use Rattle.script_read.specs.Faults.{MayStopBy, MayRefuse}
 use Rattle.script_read.specs.Stops.{StopsInEach, StopsInList}
 use Rattle.update_parts.specs.Batch.{ReadAsAll, HoldsList, HoldsBatch, items_kept}
@@ -32,7 +32,7 @@ use Rattle.update_parts.specs.Batch.{ReadAsAll, HoldsList, HoldsBatch, items_kep
 -- ---- the whole text
 
 pub tree_speaks : (bytes text : List ℕ) (result : Result Value Fault) → text ≡ bytes → IsUtf8 bytes
-    → IfOk result (λ kept. (d : Data) × (read text ≡ Some d) × SpeaksAs (view kept) d) → IfOk result (λ kept. (d : Data) × (tree_of bytes ≡ Some d) × SpeaksAs (view kept) d)
+    → IfOk result (λ kept. (d : Data) × (read text ≡ Some d) × StandsFor (view kept) d) → IfOk result (λ kept. (d : Data) × (tree_of bytes ≡ Some d) × StandsFor (view kept) d)
 tree_speaks bytes text (Ok kept) same utf8 h = (h.0, sym (tree_of_read bytes h.0 utf8 (ap read (sym same) ∙ h.1)), h.2)
 tree_speaks bytes text (Err fault) same utf8 h = tt
 
@@ -68,30 +68,30 @@ list_stops (Some es) (Some ds) fault h s = (h.1, each_stops es ds fault h.0 s.1)
 -- ---- updates
 
 module _ (e d : Data) (alike : SpeaksAs e d) where
-  pub update_alike : (which : UpdateName) → added_by which ≡ None → update_in which e ≡ update_in which d
-  update_alike name.Dynamic none = absurd (cc)
-  update_alike name.Session none = absurd (cc)
-  update_alike name.Rulesets none = alike.rulesets
-  update_alike name.Static none = alike.static
-  update_alike name.Install none = alike.install
-  update_alike name.Uninstall none = alike.uninstall
+  pub update_alike : (which : UpdateName) → added_by which ≡ None → is_install which ≡ false → update_in which e ≡ update_in which d
+  update_alike name.Dynamic none other = absurd (cc)
+  update_alike name.Session none other = absurd (cc)
+  update_alike name.Rulesets none other = alike.rulesets
+  update_alike name.Static none other = alike.static
+  update_alike name.Install none other = absurd (cc)
+  update_alike name.Uninstall none other = alike.uninstall
 
-  stops_alike : (which : UpdateName) (refusal : PlacedRefusal) → added_by which ≡ None → StopsInUpdate which e refusal → StopsInUpdate which d refusal
-  stops_alike name.Dynamic refusal none s = absurd (cc)
-  stops_alike name.Session refusal none s = absurd (cc)
-  stops_alike name.Rulesets refusal none s = s
-  stops_alike name.Static refusal none s = s
-  stops_alike name.Install refusal none s = alike.stops refusal s
-  stops_alike name.Uninstall refusal none s = s
+  stops_alike : (which : UpdateName) (refusal : PlacedRefusal) → added_by which ≡ None → is_install which ≡ false → StopsInUpdate which e refusal → StopsInUpdate which d refusal
+  stops_alike name.Dynamic refusal none other s = absurd (cc)
+  stops_alike name.Session refusal none other s = absurd (cc)
+  stops_alike name.Rulesets refusal none other s = s
+  stops_alike name.Static refusal none other s = s
+  stops_alike name.Install refusal none other s = absurd (cc)
+  stops_alike name.Uninstall refusal none other s = s
 
-  refused_by : (which : UpdateName) (rose : Type 0) (refusal : PlacedRefusal) (cause : RuleRefusal) → added_by which ≡ None → MayStopBy (update_in which e) (rose × StopsInUpdate which e refusal) refusal cause
+  refused_by : (which : UpdateName) (rose : Type 0) (refusal : PlacedRefusal) (cause : RuleRefusal) → added_by which ≡ None → is_install which ≡ false → MayStopBy (update_in which e) (rose × StopsInUpdate which e refusal) refusal cause
       → MayStopBy (update_in which d) (rose × StopsInUpdate which d refusal) refusal cause
-  refused_by which rose refusal rule.HostFault none h = (h.0, stops_alike which refusal none h.1)
-  refused_by which rose refusal rule.NoMemory none h = h
-  refused_by which rose refusal cause none h = sym (update_alike which none) ∙ h
+  refused_by which rose refusal rule.HostFault none other h = (h.0, stops_alike which refusal none other h.1)
+  refused_by which rose refusal rule.NoMemory none other h = h
+  refused_by which rose refusal cause none other h = sym (update_alike which none other) ∙ h
 
-  pub refused_alike : (which : UpdateName) → added_by which ≡ None → (rose : Type 0) (fault : UpdateFault) → MayRefuse (update_in which e) (λ r. rose × StopsInUpdate which e r) fault
+  pub refused_alike : (which : UpdateName) → added_by which ≡ None → is_install which ≡ false → (rose : Type 0) (fault : UpdateFault) → MayRefuse (update_in which e) (λ r. rose × StopsInUpdate which e r) fault
       → MayRefuse (update_in which d) (λ r. rose × StopsInUpdate which d r) fault
-  refused_alike which none rose (BadField f) h = sym (update_alike which none) ∙ h
-  refused_alike which none rose (RuleRefused refusal) h = refused_by which rose refusal refusal.cause none h
-  refused_alike which none rose NoMemory h = tt
+  refused_alike which none other rose (BadField f) h = sym (update_alike which none other) ∙ h
+  refused_alike which none other rose (RuleRefused refusal) h = refused_by which rose refusal refusal.cause none other h
+  refused_alike which none other rose NoMemory h = tt

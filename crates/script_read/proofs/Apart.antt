@@ -1,5 +1,5 @@
 -- An update whose rules are read apart reads as the whole.
-use Rattle.std.proofs.Common.{◌≡◌, ℕ, List, [], Option, Some, None, Result, Ok, Err, sym, ap, ◌∙◌, subst}
+use Rattle.std.proofs.Common.{◌≡◌, ℕ, List, [], true, false, Option, Some, None, Result, Ok, Err, sym, ap, ◌∙◌, subst}
 use Rattle.std.specs.Prelude.{IfErr, IsSome, option_and_then}
 use Rattle.serde_json.specs.Data.{Data, Items}
 use Rattle.serde_json.specs.Find.{as_array}
@@ -11,17 +11,17 @@ use Rattle.rule_spec.specs.declared.placed_refusal.PlacedRefusal.{PlacedRefusal}
 use Rattle.rule_spec.specs.Rule.{Rule}
 use Rattle.json_spec.specs.ReadRule.{read_items}
 use Rattle.json_spec.specs.RulesFile.{StopsInList, StopsInTree}
-use Rattle.update_spec.specs.Update.{Update}
+use Rattle.update_spec.specs.Update.{NewRuleSet, Update, install}
 use Rattle.line_spec.specs.declared.command_name.UpdateName.{UpdateName}
 use Rattle.line_spec.specs.declared.command_name.UpdateName.TheVariants as name
 use Rattle.line_spec.specs.declared.update_field.UpdateField.TheVariants as field
 use Rattle.line_spec.specs.declared.update_fault.UpdateFault.{UpdateFault}
 use Rattle.line_spec.specs.declared.update_fault.UpdateFault.TheVariants.{BadField, RuleRefused, NoMemory}
 use Rattle.line_spec.specs.Reading.{and_then}
-use Rattle.line_spec.specs.Updates.{value_at, rules_given, rules_of_list, unless_refused, text_in, remove_in, add_in, replacing_in, update_in}
-use Rattle.line_spec.specs.Stops.{StopsInAdded, StopsInUpdate}
+use Rattle.line_spec.specs.Updates.{value_at, rules_given, rules_of_list, unless_refused, text_in, remove_in, add_in, replacing_in, new_name_in, access_in, install_in, update_in}
+use Rattle.line_spec.specs.Stops.{StopsInAdded, StopsInSetList, StopsInInstall, StopsInUpdate}
 use Rattle.rule_read.specs.Reading.{MayStop}
-use Rattle.script_read.specs.Apart.{added_at, add_from, replacing_with, StopsApart, IsKeptOf, added_by, update_of_tree, StopsInTheUpdate}
+use Rattle.script_read.specs.Apart.{added_at, add_from, replacing_with, StopsApart, sets_of_tree, sets_at, install_with, StopsInstall, IsKeptOf, added_by, is_install, update_of_tree, StopsInTheUpdate}
 use Rattle.script_read.specs.Faults.{MayStopBy, MayRefuse, IsFaultOf, fault_of}
 use Rattle.script_read.specs.Updates.{made_by}
 use Rattle.script_read.proofs.Alike.{update_alike, refused_alike}
@@ -117,14 +117,14 @@ module _ (kept : Data) (tree : Option Data) (of : IsKeptOf kept tree) where
   apart_same : (kind : RuleKind) (make : List ℕ → List ℕ → List Rule → Update) → replacing_with kind make kept tree ≡ replacing_in kind make of.d
   unfolding replacing_with replacing_in add_from add_in
   apart_same kind make =
-      rw (of.alike.extension, of.alike.remove, ap added_at of.is)
+      rw (of.stands.alike.extension, of.stands.alike.remove, ap added_at of.is)
 
   apart_stops : (kind : RuleKind) (refusal : PlacedRefusal) → StopsApart kind kept tree refusal → StopsInAdded kind of.d refusal
   apart_stops kind refusal s = record {
     extension = s.extension;
-    named = sym of.alike.extension ∙ s.named;
+    named = sym of.stands.alike.extension ∙ s.named;
     remove = s.remove;
-    removed = sym of.alike.remove ∙ s.removed;
+    removed = sym of.stands.alike.remove ∙ s.removed;
     stops = subst (λ found. StopsInTree kind found refusal) (ap added_at of.is) s.stops;
   }
 
@@ -160,11 +160,67 @@ module _ (kept : Data) (tree : Option Data) (of : IsKeptOf kept tree) where
         lift (replacing_with kind (made_by kind) kept tree) (update_of_tree which tree) (λ r. rose × StopsApart kind kept tree r) (λ r. rose × StopsInTheUpdate which tree r) fault
         (apart_same kind (made_by kind) ∙ by_kind which kind adds ∙ at_tree) (λ r s. (s.0, stops_at_tree r (stops_by_kind which kind r adds (apart_stops kind r s.1)))) h
 
-    pub without_rules : (u : Update) → added_by which ≡ None → update_in which kept ≡ Ok u → update_of_tree which tree ≡ Ok u
-    without_rules u none h = sym at_tree ∙ sym (update_alike kept of.d of.alike which none) ∙ h
+    pub without_rules : (u : Update) → added_by which ≡ None → is_install which ≡ false → update_in which kept ≡ Ok u → update_of_tree which tree ≡ Ok u
+    without_rules u none other h = sym at_tree ∙ sym (update_alike kept of.d of.stands.alike which none other) ∙ h
 
-    pub without_rules_stops : (rose : Type 0) (fault : UpdateFault) → added_by which ≡ None → MayRefuse (update_in which kept) (λ r. rose × StopsInUpdate which kept r) fault
+    pub without_rules_stops : (rose : Type 0) (fault : UpdateFault) → added_by which ≡ None → is_install which ≡ false → MayRefuse (update_in which kept) (λ r. rose × StopsInUpdate which kept r) fault
         → MayRefuse (update_of_tree which tree) (λ r. rose × StopsInTheUpdate which tree r) fault
-    without_rules_stops rose fault none h =
+    without_rules_stops rose fault none other h =
         lift (update_in which of.d) (update_of_tree which tree) (λ r. rose × StopsInUpdate which of.d r) (λ r. rose × StopsInTheUpdate which tree r) fault
-        at_tree (λ r s. (s.0, stops_at_tree r s.1)) (refused_alike kept of.d of.alike which none rose fault h)
+        at_tree (λ r s. (s.0, stops_at_tree r s.1)) (refused_alike kept of.d of.stands.alike which none other rose fault h)
+
+  -- ---- an installation
+
+  install_same : install_with kept tree ≡ install_in of.d
+  unfolding install_with install_in
+  install_same = rw (of.stands.alike.name, of.stands.alike.access, ap sets_of_tree of.is)
+
+  install_stops : (refusal : PlacedRefusal) → StopsInstall kept tree refusal → StopsInInstall of.d refusal
+  install_stops refusal s = record {
+    extension = s.extension;
+    named = sym of.stands.alike.name ∙ s.named;
+    stops = subst (λ found. StopsInSetList found refusal) (ap sets_at of.is) s.stops;
+  }
+
+  pub installed : (which : UpdateName) (u : Update) → is_install which ≡ true → install_with kept tree ≡ Ok u → update_of_tree which tree ≡ Ok u
+  installed name.Dynamic u is h = absurd (cc)
+  installed name.Session u is h = absurd (cc)
+  installed name.Rulesets u is h = absurd (cc)
+  installed name.Static u is h = absurd (cc)
+  installed name.Install u is h = sym (at_tree name.Install) ∙ sym install_same ∙ h
+  installed name.Uninstall u is h = absurd (cc)
+
+  pub installed_stops : (which : UpdateName) (rose : Type 0) (fault : UpdateFault) → is_install which ≡ true → MayRefuse (install_with kept tree) (λ r. rose × StopsInstall kept tree r) fault
+      → MayRefuse (update_of_tree which tree) (λ r. rose × StopsInTheUpdate which tree r) fault
+  installed_stops name.Dynamic rose fault is h = absurd (cc)
+  installed_stops name.Session rose fault is h = absurd (cc)
+  installed_stops name.Rulesets rose fault is h = absurd (cc)
+  installed_stops name.Static rose fault is h = absurd (cc)
+  installed_stops name.Install rose fault is h =
+      lift (install_with kept tree) (update_of_tree name.Install tree) (λ r. rose × StopsInstall kept tree r) (λ r. rose × StopsInTheUpdate name.Install tree r) fault
+      (install_same ∙ at_tree name.Install) (λ r s. (s.0, stops_at_tree name.Install r (install_stops r s.1))) h
+  installed_stops name.Uninstall rose fault is h = absurd (cc)
+
+-- ---- the chain of an installation
+
+module _ (kept : Data) (tree : Option Data) (rose : Type 0) (fault : UpdateFault) where
+  pub name_apart : IsFaultOf (new_name_in kept) fault → MayRefuse (install_with kept tree) (λ r. rose × StopsInstall kept tree r) fault
+  unfolding install_with
+  name_apart h =
+      stops_plainly (new_name_in kept) (λ extension. and_then (sets_of_tree tree) (λ sets. and_then (access_in kept) (λ access. Ok (install (record { name = extension; sets = sets; access = access })))))
+      (λ r. rose × StopsInstall kept tree r) fault h
+
+  pub sets_apart : (extension : List ℕ) → new_name_in kept ≡ Ok extension
+      → MayRefuse (sets_of_tree tree) (λ r. rose × StopsInSetList (sets_at tree) r) fault → MayRefuse (install_with kept tree) (λ r. rose × StopsInstall kept tree r) fault
+  unfolding install_with
+  sets_apart extension named h =
+      rw named
+      (stops_within (sets_of_tree tree) (λ sets. and_then (access_in kept) (λ access. Ok (install (record { name = extension; sets = sets; access = access }))))
+      (λ r. rose × StopsInSetList (sets_at tree) r) (λ r. rose × StopsInstall kept tree r) fault
+      (λ r s. (s.0, record { extension = extension; named = named; stops = s.1 })) h)
+
+  pub access_apart : (extension : List ℕ) (sets : List NewRuleSet) → new_name_in kept ≡ Ok extension → sets_of_tree tree ≡ Ok sets → IsFaultOf (access_in kept) fault
+      → MayRefuse (install_with kept tree) (λ r. rose × StopsInstall kept tree r) fault
+  unfolding install_with
+  access_apart extension sets named read h =
+      rw (named, read) (stops_plainly (access_in kept) (λ access. Ok (install (record { name = extension; sets = sets; access = access }))) (λ r. rose × StopsInstall kept tree r) fault h)

@@ -18,3 +18,4 @@ pub mod WholeLines
 pub mod Alike
 pub mod BatchIn
 pub mod Apart
+pub mod HeadsRead

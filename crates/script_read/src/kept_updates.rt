@@ -5,7 +5,7 @@ ghost use Rattle.serde_json.specs.Read.{read};
 ghost use Rattle.serde_json.specs.View.{view};
 ghost use Rattle.json_spec.specs.Json.{tree_of};
 ghost use Rattle.update_parts.specs.Batch.{items_kept, HoldsBatch};
-ghost use Rattle.update_parts.specs.SpeaksAs.{SpeaksAs};
+ghost use Rattle.update_parts.specs.SpeaksAs.{StandsFor};
 
 use json::{Reader, Scratch};
 use json_fields::Fault;
@@ -14,13 +14,13 @@ use std::alloc::Global;
 use std::str;
 use update_parts::{next_batch, next_update};
 
-// Reads the update, but for the rules to add, of the object that stands alone in a line.
+// Reads the update, but for its rules, of the object that stands alone in a line.
 pub(crate) fn read_update(
     alloc: Global,
     bytes: &[u8],
     scratch: &mut Scratch,
 ) -> Result<Value, Fault>
-    ensures ok { IfOk result (λ kept. (d : Data) × (tree_of bytes.now ≡ Some d) × SpeaksAs (view kept) d) }
+    ensures ok { IfOk result (λ kept. (d : Data) × (tree_of bytes.now ≡ Some d) × StandsFor (view kept) d) }
     ensures bad { result ≡ Err Fault.BadJson → tree_of bytes.now ≡ None }
 {
     match str::from_utf8(bytes) {
@@ -31,7 +31,7 @@ pub(crate) fn read_update(
 
 // The update of the object that is the text.
 fn text_update(alloc: Global, text: &str, scratch: &mut Scratch) -> Result<Value, Fault>
-    ensures ok { IfOk result (λ kept. (d : Data) × (read text.now ≡ Some d) × SpeaksAs (view kept) d) }
+    ensures ok { IfOk result (λ kept. (d : Data) × (read text.now ≡ Some d) × StandsFor (view kept) d) }
     ensures bad { result ≡ Err Fault.BadJson → read text.now ≡ None }
 {
     let Ok(mut reader) = Reader::new(text, scratch) else {

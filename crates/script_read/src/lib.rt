@@ -9,6 +9,7 @@ mod command;
 mod fields;
 mod frames;
 mod headers;
+mod heads;
 mod kept_updates;
 mod memo;
 mod new_sets;

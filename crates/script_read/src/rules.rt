@@ -105,7 +105,7 @@ pub(crate) fn rules_of_list<H: RegexHost>(
     }
 }
 
-fn fault_of(refusal: PlacedRefusal) -> UpdateFault
+pub(crate) fn fault_of(refusal: PlacedRefusal) -> UpdateFault
     ensures { result ≡ fault_of refusal }
 {
     match refusal.cause {

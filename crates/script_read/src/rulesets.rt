@@ -89,7 +89,7 @@ fn set_in<H: RegexHost>(
 }
 
 #[tactic(auto, unfolding(line_spec::specs::Updates::enabled_in))]
-fn enabled_in(tree: &Value) -> Result<bool, UpdateFault>
+pub(crate) fn enabled_in(tree: &Value) -> Result<bool, UpdateFault>
     ensures read { IfOk result (λ enabled. spec.enabled_in (view tree.now) ≡ Ok enabled) }
     ensures refused { IfErr result (IsFaultOf (spec.enabled_in (view tree.now))) }
 {
@@ -127,7 +127,7 @@ fn set_rules_in<H: RegexHost>(
 }
 
 // The fault, which names the ruleset where it is one of its rules.
-fn naming_set(id: Text, fault: UpdateFault) -> UpdateFault
+pub(crate) fn naming_set(id: Text, fault: UpdateFault) -> UpdateFault
     ensures { result ≡ fault_in_set id fault }
 {
     match fault {

@@ -14,9 +14,10 @@ ghost use Rattle.line_spec.specs.Stops.{StopsInAdded, StopsInInstall, StopsInUpd
 ghost use Rattle.ruleset_store.specs.Seen.{update_seen};
 ghost use Rattle.script_read.specs.Faults.{IsFaultOf, MayRefuse, IsQuiet};
 ghost use Rattle.rules_file.specs.Listed.{IsObject};
-ghost use Rattle.script_read.specs.Apart.{IsKeptOf, StopsApart, StopsInTheUpdate, added_by, replacing_with, update_of_tree};
+ghost use Rattle.script_read.specs.Apart.{IsKeptOf, StopsApart, StopsInTheUpdate, StopsInstall, added_by, install_with, is_install, replacing_with, update_of_tree};
 ghost use Rattle.script_read.specs.Updates.{made_by};
 
+use crate::heads::sets_of;
 use crate::rules::{add_in, add_of};
 use crate::rulesets::sets_in;
 use crate::update_fields::{remove_in, text_in, texts_in, wholes_in};
@@ -83,7 +84,7 @@ fn replacing_in<H: RegexHost>(
 }
 
 // The update of a line, of which these members were kept; its rules are read of its text.
-#[tactic(auto, using(crate::proofs::Apart::with_rules, crate::proofs::Apart::with_rules_stops, crate::proofs::Apart::without_rules, crate::proofs::Apart::without_rules_stops))]
+#[tactic(auto, using(crate::proofs::Apart::with_rules, crate::proofs::Apart::with_rules_stops))]
 pub(crate) fn update_of_line<H: RegexHost>(
     alloc: Global,
     name: UpdateName,
@@ -103,8 +104,68 @@ pub(crate) fn update_of_line<H: RegexHost>(
 {
     match added_by(name) {
         Some(kind) => replacing_with(alloc, kind, kept, bytes, scratch, host),
-        None => update_in(alloc, name, kept, host),
+        None => without_added(alloc, name, kept, bytes, scratch, host),
     }
+}
+
+// The same of an update that adds no rules to those of its extension.
+#[tactic(auto, using(crate::proofs::Apart::without_rules, crate::proofs::Apart::installed))]
+fn without_added<H: RegexHost>(
+    alloc: Global,
+    name: UpdateName,
+    kept: &Value,
+    bytes: &[u8],
+    scratch: &mut Scratch,
+    host: &mut H,
+) -> Result<Update, UpdateFault>
+    requires kept { IsKeptOf (view kept.now) (tree_of bytes.now) }
+    requires none { added_by name ≡ None }
+    ensures read { IfOk result (λ update. update_of_tree name (tree_of bytes.now) ≡ Ok (update_seen update)) }
+    ensures refused { IfErr result (MayRefuse (update_of_tree name (tree_of bytes.now)) (λ refusal.
+        Rose (H.faults host.old) (H.faults host.new)
+        × StopsInTheUpdate name (tree_of bytes.now) refusal)) }
+    ensures calm { OnOk result (H.faults host.new ≡ H.faults host.old) }
+    ensures quiet { IfErr result (IsQuiet (H.faults host.old) (H.faults host.new)) }
+    ensures later { H.faults host.old ≤ H.faults host.new }
+{
+    if is_install(name) {
+        return install_with(alloc, kept, bytes, scratch, host);
+    }
+    update_in(alloc, name, kept, host)
+}
+
+fn is_install(name: UpdateName) -> bool
+    ensures { result ≡ is_install name }
+{
+    matches!(name, UpdateName::Install)
+}
+
+// An extension is installed, whose rulesets are read of the text.
+#[tactic(auto, using(crate::proofs::Apart::name_apart, crate::proofs::Apart::sets_apart, crate::proofs::Apart::access_apart), unfolding(crate::specs::Apart::install_with))]
+fn install_with<H: RegexHost>(
+    alloc: Global,
+    kept: &Value,
+    bytes: &[u8],
+    scratch: &mut Scratch,
+    host: &mut H,
+) -> Result<Update, UpdateFault>
+    requires { IsKeptOf (view kept.now) (tree_of bytes.now) }
+    ensures read { IfOk result (λ update.
+        install_with (view kept.now) (tree_of bytes.now) ≡ Ok (update_seen update)) }
+    ensures refused { IfErr result (MayRefuse (install_with (view kept.now) (tree_of bytes.now)) (λ refusal.
+        Rose (H.faults host.old) (H.faults host.new)
+        × StopsInstall (view kept.now) (tree_of bytes.now) refusal)) }
+    ensures calm { OnOk result (H.faults host.new ≡ H.faults host.old) }
+    ensures quiet { IfErr result (IsQuiet (H.faults host.old) (H.faults host.new)) }
+    ensures later { H.faults host.old ≤ H.faults host.new }
+{
+    let name = new_name_in(alloc, kept)?;
+    let sets = sets_of(alloc, kept, bytes, scratch, host)?;
+    let access = access_in(alloc, kept)?;
+    let extension = Extension::build(alloc, name, sets, access)?;
+    Ok(Update::Install {
+        extension: Arc::new(alloc, extension)?,
+    })
 }
 
 // The kind of the rules that the update adds.

@@ -2,7 +2,7 @@
 use Rattle.std.proofs.Common.{◌≡◌, ℕ, List, Some, None, Option, codes, refl, sym, ap, ◌∙◌}
 use Rattle.std.specs.Prelude.{is_some, option_and_then}
 use Rattle.serde_json.specs.Data.{Data, null, boolean, number, string, array, object, Members}
-use Rattle.serde_json.specs.Find.{as_str, as_object}
+use Rattle.serde_json.specs.Find.{as_str, as_array, as_object}
 use Rattle.rule_spec.specs.declared.rule_kind.RuleKind.{RuleKind}
 use Rattle.rule_spec.specs.declared.rule_kind.RuleKind.TheVariants as kind
 use Rattle.rule_spec.specs.declared.placed_refusal.PlacedRefusal.{PlacedRefusal}
@@ -18,19 +18,20 @@ use Rattle.line_spec.specs.declared.update_field.UpdateField.{UpdateField}
 use Rattle.line_spec.specs.declared.update_field.UpdateField.TheVariants as field
 use Rattle.line_spec.specs.CommandName.{command_named, name_from, name_in}
 use Rattle.line_spec.specs.CommandPath.{field_name}
-use Rattle.line_spec.specs.Updates.{value_at, rules_given, add_in, replacing_in, update_in}
+use Rattle.line_spec.specs.Updates.{value_at, rules_given, add_in, replacing_in, sets_of_list, sets_in, install_in, update_in}
 use Rattle.line_spec.specs.Batch.{at_place, element_named, element_of, element_in}
-use Rattle.line_spec.specs.Stops.{StopsInAdded, StopsInUpdate, StopsInObject}
+use Rattle.line_spec.specs.Stops.{StopsInAdded, StopsInSetList, StopsInInstall, StopsInUpdate, StopsInObject}
 use Rattle.rule_parts.specs.declared.part.RulePart.TheVariants as rule
 use Rattle.update_parts.specs.declared.part.UpdatePart.{UpdatePart}
 use Rattle.update_parts.specs.declared.part.UpdatePart.TheVariants as part
-use Rattle.update_parts.specs.Parts.{wanted_at, item_of, member_of, accepts_at, update_member, KeptAs}
+use Rattle.update_parts.specs.Parts.{wanted_at, item_of, member_of, accepts_at, plain_member, KeptAs}
 use Rattle.update_parts.specs.SpeaksAs.{SpeaksAs}
 use Rattle.update_parts.proofs.InRules.{text_same}
 use Rattle.update_parts.proofs.RulesKept.{rules_same, rules_stop}
+use Rattle.update_parts.proofs.SetsKept.{sets_same, sets_stop}
 use Rattle.update_parts.proofs.UpdateKept.{speaks_as}
 
-has_field : (f : UpdateField) (t : UpdatePart) → update_member (field_name f) ≡ Some t → member_of part.Element (field_name f) ≡ Some t
+has_field : (f : UpdateField) (t : UpdatePart) → plain_member (field_name f) ≡ Some t → member_of part.Element (field_name f) ≡ Some t
 has_field field.Extension t h = h
 has_field field.RemoveRuleIds t h = h
 has_field field.AddRules t h = absurd (cc)
@@ -39,7 +40,7 @@ has_field field.EnableRulesetIds t h = h
 has_field field.RulesetId t h = h
 has_field field.DisableRuleIds t h = h
 has_field field.EnableRuleIds t h = h
-has_field field.Rulesets t h = h
+has_field field.Rulesets t h = absurd (cc)
 has_field field.HostPermissions t h = h
 
 -- ---- what it is named
@@ -101,12 +102,29 @@ module _ (n : ℕ) (d e : Data) (h : KeptAs n part.Element d e) where
     stops = add_stops kind refusal s.stops;
   }
 
+  sets_in_same : sets_in e ≡ sets_in d
+  unfolding sets_in
+  sets_in_same =
+      member_same wanted_at item_of member_of accepts_at part.Element part.Sets (field_name field.Rulesets) (λ v. sets_of_list (option_and_then as_array v)) refl (λ _. refl) refl sets_same n d e h
+
+  install_same : install_in e ≡ install_in d
+  unfolding install_in
+  install_same = rw (alike.name, sets_in_same, alike.access)
+
+  set_list_stops : (refusal : PlacedRefusal) → StopsInSetList (option_and_then as_array (value_at field.Rulesets e)) refusal → StopsInSetList (option_and_then as_array (value_at field.Rulesets d)) refusal
+  set_list_stops refusal =
+      member_related wanted_at item_of member_of accepts_at (λ b a. StopsInSetList (option_and_then as_array b) refusal → StopsInSetList (option_and_then as_array a) refusal) part.Element part.Sets (field_name field.Rulesets)
+      refl (λ _. refl) refl (λ s. s) (sets_stop refusal) n d e h
+
+  install_stops : (refusal : PlacedRefusal) → StopsInInstall e refusal → StopsInInstall d refusal
+  install_stops refusal s = record { extension = s.extension; named = sym alike.name ∙ s.named; stops = set_list_stops refusal s.stops }
+
   update_same : (which : UpdateName) → update_in which e ≡ update_in which d
   update_same name.Dynamic = replacing_same kind.Dynamic dynamic
   update_same name.Session = replacing_same kind.Session session
   update_same name.Rulesets = alike.rulesets
   update_same name.Static = alike.static
-  update_same name.Install = alike.install
+  update_same name.Install = install_same
   update_same name.Uninstall = alike.uninstall
 
   update_stops : (which : UpdateName) (refusal : PlacedRefusal) → StopsInUpdate which e refusal → StopsInUpdate which d refusal
@@ -114,7 +132,7 @@ module _ (n : ℕ) (d e : Data) (h : KeptAs n part.Element d e) where
   update_stops name.Session refusal s = replacing_stops kind.Session refusal s
   update_stops name.Rulesets refusal s = s
   update_stops name.Static refusal s = s
-  update_stops name.Install refusal s = alike.stops refusal s
+  update_stops name.Install refusal s = install_stops refusal s
   update_stops name.Uninstall refusal s = s
 
   pub element_same : (place : ℕ) → element_in place e ≡ element_in place d

@@ -24,7 +24,7 @@ module _ (keeps others : Data → Data → Type 0) (law : (d e : Data) → keeps
   ends_too true es A B go h = h
   ends_too false es A B go h = go h
 
-  items_too : (ds es : Items) → KeptItems keeps ds es → KeptItems others ds es
+  pub items_too : (ds es : Items) → KeptItems keeps ds es → KeptItems others ds es
   items_too no_items no_items h = tt
   items_too no_items (item e es) h = absurd h
   items_too (item d ds) no_items h = absurd h

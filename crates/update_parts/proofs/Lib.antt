@@ -1,6 +1,7 @@
 mod InRules
 mod RulesKept
 mod SetsKept
+mod HeadsKept
 mod UpdateKept
 mod ElementKept
 mod BatchKept

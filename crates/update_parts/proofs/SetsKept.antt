@@ -89,14 +89,14 @@ by_fields : (earlier : List (List ℕ)) (id : Option (List ℕ)) (enabled : Opti
 by_fields earlier None enabled found h = refl
 by_fields earlier (Some id) enabled found h = by_rest (passing (is_new_id earlier) id) enabled found h
 
-fields_refused : (earlier : List (List ℕ)) (d : Data) → is_set d ≡ false → set_in earlier d ≡ Err (BadField field.Rulesets)
+pub fields_refused : (earlier : List (List ℕ)) (d : Data) → is_set d ≡ false → set_in earlier d ≡ Err (BadField field.Rulesets)
 unfolding set_in set_id_in enabled_in set_rules_in
 fields_refused earlier d h = by_fields earlier (option_and_then as_str (get (codes "id") d)) (option_and_then as_bool (get (codes "enabled") d)) (get (codes "rules") d) h
 
 null_refused : (earlier : List (List ℕ)) → set_in earlier null ≡ Err (BadField field.Rulesets)
 null_refused earlier = fields_refused earlier null refl
 
-no_members : (d : Data) → as_object d ≡ None → is_set d ≡ false
+pub no_members : (d : Data) → as_object d ≡ None → is_set d ≡ false
 no_members d h = rw (get_none (codes "id") d h)
 
 set_same : (earlier : List (List ℕ)) (n : ℕ) (d e : Data) → KeptAs n part.Set d e → set_in earlier e ≡ set_in earlier d

@@ -6,7 +6,6 @@ use Rattle.serde_json.specs.Data.{Data}
 use Rattle.serde_json.specs.Find.{get, as_str, as_array}
 use Rattle.serde_json.specs.View.{view}
 use Rattle.serde_json.specs.declared.value.Value.{Value}
-use Rattle.rule_spec.specs.declared.placed_refusal.PlacedRefusal.{PlacedRefusal}
 use Rattle.json_spec.specs.RuleFields.{as_texts}
 use Rattle.json_fields.specs.declared.shape.Wanted.TheVariants as wanted
 use Rattle.json_fields.specs.declared.tree.Fault.{Fault}
@@ -17,32 +16,31 @@ use Rattle.line_spec.specs.declared.update_field.UpdateField.{UpdateField}
 use Rattle.line_spec.specs.declared.update_field.UpdateField.TheVariants as field
 use Rattle.line_spec.specs.CommandPath.{field_name}
 use Rattle.line_spec.specs.Names.{is_extension_name}
-use Rattle.line_spec.specs.Updates.{needed, list_given, as_wholes, as_rule_ids, rule_id, sets_of_list, access_from, text_in, texts_in, wholes_in, remove_in, sets_in, access_in, new_name_in, rulesets_in, static_in, install_in, uninstall_in}
-use Rattle.line_spec.specs.Stops.{StopsInSetList, StopsInInstall}
+use Rattle.line_spec.specs.Updates.{needed, list_given, as_wholes, as_rule_ids, rule_id, access_from, text_in, texts_in, wholes_in, remove_in, access_in, new_name_in, rulesets_in, static_in, uninstall_in}
 use Rattle.rule_parts.specs.declared.part.RulePart.TheVariants as rule
 use Rattle.update_parts.specs.declared.part.UpdatePart.{UpdatePart}
 use Rattle.update_parts.specs.declared.part.UpdatePart.TheVariants as part
-use Rattle.update_parts.specs.Parts.{wanted_at, item_of, member_of, accepts_at, update_member, KeptAs}
-use Rattle.update_parts.specs.SpeaksAs.{SpeaksAs}
+use Rattle.update_parts.specs.Parts.{wanted_at, item_of, member_of, accepts_at, plain_member, KeptAs}
+use Rattle.update_parts.specs.SpeaksAs.{SpeaksAs, HaveHeads, StandsFor}
 use Rattle.update_parts.proofs.InRules.{text_same, texts_same, wholes_same}
-use Rattle.update_parts.proofs.SetsKept.{sets_same, sets_stop}
+use Rattle.update_parts.proofs.HeadsKept.{heads_are}
 
 -- an object that has the fields of an update, but for the rules to add
-module _ (o : UpdatePart) (is : wanted_at o ≡ wanted.Object) (all : (d : Data) → accepts_at o d ≡ true) (has : (f : UpdateField) (t : UpdatePart) → update_member (field_name f) ≡ Some t → member_of o (field_name f) ≡ Some t)
+module _ (o : UpdatePart) (is : wanted_at o ≡ wanted.Object) (all : (d : Data) → accepts_at o d ≡ true) (has : (f : UpdateField) (t : UpdatePart) → plain_member (field_name f) ≡ Some t → member_of o (field_name f) ≡ Some t)
     (n : ℕ) (d e : Data) (h : KeptAs n o d e) where
-  field_same : {X : Type 0} (f : UpdateField) (t : UpdatePart) (reading : Option Data → X) → update_member (field_name f) ≡ Some t
+  field_same : {X : Type 0} (f : UpdateField) (t : UpdatePart) (reading : Option Data → X) → plain_member (field_name f) ≡ Some t
       → ((m : ℕ) (x y : Data) → KeptAs m t x y → reading (Some y) ≡ reading (Some x)) → reading (get (field_name f) e) ≡ reading (get (field_name f) d)
   field_same f t reading there law = member_same wanted_at item_of member_of accepts_at o t (field_name f) reading is all (has f t there) law n d e h
 
-  pub text_in_same : (f : UpdateField) → update_member (field_name f) ≡ Some (part.InRule rule.Text) → text_in f e ≡ text_in f d
+  pub text_in_same : (f : UpdateField) → plain_member (field_name f) ≡ Some (part.InRule rule.Text) → text_in f e ≡ text_in f d
   unfolding text_in
   text_in_same f there = field_same f (part.InRule rule.Text) (λ v. needed f (option_and_then as_str v)) there (λ m x y k. ap (needed f) (text_same m x y k))
 
-  texts_in_same : (f : UpdateField) → update_member (field_name f) ≡ Some (part.InRule rule.Texts) → texts_in f e ≡ texts_in f d
+  texts_in_same : (f : UpdateField) → plain_member (field_name f) ≡ Some (part.InRule rule.Texts) → texts_in f e ≡ texts_in f d
   unfolding texts_in
   texts_in_same f there = field_same f (part.InRule rule.Texts) (list_given f as_texts) there (λ m x y k. ap (needed f) (texts_same m x y k))
 
-  wholes_in_same : (f : UpdateField) → update_member (field_name f) ≡ Some (part.InRule rule.Numbers) → wholes_in f e ≡ wholes_in f d
+  wholes_in_same : (f : UpdateField) → plain_member (field_name f) ≡ Some (part.InRule rule.Numbers) → wholes_in f e ≡ wholes_in f d
   unfolding wholes_in
   wholes_in_same f there = field_same f (part.InRule rule.Numbers) (list_given f as_wholes) there (λ m x y k. ap (needed f) (wholes_same m x y k))
 
@@ -51,10 +49,6 @@ module _ (o : UpdatePart) (is : wanted_at o ≡ wanted.Object) (all : (d : Data)
   remove_same =
       field_same field.RemoveRuleIds (part.InRule rule.Numbers) (list_given field.RemoveRuleIds as_rule_ids) refl
       (λ m x y k. ap (λ ids. needed field.RemoveRuleIds (option_map (filter_map rule_id) ids)) (wholes_same m x y k))
-
-  sets_in_same : sets_in e ≡ sets_in d
-  unfolding sets_in
-  sets_in_same = field_same field.Rulesets part.Sets (λ v. sets_of_list (option_and_then as_array v)) refl sets_same
 
   access_same : access_in e ≡ access_in d
   unfolding access_in
@@ -66,11 +60,6 @@ module _ (o : UpdatePart) (is : wanted_at o ≡ wanted.Object) (all : (d : Data)
       field_same field.Extension (part.InRule rule.Text) (λ v. needed field.Extension (option_and_then (passing is_extension_name) (option_and_then as_str v))) refl
       (λ m x y k. ap (λ s. needed field.Extension (option_and_then (passing is_extension_name) s)) (text_same m x y k))
 
-  set_list_stops : (refusal : PlacedRefusal) → StopsInSetList (option_and_then as_array (get (field_name field.Rulesets) e)) refusal → StopsInSetList (option_and_then as_array (get (field_name field.Rulesets) d)) refusal
-  set_list_stops refusal =
-      member_related wanted_at item_of member_of accepts_at (λ b a. StopsInSetList (option_and_then as_array b) refusal → StopsInSetList (option_and_then as_array a) refusal) o part.Sets (field_name field.Rulesets) is all
-      (has field.Rulesets part.Sets refl) (λ s. s) (sets_stop refusal) n d e h
-
   -- ---- updates that add no rules
 
   rulesets_same : rulesets_in e ≡ rulesets_in d
@@ -81,16 +70,9 @@ module _ (o : UpdatePart) (is : wanted_at o ≡ wanted.Object) (all : (d : Data)
   unfolding static_in
   static_same = rw (text_in_same field.Extension refl, text_in_same field.RulesetId refl, wholes_in_same field.DisableRuleIds refl, wholes_in_same field.EnableRuleIds refl)
 
-  install_same : install_in e ≡ install_in d
-  unfolding install_in
-  install_same = rw (name_same, sets_in_same, access_same)
-
   uninstall_same : uninstall_in e ≡ uninstall_in d
   unfolding uninstall_in
   uninstall_same = rw (text_in_same field.Extension refl)
-
-  install_stops : (refusal : PlacedRefusal) → StopsInInstall e refusal → StopsInInstall d refusal
-  install_stops refusal s = record { extension = s.extension; named = sym name_same ∙ s.named; stops = set_list_stops refusal s.stops }
 
   pub speaks_as : SpeaksAs e d
   speaks_as = record {
@@ -98,14 +80,33 @@ module _ (o : UpdatePart) (is : wanted_at o ≡ wanted.Object) (all : (d : Data)
     remove = remove_same;
     rulesets = rulesets_same;
     static = static_same;
-    install = install_same;
+    name = name_same;
+    access = access_same;
     uninstall = uninstall_same;
-    stops = install_stops;
   }
 
 -- ---- an update alone
 
+has_field : (f : UpdateField) (t : UpdatePart) → plain_member (field_name f) ≡ Some t → member_of part.Update (field_name f) ≡ Some t
+has_field field.Extension t h = h
+has_field field.RemoveRuleIds t h = h
+has_field field.AddRules t h = h
+has_field field.DisableRulesetIds t h = h
+has_field field.EnableRulesetIds t h = h
+has_field field.RulesetId t h = h
+has_field field.DisableRuleIds t h = h
+has_field field.EnableRuleIds t h = h
+has_field field.Rulesets t h = absurd (cc)
+has_field field.HostPermissions t h = h
+
+stands_for : (n : ℕ) (d e : Data) → KeptAs n part.Update d e → StandsFor e d
+stands_for n d e h = record {
+  alike = speaks_as part.Update refl (λ _. refl) has_field n d e h;
+  heads = member_related wanted_at item_of member_of accepts_at (λ b a. HaveHeads (option_and_then as_array a) (option_and_then as_array b)) part.Update part.SetHeads (field_name field.Rulesets) refl (λ _. refl) refl tt
+      heads_are n d e h;
+}
+
 pub kept_speaks : (depth : ℕ) (ts rest : List Token) (result : Result Value Fault)
-    → IfOk result (λ kept. (d : Data) × (value_at depth ts ≡ Some (d, rest)) × KeptAs depth part.Update d (view kept)) → IfOk result (λ kept. (d : Data) × (value_at depth ts ≡ Some (d, rest)) × SpeaksAs (view kept) d)
-kept_speaks depth ts rest (Ok kept) h = (h.0, h.1, speaks_as part.Update refl (λ _. refl) (λ f t there. there) depth h.0 (view kept) h.2)
+    → IfOk result (λ kept. (d : Data) × (value_at depth ts ≡ Some (d, rest)) × KeptAs depth part.Update d (view kept)) → IfOk result (λ kept. (d : Data) × (value_at depth ts ≡ Some (d, rest)) × StandsFor (view kept) d)
+kept_speaks depth ts rest (Ok kept) h = (h.0, h.1, stands_for depth h.0 (view kept) h.2)
 kept_speaks depth ts rest (Err fault) h = tt

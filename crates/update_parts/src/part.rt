@@ -1,7 +1,7 @@
 // The parts of an update as JSON.
 ghost use Rattle.std.specs.Prelude.{◌≡◌};
 ghost use Rattle.serde_json.specs.View.{view};
-ghost use Rattle.update_parts.specs.Parts.{wanted_at, item_of, member_of, accepts_at, in_rule, update_member, element_member, set_member, is_set};
+ghost use Rattle.update_parts.specs.Parts.{wanted_at, item_of, member_of, accepts_at, in_rule, plain_member, update_member, element_member, set_member, head_member, is_set};
 
 use json_fields::{Shape, Wanted};
 use rule_parts::RulePart;
@@ -17,6 +17,11 @@ pub(crate) enum UpdatePart {
     Sets,
     Set,
     Rules,
+    // The rulesets of an update that stands alone, but for their rules.
+    SetHeads,
+    SetHead,
+    // What counts is that a list is there.
+    SomeRules,
     // A part of a rule, or a value as one has.
     InRule(RulePart),
 }
@@ -32,8 +37,13 @@ impl Shape for UpdatePart {
 
     fn wanted(self) -> Wanted {
         match self {
-            UpdatePart::Update | UpdatePart::Element | UpdatePart::Set => Wanted::Object,
-            UpdatePart::Sets | UpdatePart::Rules => Wanted::List,
+            UpdatePart::Update | UpdatePart::Element | UpdatePart::Set | UpdatePart::SetHead => {
+                Wanted::Object
+            }
+            UpdatePart::Sets
+            | UpdatePart::Rules
+            | UpdatePart::SetHeads
+            | UpdatePart::SomeRules => Wanted::List,
             UpdatePart::InRule(part) => part.wanted(),
         }
     }
@@ -41,6 +51,7 @@ impl Shape for UpdatePart {
     fn of_items(self) -> UpdatePart {
         match self {
             UpdatePart::Sets => UpdatePart::Set,
+            UpdatePart::SetHeads => UpdatePart::SetHead,
             UpdatePart::Rules => UpdatePart::InRule(RulePart::Rule),
             UpdatePart::InRule(part) => UpdatePart::InRule(part.of_items()),
             _ => UpdatePart::InRule(RulePart::Presence),
@@ -52,6 +63,7 @@ impl Shape for UpdatePart {
             UpdatePart::Update => update_member(name),
             UpdatePart::Element => element_member(name),
             UpdatePart::Set => set_member(name),
+            UpdatePart::SetHead => head_member(name),
             UpdatePart::InRule(part) => in_rule(part.of_member(name)),
             _ => None,
         }
@@ -60,7 +72,7 @@ impl Shape for UpdatePart {
     // Any fault of a ruleset that is none of its rules' is the same, and what is no object has it too.
     fn accepts(self, kept: &Value) -> bool {
         match self {
-            UpdatePart::Set => is_set(kept),
+            UpdatePart::Set | UpdatePart::SetHead => is_set(kept),
             UpdatePart::InRule(part) => part.accepts(kept),
             _ => true,
         }
@@ -89,6 +101,16 @@ fn update_member(name: &str) -> Option<UpdatePart>
     ensures { result ≡ update_member name.now }
 {
     match name {
+        "rulesets" => Some(UpdatePart::SetHeads),
+        _ => plain_member(name),
+    }
+}
+
+// The same at fields that bring no rules.
+fn plain_member(name: &str) -> Option<UpdatePart>
+    ensures { result ≡ plain_member name.now }
+{
+    match name {
         "extension" => Some(UpdatePart::InRule(RulePart::Text)),
         "removeRuleIds" => Some(UpdatePart::InRule(RulePart::Numbers)),
         "disableRulesetIds" => Some(UpdatePart::InRule(RulePart::Texts)),
@@ -96,7 +118,6 @@ fn update_member(name: &str) -> Option<UpdatePart>
         "rulesetId" => Some(UpdatePart::InRule(RulePart::Text)),
         "disableRuleIds" => Some(UpdatePart::InRule(RulePart::Numbers)),
         "enableRuleIds" => Some(UpdatePart::InRule(RulePart::Numbers)),
-        "rulesets" => Some(UpdatePart::Sets),
         "hostPermissions" => Some(UpdatePart::InRule(RulePart::Texts)),
         _ => None,
     }
@@ -108,7 +129,8 @@ fn element_member(name: &str) -> Option<UpdatePart>
     match name {
         "cmd" => Some(UpdatePart::InRule(RulePart::Text)),
         "addRules" => Some(UpdatePart::Rules),
-        _ => update_member(name),
+        "rulesets" => Some(UpdatePart::Sets),
+        _ => plain_member(name),
     }
 }
 
@@ -119,6 +141,17 @@ fn set_member(name: &str) -> Option<UpdatePart>
         "id" => Some(UpdatePart::InRule(RulePart::Text)),
         "enabled" => Some(UpdatePart::InRule(RulePart::Truth)),
         "rules" => Some(UpdatePart::Rules),
+        _ => None,
+    }
+}
+
+fn head_member(name: &str) -> Option<UpdatePart>
+    ensures { result ≡ head_member name.now }
+{
+    match name {
+        "id" => Some(UpdatePart::InRule(RulePart::Text)),
+        "enabled" => Some(UpdatePart::InRule(RulePart::Truth)),
+        "rules" => Some(UpdatePart::SomeRules),
         _ => None,
     }
 }

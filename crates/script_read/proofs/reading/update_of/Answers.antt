@@ -7,7 +7,7 @@ use Rattle.line_spec.specs.Line.{command_of_tree}
 use Rattle.line_spec.specs.Stops.{StopsIn}
 use Rattle.ruleset_store.specs.Seen.{update_seen}
 use Rattle.script_read.specs.Apart.{update_of_tree, StopsInTheUpdate}
-use Rattle.update_parts.specs.SpeaksAs.{SpeaksAs}
+use Rattle.update_parts.specs.SpeaksAs.{StandsFor}
 use Rattle.script_read.specs.Faults.{MayRefuse}
 use Rattle.script_read.proofs.LinesRead.{same_tree, update_read, update_stops}
 use Rattle.script_read.proofs.reading.update_of.Goals as goal
@@ -17,7 +17,7 @@ update_of_line-requires g c =
     let tree = tree_of c.args.bytes.now in
     let found = c.in-Ok.ensures.ok in
     let same : found.0 ≡ c.requires.d = same_tree found.0 c.requires.d tree (sym found.1) c.requires.is in
-    record { d = c.requires.d; is = c.requires.is; object = c.requires.object; alike = subst (SpeaksAs (view c.in-Ok.kept)) same found.2 }
+    record { d = c.requires.d; is = c.requires.is; object = c.requires.object; stands = subst (StandsFor (view c.in-Ok.kept)) same found.2 }
 
 pub returns-in-Ok-update_of_line-clause-read : goal.returns-in-Ok-update_of_line-clause-read
 returns-in-Ok-update_of_line-clause-read g c =
