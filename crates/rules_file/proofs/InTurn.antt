@@ -1,6 +1,7 @@
 -- The items of a list by their text, where some are objects.
-use Rattle.std.proofs.Common.{◌≡◌, ℕ, suc, ◌+◌, ◌-◌, ◌<◌, ◌≤◌, List, [], ◌∷◌, length, drop, Bool, true, false, Option, Some, None, cond, option_map, option_and_then, refl, sym, ap, ◌∙◌, subst, bytes_eq, arith}
-use Rattle.std.specs.Prelude.{IsSome}
+use Rattle.std.proofs.Common.{◌≡◌, ℕ, suc, ◌+◌, ◌-◌, ◌<◌, ◌≤◌, List, [], ◌∷◌, length, drop, Bool, true, false, Option, Some, None, Result, Ok, Err, cond, option_map, option_and_then, refl, sym, ap, ◌∙◌, subst, bytes_eq, arith}
+use Rattle.std.specs.Prelude.{IfOk, IsSome}
+use Rattle.std.proofs.lemmas.Bool.{true≢false}
 use Rattle.json.specs.Token.{Token}
 use Rattle.json.specs.Json as json
 use Rattle.json.specs.Json.{after_end_array, read_key, value, members, items}
@@ -8,7 +9,8 @@ use Rattle.json.proofs.Grammar.{read_key-shorter, skip_value-shorter, members_fa
 use Rattle.serde_json.specs.Data.{Num, Data, null, boolean, number, string, array, object, Items, no_items, item, Members, no_members}
 use Rattle.serde_json.specs.Find.{as_object, get, get_member}
 use Rattle.serde_json.specs.Read.{number_of, of_json, of_items, of_members, converted}
-use Rattle.json_fields.specs.Last.{times, one_if, members_in, HasTimes, HasNone, Leaves}
+use Rattle.json_fields.specs.declared.tree.Fault.{Fault}
+use Rattle.json_fields.specs.Last.{times, one_if, members_in, HasTimes}
 use Rattle.json_fields.proofs.Times.{mapped, same_first}
 use Rattle.rules_file.specs.Counts.{last_or, HasCount, HaveCounts, AreMembers, HasTimesNext, HasList, ItemsNext, IsCounted, is_bracket}
 use Rattle.rules_file.specs.Listed.{is_brace}
@@ -33,6 +35,14 @@ abbrev pub items_of : json.Json → json.Items
 items_of (json.array js) = js
 items_of _ = json.no_items
 
+abbrev IsObject : json.Json → Type 0
+IsObject (json.object ms) = Unit {0}
+IsObject _ = ⊥
+
+abbrev IsList : json.Json → Type 0
+IsList (json.array js) = Unit {0}
+IsList _ = ⊥
+
 -- behind the brace of an object are its members
 pub record OpensObject (depth : ℕ) (ts : List Token) (ms : json.Members) (r : List Token) : Type 0 where
   pub behind : List Token
@@ -48,14 +58,13 @@ object_opens depth (Token.begin_object ∷ ts) r ms e =
 object_opens depth (Token.end_object ∷ ts) r ms e = absurd (cc)
 object_opens depth (Token.begin_array ∷ ts) r ms e =
     let m = mapped json.array (items (value depth) (length ts) ts) (json.object ms) r e in
-    let never : json.object ms ≡ json.array m.0 = m.2 in
-    absurd (cc)
+    absurd (subst IsObject m.2 tt)
 object_opens depth (Token.end_array ∷ ts) r ms e = absurd (cc)
 object_opens depth (Token.key s ∷ ts) r ms e = absurd (cc)
-object_opens depth (Token.string s ∷ ts) r ms e = absurd (cc)
-object_opens depth (Token.number s ∷ ts) r ms e = absurd (cc)
-object_opens depth (Token.boolean b ∷ ts) r ms e = absurd (cc)
-object_opens depth (Token.null ∷ ts) r ms e = absurd (cc)
+object_opens depth (Token.string s ∷ ts) r ms e = absurd (subst IsObject (sym (same_first (json.string s) (json.object ms) ts r e)) tt)
+object_opens depth (Token.number s ∷ ts) r ms e = absurd (subst IsObject (sym (same_first (json.number s) (json.object ms) ts r e)) tt)
+object_opens depth (Token.boolean b ∷ ts) r ms e = absurd (subst IsObject (sym (same_first (json.boolean b) (json.object ms) ts r e)) tt)
+object_opens depth (Token.null ∷ ts) r ms e = absurd (subst IsObject (sym (same_first (json.null) (json.object ms) ts r e)) tt)
 object_opens depth (Token.bad ∷ ts) r ms e = absurd (cc)
 
 pub record OpensList (depth : ℕ) (ts : List Token) (js : json.Items) (r : List Token) : Type 0 where
@@ -68,18 +77,17 @@ unfolding value
 list_opens depth [] r js e = absurd (cc)
 list_opens depth (Token.begin_object ∷ ts) r js e =
     let m = mapped json.object (members (value depth) (length ts) ts) (json.array js) r e in
-    let never : json.array js ≡ json.object m.0 = m.2 in
-    absurd (cc)
+    absurd (subst IsList m.2 tt)
 list_opens depth (Token.end_object ∷ ts) r js e = absurd (cc)
 list_opens depth (Token.begin_array ∷ ts) r js e =
     let m = mapped json.array (items (value depth) (length ts) ts) (json.array js) r e in
     record { behind = ts; opens = refl; are = m.1 ∙ ap (λ x. Some (x, r)) (sym (ap items_of m.2)) }
 list_opens depth (Token.end_array ∷ ts) r js e = absurd (cc)
 list_opens depth (Token.key s ∷ ts) r js e = absurd (cc)
-list_opens depth (Token.string s ∷ ts) r js e = absurd (cc)
-list_opens depth (Token.number s ∷ ts) r js e = absurd (cc)
-list_opens depth (Token.boolean b ∷ ts) r js e = absurd (cc)
-list_opens depth (Token.null ∷ ts) r js e = absurd (cc)
+list_opens depth (Token.string s ∷ ts) r js e = absurd (subst IsList (sym (same_first (json.string s) (json.array js) ts r e)) tt)
+list_opens depth (Token.number s ∷ ts) r js e = absurd (subst IsList (sym (same_first (json.number s) (json.array js) ts r e)) tt)
+list_opens depth (Token.boolean b ∷ ts) r js e = absurd (subst IsList (sym (same_first (json.boolean b) (json.array js) ts r e)) tt)
+list_opens depth (Token.null ∷ ts) r js e = absurd (subst IsList (sym (same_first (json.null) (json.array js) ts r e)) tt)
 list_opens depth (Token.bad ∷ ts) r js e = absurd (cc)
 
 pub tail_is : (a : Token) (ts rs : List Token) → a ∷ ts ≡ a ∷ rs → ts ≡ rs
@@ -209,8 +217,12 @@ module _ (depth : ℕ) (ts : List Token) (js : json.Items) (d : Data) (ds : Item
 
 -- ---- items that are objects
 
+not_none : (o : Option Members) → IsSome o → o ≡ None → ⊥
+not_none None some e = absurd (cc)
+not_none (Some m) some e = absurd (cc)
+
 no_object : (d e : Data) → Some e ≡ Some d → as_object e ≡ None → IsSome (as_object d) → ⊥
-no_object d e same none some = absurd (subst IsSome (sym (ap as_object (same_some e d same)) ∙ none) some)
+no_object d e same none some = not_none (as_object d) some (sym (ap as_object (same_some e d same)) ∙ none)
 
 by_number : (d : Data) (n : Option Num) → option_map number n ≡ Some d → IsSome (as_object d) → ⊥
 by_number d None e some = absurd (cc)
@@ -263,7 +275,7 @@ module _ (depth : ℕ) (ts : List Token) (js : json.Items) (d : Data) (ds : Item
       }
 
   counts_object : (name : List ℕ) (n : ℕ) (ns : List ℕ) (j : json.Json) → HasCount name j n → of_json j ≡ Some d → IsSome (as_object d)
-  counts_object name n ns (json.object ms) h e = let t = by_members d (of_members ms no_members) e in subst (λ x. IsSome (as_object x)) (sym t.2) tt
+  counts_object name n ns (json.object ms) h e = let t = by_members d (of_members ms no_members) e in subst (λ x. IsSome (as_object x)) (sym t.2) refl
   counts_object name n ns json.null h e = absurd h
   counts_object name n ns (json.boolean b) h e = absurd h
   counts_object name n ns (json.number s) h e = absurd h
@@ -275,3 +287,62 @@ module _ (depth : ℕ) (ts : List Token) (js : json.Items) (d : Data) (ds : Item
   counted_is_object name n ns h =
       let one = one_item depth ts js d ds come in
       counts_object name n ns one.j (subst (λ l. HaveCounts name l (n ∷ ns)) one.is h).0 one.tree
+
+-- ---- behind the brace
+
+pub brace_there : (ts behind : List Token) → ts ≡ Token.begin_object ∷ behind → is_brace ts ≡ false → ⊥
+brace_there ts behind opens none = true≢false (sym (ap is_brace opens) ∙ none)
+
+module _ (depth : ℕ) (ts : List Token) (js : json.Items) (d : Data) (ds : Items) (o : IsObjectItem depth ts js d ds) (behind : List Token) (opens : ts ≡ Token.begin_object ∷ behind) where
+  pub members_behind : AreMembers depth behind o.ms o.r
+  members_behind = subst (λ b. AreMembers depth b o.ms o.r) (tail_is Token.begin_object o.opened.behind behind (sym o.opened.opens ∙ opens)) o.opened.are
+
+  pub trees_behind : members_in depth behind ≡ Some (o.some, o.r)
+  trees_behind = ap (converted (λ ms. of_members ms no_members)) members_behind ∙ ap (option_map (λ m. (m, o.r))) o.tree
+
+pub counted_ok : (depth : ℕ) (name : List ℕ) (ts behind rest : List Token) (result : Result ℕ Fault) → ts ≡ Token.begin_object ∷ behind
+    → IfOk result (λ n. (all : json.Members) × AreMembers depth behind all rest × (times name all ≡ n))
+    → IfOk result (λ n. (js : json.Items) (d : Data) (ds : Items) → ItemsNext depth ts js (item d ds) → IsSome (as_object d) → IsCounted depth name rest js ds n)
+counted_ok depth name ts behind rest (Ok n) opens h = λ js d ds come some.
+    let o = object_item depth ts js d ds come some in
+    let both = sym (members_behind depth ts js d ds o behind opens) ∙ h.1 in
+    record {
+      ms = o.ms;
+      others = o.others;
+      is = o.is;
+      count = ap (times name) (same_first o.ms h.0 o.r rest both) ∙ h.2;
+      next = subst (λ r. ItemsNext depth r o.others ds) (same_rest o.ms h.0 o.r rest both) o.next;
+    }
+counted_ok depth name ts behind rest (Err fault) opens h = tt
+
+-- the count of an object that has one
+pub count_of : (name : List ℕ) (js others : json.Items) (ms : json.Members) (n : ℕ) (ns : List ℕ) → js ≡ json.item (json.object ms) others → HaveCounts name js (n ∷ ns) → times name ms ≡ n
+count_of name js others ms n ns is h = (subst (λ l. HaveCounts name l (n ∷ ns)) is h).0
+
+-- ---- the list that a member is
+
+pub bracket_there : (ts behind : List Token) → ts ≡ Token.begin_array ∷ behind → is_bracket ts ≡ false → ⊥
+bracket_there ts behind opens none = true≢false (sym (ap is_bracket opens) ∙ none)
+
+pub times_behind : (depth : ℕ) (name : List ℕ) (ts behind : List Token) (n : ℕ) (has : HasTimesNext depth name ts n) → ts ≡ Token.begin_object ∷ behind → HasTimes depth name behind n
+times_behind depth name ts behind n has opens = subst (λ b. HasTimes depth name b n) (tail_is Token.begin_object has.behind behind (sym has.opens ∙ opens)) has.times
+
+same_members : (depth : ℕ) (name : List ℕ) (ts behind rest : List Token) (js : json.Items) (all : json.Members) (list : HasList depth name ts js) → ts ≡ Token.begin_object ∷ behind → AreMembers depth behind all rest → list.all ≡ all
+same_members depth name ts behind rest js all list opens are =
+    let b = tail_is Token.begin_object behind list.behind (sym opens ∙ list.opens) in
+    same_first list.all all list.rest rest (sym list.are ∙ ap (λ l. members (value depth) (length l) l) (sym b) ∙ are)
+
+pub some_times : (depth : ℕ) (name : List ℕ) (ts : List Token) (n : ℕ) (js : json.Items) → HasTimesNext depth name ts n → HasList depth name ts js → n ≡ 0 → ⊥
+some_times depth name ts n js has list none =
+    let one = same_members depth name ts has.behind has.times.rest js has.times.all list has.opens has.times.are in
+    no_list (last_or None name list.all) js (ap (last_or None name) one ∙ last_none None name has.times.all (has.times.count ∙ none)) list.last where
+  no_list : (o : Option json.Json) (js : json.Items) → o ≡ None → o ≡ Some (json.array js) → ⊥
+  no_list None js a b = absurd (cc)
+  no_list (Some j) js a b = absurd (cc)
+
+pub last_list : (depth : ℕ) (name : List ℕ) (ts behind rest here r : List Token) (js : json.Items) (all : json.Members) (j : json.Json) → HasList (suc depth) name ts js → ts ≡ Token.begin_object ∷ behind
+    → AreMembers (suc depth) behind all rest → last_or None name all ≡ Some j → value (suc depth) here ≡ Some (j, r) → OpensList depth here js r
+last_list depth name ts behind rest here r js all j list opens are last v =
+    let one = same_members (suc depth) name ts behind rest js all list opens are in
+    let same = same_some j (json.array js) (sym last ∙ ap (last_or None name) (sym one) ∙ list.last) in
+    list_opens depth here r js (v ∙ ap (λ i. Some (i, r)) same)

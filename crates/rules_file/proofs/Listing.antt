@@ -1,6 +1,6 @@
 -- The list at a name of an object, by the members of its text.
-use Rattle.std.proofs.Common.{◌≡◌, ℕ, suc, ◌≤◌, List, [], ◌∷◌, length, Bool, true, false, Option, Some, None, cond, option_map, option_and_then, refl, sym, ap, ◌∙◌, subst, bytes_eq, arith}
-use Rattle.std.specs.Prelude.{IsSome}
+use Rattle.std.proofs.Common.{◌≡◌, ℕ, suc, ◌≤◌, List, [], ◌∷◌, length, Bool, true, false, Option, Some, None, Result, Ok, Err, cond, option_map, option_and_then, refl, sym, ap, ◌∙◌, subst, bytes_eq, arith}
+use Rattle.std.specs.Prelude.{IfOk, IsSome}
 use Rattle.std.specs.Str.{IsUtf8}
 use Rattle.std.proofs.lemmas.Slice.Eq.{bytes_eq-Decides}
 use Rattle.json.specs.Token.{Token}
@@ -11,14 +11,17 @@ use Rattle.serde_json.specs.Data.{Num, Data, null, boolean, number, string, arra
 use Rattle.serde_json.specs.Find.{as_array, get, get_member}
 use Rattle.serde_json.specs.Read.{number_of, of_json, of_items, of_members, converted}
 use Rattle.serde_json.proofs.Views.{get_member-put, get_member-put_other}
+use Rattle.json_fields.specs.declared.tree.Fault.{Fault}
 use Rattle.json_fields.specs.Last.{times, members_in, HasTimes}
+use Rattle.rule_spec.specs.declared.rule_kind.RuleKind.{RuleKind}
 use Rattle.json_fields.proofs.Shaped.{bounds_same}
 use Rattle.json_fields.proofs.Turns.{converted_some}
 use Rattle.json_fields.proofs.Times.{same_first}
-use Rattle.rules_file.specs.Counts.{last_or, AreMembers, HasTimesNext, HasList, ItemsNext, ListedIn, items_of_next, items_ahead}
-use Rattle.rules_file.specs.Listed.{IsObject, HasTimesIn}
+use Rattle.rules_file.specs.Counts.{last_or, AreMembers, HasTimesNext, HasList, HaveCounts, IsCounted, ItemsNext, ListedIn, first_of, items_of_next, items_ahead}
+use Rattle.rules_file.specs.declared.listed.Listed.{Listed}
+use Rattle.rules_file.specs.Listed.{IsListed, IsObject, HasTimesIn}
 use Rattle.rules_file.proofs.Objects.{object_is, no_members_none}
-use Rattle.rules_file.proofs.InTurn.{tail_is, same_some, items_of}
+use Rattle.rules_file.proofs.InTurn.{tail_is, same_some, same_rest, items_of, IsObjectItem, object_item, counted_is_object, count_of, trees_behind}
 
 -- ---- the items that come next
 
@@ -129,3 +132,49 @@ one_list depth name ts js ks a b =
     let behind = tail_is Token.begin_object a.behind b.behind (sym a.opens ∙ b.opens) in
     let one = same_first a.all b.all a.rest b.rest (sym a.are ∙ ap (λ r. members (value depth) (length r) r) behind ∙ b.are) in
     ap items_of (same_some (json.array js) (json.array ks) (sym a.last ∙ ap (last_or None name) one ∙ b.last))
+
+-- ---- the rules of the object that comes next
+
+pub read_ok : (depth : ℕ) (kind : RuleKind) (name : List ℕ) (ts behind rest : List Token) (js : json.Items) (d : Data) (ds : Items) (rose : Type 0) (result : Result Listed Fault) → ItemsNext depth ts js (item d ds)
+    → IsObjectItem depth ts js d ds → ts ≡ Token.begin_object ∷ behind
+    → IfOk result (λ listed. (ms : Members) × (members_in depth behind ≡ Some (ms, rest)) × IsListed kind (get_member name ms) rose listed)
+    → IfOk result (IsListed kind (get name (first_of (items_ahead depth ts))) rose)
+read_ok depth kind name ts behind rest js d ds rose (Ok listed) come o opens h =
+    let same = same_first o.some h.0 o.r rest (sym (trees_behind depth ts js d ds o behind opens) ∙ h.1) in
+    subst (λ f. IsListed kind f rose listed)
+    (ap (get_member name) (sym same) ∙ sym (ap (get name) o.same) ∙ sym (ap (λ es. get name (first_of es)) (ahead_is depth ts js (item d ds) come))) h.2
+read_ok depth kind name ts behind rest js d ds rose (Err fault) come o opens h = tt
+
+pub passed_ok : (depth : ℕ) (kind : RuleKind) (name : List ℕ) (ts behind rest : List Token) (n : ℕ) (rose : Type 0) (result : Result Listed Fault) → ts ≡ Token.begin_object ∷ behind
+    → IfOk result (λ listed. (ms : Members) × (members_in depth behind ≡ Some (ms, rest)) × IsListed kind (get_member name ms) rose listed)
+    → IfOk result (λ _. (js : json.Items) (d : Data) (ds : Items) → ItemsNext depth ts js (item d ds) → HaveCounts name js (n ∷ []) → IsCounted depth name rest js ds n)
+passed_ok depth kind name ts behind rest n rose (Ok listed) opens h = λ js d ds come counts.
+    let o = object_item depth ts js d ds come (counted_is_object depth ts js d ds come name n [] counts) in
+    let same = same_rest o.some h.0 o.r rest (sym (trees_behind depth ts js d ds o behind opens) ∙ h.1) in
+    record { ms = o.ms; others = o.others; is = o.is; count = count_of name js o.others o.ms n [] o.is counts; next = subst (λ r. ItemsNext depth r o.others ds) same o.next }
+passed_ok depth kind name ts behind rest n rose (Err fault) opens h = tt
+
+pub never_broken : (depth : ℕ) (ts behind : List Token) (js : json.Items) (d : Data) (ds : Items) → IsObjectItem depth ts js d ds → ts ≡ Token.begin_object ∷ behind → members_in depth behind ≡ None → ⊥
+never_broken depth ts behind js d ds o opens none =
+    let never : ◌≡◌ {A = Option (Members × List Token)} (Some (o.some, o.r)) None = sym (trees_behind depth ts js d ds o behind opens) ∙ none in
+    absurd (cc)
+
+-- ---- the list of a text
+
+pub opened_by : (bytes name : List ℕ) (n : ℕ) (ts : List Token) → HasTimesIn bytes name n → ts ≡ tokens bytes → HasTimesNext 126 name ts n
+opened_by bytes name n ts has same = record { behind = has.behind; opens = same ∙ has.opens; times = has.times }
+
+pub list_there : (bytes name : List ℕ) (n : ℕ) (ts : List Token) → ListedIn bytes name → HasTimesIn bytes name n → ts ≡ tokens bytes → (js : json.Items) × HasList 126 name ts js
+list_there bytes name n ts listed has same =
+    let l = has_list bytes name n listed.d listed.ds has listed.object listed.listed in
+    (l.0, subst (λ t. HasList 126 name t l.0) (sym same) l.1)
+
+pub items_come : (bytes name : List ℕ) (ts rest : List Token) (js : json.Items) → IsUtf8 bytes → HasList 126 name (tokens bytes) js → json.items (value 125) (length ts) ts ≡ Some (js, rest)
+    → (d : Data) (ds : Items) → IsObject bytes d → option_and_then as_array (get name d) ≡ Some ds → ItemsNext 124 ts js ds
+items_come bytes name ts rest js utf8 has are = λ d ds is listed. record {
+  n = length ts;
+  rest = rest;
+  enough = omega arith;
+  are = are;
+  trees = list_trees bytes name d ds js utf8 has is listed;
+}

@@ -1,5 +1,5 @@
 // Lists of rules in the objects of a list.
-ghost use Rattle.std.specs.Prelude.{◌≡◌, ◌-◌, ◌<◌, ◌≤◌, ◌∷◌, List, [], ℕ, length, Err, IfOk, IsSome, IsTrue, None, OnErr, OnOk, Some, option_and_then};
+ghost use Rattle.std.specs.Prelude.{◌≡◌, ◌+◌, ◌-◌, ◌<◌, ◌≤◌, ◌∷◌, List, [], ℕ, length, Err, IfOk, IsSome, IsTrue, None, OnErr, OnOk, Some, option_and_then};
 ghost use Rattle.std.specs.Str.{bytes_eq};
 ghost use Rattle.json.specs.Token.{Token as SpecToken, begin_array};
 ghost use Rattle.json.specs.Json as json;

@@ -45,7 +45,7 @@ pub rules_absent : (found : Option Data) → found ≡ None → set_rules_from f
 rules_absent found e = ap set_rules_from e
 
 pub rules_other : (found : Option Data) → IsSome found → option_and_then as_array found ≡ None → set_rules_from found ≡ Err (BadField field.Rulesets)
-rules_other None some e = absurd some
+rules_other None some e = absurd (cc)
 rules_other (Some v) some e = ap (rules_of_list field.Rulesets Static) e
 
 pub rules_given : (found : Option Data) (items : Items) (rules : List Rule) → option_and_then as_array found ≡ Some items → read_items Static (Some items) ≡ Ok rules → set_rules_from found ≡ Ok rules

@@ -97,11 +97,8 @@ fn counts_of(
     each_count(alloc, heads, &mut reader)
 }
 
-fn each_count(
-    alloc: Global,
-    heads: &[Value],
-    reader: &mut Reader<'_>,
-) -> Result<Vec<usize>, Fault>
+#[tactic(auto, using(crate::proofs::HeadsRead::counts_begin, crate::proofs::HeadsRead::counts_end, crate::proofs::HeadsRead::counts_null))]
+fn each_count(alloc: Global, heads: &[Value], reader: &mut Reader<'_>) -> Result<Vec<usize>, Fault>
     requires { HeadsNext (items_view heads.now) reader.old }
     ensures ok { IfOk result (λ counts. CountsOfHeads (items_view heads.now) reader.old counts.items) }
     ensures bad { result ≡ Err Fault.BadJson → ⊥ }
@@ -142,6 +139,7 @@ fn counted_sets<H: RegexHost>(
     }
 }
 
+#[tactic(auto, using(crate::proofs::HeadsRead::heads_begin, crate::proofs::HeadsRead::heads_end))]
 fn each_set<H: RegexHost>(
     alloc: Global,
     heads: &[Value],

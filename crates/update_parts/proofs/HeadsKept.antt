@@ -86,7 +86,7 @@ object_head n ms some h = record {
     stops = s.stops;
     same = s.same;
   };
-  object = λ _. tt;
+  object = λ _. refl;
 }
 
 head_as : (n : ℕ) (d e : Data) → KeptAs n part.SetHead d e → HeadAs d e

@@ -40,10 +40,8 @@ impl Shape for UpdatePart {
             UpdatePart::Update | UpdatePart::Element | UpdatePart::Set | UpdatePart::SetHead => {
                 Wanted::Object
             }
-            UpdatePart::Sets
-            | UpdatePart::Rules
-            | UpdatePart::SetHeads
-            | UpdatePart::SomeRules => Wanted::List,
+            UpdatePart::Sets | UpdatePart::Rules | UpdatePart::SetHeads | UpdatePart::SomeRules =>
+                Wanted::List,
             UpdatePart::InRule(part) => part.wanted(),
         }
     }
