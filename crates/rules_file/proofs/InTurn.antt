@@ -169,12 +169,13 @@ of_item j js d ds (Some a) None is are e = absurd (cc)
 of_item j js d ds (Some a) (Some b) is are e =
     let same : item a b ≡ item d ds = same_some (item a b) (item d ds) e in
     (is ∙ ap Some (ap first same), are ∙ ap Some (ap others same)) where
-  first : Items → Data
-  first no_items = a
-  first (item x xs) = x
-  others : Items → Items
-  others no_items = no_items
-  others (item x xs) = xs
+      first : Items → Data
+      first no_items = a
+      first (item x xs) = x
+
+      others : Items → Items
+      others no_items = no_items
+      others (item x xs) = xs
 
 pub record IsItem (depth : ℕ) (ts : List Token) (js : json.Items) (d : Data) (ds : Items) : Type 0 where
   pub j : json.Json
@@ -193,7 +194,7 @@ module _ (depth : ℕ) (ts : List Token) (js : json.Items) (d : Data) (ds : Item
   item_by (Some p) going is =
       let less : length p.1 < length ts = skip_value-shorter (suc depth) ts p.1 (ap (option_map (λ q. q.1)) is) in
       let m = mapped (json.item p.0) (items (value (suc depth)) (come.n - 1) p.1) js come.rest
-          (sym (items_more (value (suc depth)) come.n ts p.1 p.0 (omega (arith, come.enough, less)) going is) ∙ come.are) in
+      (sym (items_more (value (suc depth)) come.n ts p.1 p.0 (omega (arith, come.enough, less)) going is) ∙ come.are) in
       let both = of_item p.0 m.0 d ds (of_json p.0) (of_items m.0) refl refl (sym (ap of_items m.2) ∙ come.trees) in
       record {
         j = p.0;
@@ -336,9 +337,9 @@ pub some_times : (depth : ℕ) (name : List ℕ) (ts : List Token) (n : ℕ) (js
 some_times depth name ts n js has list none =
     let one = same_members depth name ts has.behind has.times.rest js has.times.all list has.opens has.times.are in
     no_list (last_or None name list.all) js (ap (last_or None name) one ∙ last_none None name has.times.all (has.times.count ∙ none)) list.last where
-  no_list : (o : Option json.Json) (js : json.Items) → o ≡ None → o ≡ Some (json.array js) → ⊥
-  no_list None js a b = absurd (cc)
-  no_list (Some j) js a b = absurd (cc)
+      no_list : (o : Option json.Json) (js : json.Items) → o ≡ None → o ≡ Some (json.array js) → ⊥
+      no_list None js a b = absurd (cc)
+      no_list (Some j) js a b = absurd (cc)
 
 pub last_list : (depth : ℕ) (name : List ℕ) (ts behind rest here r : List Token) (js : json.Items) (all : json.Members) (j : json.Json) → HasList (suc depth) name ts js → ts ≡ Token.begin_object ∷ behind
     → AreMembers (suc depth) behind all rest → last_or None name all ≡ Some j → value (suc depth) here ≡ Some (j, r) → OpensList depth here js r

@@ -25,7 +25,11 @@ use std::str;
 /// # Errors
 ///
 /// - `NoMemory`: memory ran out.
-pub fn list_in<'a>(bytes: &'a [u8], scratch: &'a mut Scratch, name: &str) -> Result<Reader<'a>, Fault>
+pub fn list_in<'a>(
+    bytes: &'a [u8],
+    scratch: &'a mut Scratch,
+    name: &str,
+) -> Result<Reader<'a>, Fault>
     requires { ListedIn bytes.now name.now }
     ensures ok { IfOk result (λ reader. (js : json.Items) × HasList 126 name.now (tokens bytes.now) js
         × ((d : Data) (ds : Items) → IsObject bytes.now d → option_and_then as_array (get name.now d) ≡ Some ds

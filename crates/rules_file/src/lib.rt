@@ -17,8 +17,8 @@ ghost use Rattle.dnr_base.specs.Faults.{Rose};
 ghost use Rattle.json_spec.specs.RulesFile.{rules_of};
 ghost use Rattle.rules_file.specs.Answers.{IsCalmFile, MayRefuse, named, of_no_rule};
 
-use json_fields::Fault;
 pub use each::{count_next, list_in, next_listed};
+use json_fields::Fault;
 pub use listed::{Listed, read_listed};
 pub use load::{LoadRefusal, MAX_FILE, load_rules};
 use regex_host::RegexHost;

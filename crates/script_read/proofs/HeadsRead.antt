@@ -1,12 +1,16 @@
 -- The rulesets of a line, of which all but the rules was kept, along the tokens in which their rules stand.
 use Rattle.std.proofs.Common.{◌≡◌, ◌≢◌, ℕ, suc, ◌+◌, ◌<◌, ◌≤◌, List, [], ◌∷◌, ◌++◌, length, drop, get_or, Bool, true, false, cond, Option, Some, None, Result, Ok, Err, refl, sym, ap, ◌∙◌, subst, append_assoc, length-append, inl, inr, arith}
-use Rattle.std.specs.Prelude.{codes, is_some, IsSome, option_and_then}
+use Rattle.std.specs.Prelude.{codes, is_some, IsSome, IfOk, option_and_then, Vec}
+use Rattle.std.specs.declared.alloc.Global.{Global}
+use Rattle.std.proofs.lemmas.Bool.{true≢false}
 use Rattle.std.proofs.lemmas.List.{drop_more, drop_all, append-nil}
 use Rattle.json.specs.Token.{Token}
+use Rattle.json.specs.Lex.{tokens}
 use Rattle.json.specs.Json as json
+use Rattle.json_fields.specs.declared.tree.Fault.{Fault}
 use Rattle.serde_json.specs.Data.{Data, null, Items, no_items, item}
 use Rattle.serde_json.specs.declared.value.Value.{Value}
-use Rattle.serde_json.specs.Find.{as_array, as_null, get}
+use Rattle.serde_json.specs.Find.{as_array, as_null, as_object, get}
 use Rattle.serde_json.specs.View.{view, items_view}
 use Rattle.rule_spec.specs.declared.rule_kind.RuleKind.TheVariants.{Static}
 use Rattle.rule_spec.specs.declared.rule_refusal.RuleRefusal.{RuleRefusal}
@@ -170,6 +174,9 @@ ends : (whole : Items) (done : List NewRuleSet) → AreReadBefore whole done no_
 ends whole done so_far = so_far.same ∙ ap Ok (append-nil done)
 
 -- ---- the values that were kept, in turn
+
+pub not_null : (v : Data) → is_some (as_null v) ≡ false → v ≢ null
+not_null v none is = true≢false (ap (λ x. is_some (as_null x)) (sym is) ∙ none)
 
 rest_is : (values : List Value) (next : ℕ) (value : Value) → next < length values → value ≡ get_or values next value → items_view (drop next values) ≡ item (view value) (items_view (drop (next + 1) values))
 rest_is values next value inside is =
@@ -342,7 +349,10 @@ module _ (heads : List Value) (whole : List Token) (next : ℕ) (ts : List Token
   pub one_comes : ItemsNext 124 ts so_far.js (item one_kept.d one_kept.ds)
   one_comes = subst (λ l. ItemsNext 124 ts so_far.js l) one_kept.is so_far.come
 
-  pub counts_go : (rest : List Token) (n : ℕ) (more : List ℕ) → view head ≢ null → more ≡ counts ++ n ∷ []
+  pub counts_next : view head ≢ null → (js : json.Items) × (d : Data) × (ds : Items) × ItemsNext 124 ts js (item d ds) × IsSome (as_object d)
+  counts_next other = (so_far.js, one_kept.d, one_kept.ds, one_comes, one_kept.head.object other)
+
+  counts_go : (rest : List Token) (n : ℕ) (more : List ℕ) → view head ≢ null → more ≡ counts ++ n ∷ []
       → IsCounted 124 rules_name rest so_far.js one_kept.ds n → CountsSoFar heads whole (next + 1) rest more
   counts_go rest n more other grown p =
       let many : length more ≡ next + 1 = ap (length {A = ℕ}) grown ∙ length-append counts (n ∷ []) ∙ ap (λ k. k + 1) so_far.many in
@@ -360,6 +370,10 @@ module _ (heads : List Value) (whole : List Token) (next : ℕ) (ts : List Token
         many = many;
         all = omega (arith, so_far.all ∙ ap (λ es. next + proper es) (rest_is heads next head inside is) ∙ ap (λ k. next + k) (is_proper (view head) (items_view (drop (next + 1) heads)) other));
       }
+
+  pub counts_go_on : (rest : List Token) (n : ℕ) (more : List ℕ) → view head ≢ null → more ≡ counts ++ n ∷ []
+      → ((js : json.Items) (d : Data) (ds : Items) → ItemsNext 124 ts js (item d ds) → IsSome (as_object d) → IsCounted 124 rules_name rest js ds n) → CountsSoFar heads whole (next + 1) rest more
+  counts_go_on rest n more other grown passed = counts_go rest n more other grown (passed so_far.js one_kept.d one_kept.ds one_comes (one_kept.head.object other))
 
 -- ---- the list of the line
 
@@ -404,3 +418,21 @@ pub sets_lift : (a b : Result (List NewRuleSet) UpdateFault) (P Q : PlacedRefusa
 sets_lift a b P Q (BadField f) same stops h = sym same ∙ h
 sets_lift a b P Q (RuleRefused refusal) same stops h = sets_lift_by a b (P refusal) (Q refusal) refusal refusal.cause same (stops refusal) h
 sets_lift a b P Q NoMemory same stops h = tt
+
+-- ---- whole readings
+
+pub counts_ok : (heads : Items) (bytes : List ℕ) (ts : List Token) (js : json.Items) (ds : Items) (result : Result (Vec ℕ Global) Fault) → HasList 126 (field_name field.Rulesets) (tokens bytes) js → ItemsNext 124 ts js ds
+    → IfOk result (λ counts. CountsOfHeads heads ts counts.items) → IfOk result (λ counts. AreCounted heads bytes counts.items)
+counts_ok heads bytes ts js ds (Ok counts) list come h = record {
+  js = js;
+  list = list;
+  counted = subst (λ l. HaveCounts rules_name l counts.items) (same_items 124 ts h.js js h.ds ds h.come come) h.counted;
+  all = h.all;
+}
+counts_ok heads bytes ts js ds (Err fault) list come h = tt
+
+pub sets_ok : (bytes : List ℕ) (d : Data) (ds : Items) (js : json.Items) (ts : List Token) (result : Result (Vec NewRuleSet Global) UpdateFault) → tree_of bytes ≡ Some d
+    → option_and_then as_array (get (field_name field.Rulesets) d) ≡ Some ds → ItemsNext 124 ts js ds → IfOk result (λ sets. sets_from [] (items_ahead 124 ts) ≡ Ok sets.items)
+    → IfOk result (λ sets. sets_of_tree (tree_of bytes) ≡ Ok sets.items)
+sets_ok bytes d ds js ts (Ok sets) is listed come h = sets_are bytes d ds is listed ∙ ap (sets_from []) (sym (ahead_is 124 ts js ds come)) ∙ h
+sets_ok bytes d ds js ts (Err fault) is listed come h = tt
