@@ -1,80 +1,26 @@
 // Which filters stand as one: those of one plain domain each that agree in all else but the case of letters.
 ghost use Rattle.std.specs.Prelude.{◌≡◌, ◌++◌, map, IfOk, OnOk, string_bytes, option_copied};
-ghost use Rattle.std.specs.List.{list_all, list_any};
 ghost use Rattle.dnr_base.specs.Kind.{has_kind};
 ghost use Rattle.dnr_base.specs.KindSet.{kinds_of};
-ghost use Rattle.dnr_base.specs.View.{is_name_byte};
-ghost use Rattle.dnr_spec.specs.Hosts.{labels_of};
 ghost use Rattle.abp_parse.specs.Seen.{filter_seen, pattern_seen};
 ghost use Rattle.compile_spec.specs.Alike as spec;
 ghost use Rattle.abp_compile.specs.Alike.{mark, party_mark, marks, key_texts};
 
 use abp_parse::{FilterLine, FilterPattern};
 use dnr_base::{Kind, KindSet, NoMemory};
-use dnr_spec::split_last_label;
-use domain_set::is_domain;
 use list_spec::DomainEntry;
+use plain_domains::plain_domain;
 use std::alloc::Global;
 use std::collections::BTreeSet;
 
 // The domain of a pattern that is `||`, a plain domain and `^`.
-pub(crate) fn plain_domain(pattern: &FilterPattern) -> Option<&str>
+pub(crate) fn domain_of(pattern: &FilterPattern) -> Option<&str>
     ensures { option_copied result ≡ spec.plain_domain (pattern_seen pattern.now) }
 {
-    let FilterPattern::Plain(pattern) = pattern else {
-        return None;
-    };
-    let domain = before_caret(behind_bars(pattern.text())?)?;
-    if is_plain_domain(domain) {
-        Some(domain)
-    } else {
-        None
+    match pattern {
+        FilterPattern::Plain(pattern) => plain_domain(pattern.text()),
+        _ => None,
     }
-}
-
-fn behind_bars(text: &str) -> Option<&str>
-    ensures { option_copied result ≡ spec.behind_bars text.now }
-{
-    text.strip_prefix("||")
-}
-
-fn before_caret(text: &str) -> Option<&str>
-    ensures { option_copied result ≡ spec.before_caret text.now }
-{
-    text.strip_suffix('^')
-}
-
-fn is_plain_domain(text: &str) -> bool
-    ensures { result ≡ spec.is_plain_domain text.now }
-{
-    has_name_bytes(text.as_bytes()) && is_domain(text.as_bytes()) && ends_in_letters(text)
-}
-
-fn has_name_bytes(text: &[u8]) -> bool
-    ensures { result ≡ list_all is_name_byte text.now }
-{
-    text.iter().all(|byte| is_name_byte(*byte))
-}
-
-// A byte of a host in lower case.
-fn is_name_byte(byte: u8) -> bool
-    ensures { result ≡ is_name_byte byte }
-{
-    byte.is_ascii_lowercase() || byte.is_ascii_digit() || matches!(byte, b'-' | b'.' | b'_')
-}
-
-// Whether the last label has a letter.
-fn ends_in_letters(text: &str) -> bool
-    ensures { result ≡ spec.ends_in_letters (labels_of text.now) }
-{
-    let (_, last) = split_last_label(text);
-    has_letter(last.as_bytes())
-}
-
-fn has_letter(label: &[u8]) -> bool
-    ensures { result ≡ list_any spec.is_lower_letter label.now }
-{
-    label.iter().any(|byte| byte.is_ascii_lowercase())
 }
 
 // What alike filters have in common, as texts by which a table finds them again.

@@ -7,7 +7,7 @@ ghost use Rattle.abp_compile.specs.Alike.{key_texts, has_key};
 ghost use Rattle.abp_compile.specs.Groups.{told, standing_of, firsts, first_place, AreFound, HasFilters, HasJoined, Takes};
 ghost use Rattle.abp_compile.specs.Seen.{standing_seen};
 
-use crate::alike::{key_of, plain_domain};
+use crate::alike::{domain_of, key_of};
 use abp_parse::{FilterLine, FilterPattern};
 use dnr_base::{Items, NoMemory, Text};
 use std::alloc::Global;
@@ -68,7 +68,7 @@ impl Groups {
         ensures found { OnOk result (AreFound self.new) }
         ensures takes { OnOk result (Takes (record { line = line; filter = filter_seen filter } ∷ []) self.old self.new) }
     {
-        match plain_domain(&filter.pattern) {
+        match domain_of(&filter.pattern) {
             None => self.begin(alloc, line, filter, Vec::new(alloc))?,
             Some(domain) => {
                 let domain = String::from_str(alloc, domain)?;

@@ -15,7 +15,7 @@ use Rattle.dnr_spec.specs.Hosts.{labels_of, is_ip_host, is_number, ends_in_numbe
 use Rattle.dnr_spec.specs.Domains.{covers}
 use Rattle.dnr_spec.specs.Domains as domains
 use Rattle.dnr_spec.specs.UrlFilter.{domain, has_end_anchor, is_separator, is_same, fits_at, some_below, follows_dot, fits_from, fits}
-use Rattle.compile_spec.specs.Alike.{is_lower_letter, ends_in_letters}
+use Rattle.plain_domains.specs.PlainDomains.{is_lower_letter, ends_in_letters}
 use Rattle.compile_laws.proofs.Lists.{true_or_false}
 use Rattle.compile_laws.proofs.Covered.{Covered, reads_covers, is_covered, last_of_rest, same_last, take_and_drop, drop_front, all_at}
 use Rattle.compile_laws.proofs.Plain.{IsPlain, byte_lower}
@@ -112,13 +112,13 @@ digits_alone (b ∷ label) h =
     (λ later. false_from_ne_true (list_all is_ascii_digit (b ∷ label)) (λ all. true≢false (sym (and_parts (is_ascii_digit b) (list_all is_ascii_digit label) all).1 ∙ digits_alone label later)))
     (or_cases (is_lower_letter b) (list_any is_lower_letter label) h)
 
-no_number : (labels : List (List ℕ)) → ends_in_letters labels ≡ true → ends_in_number labels ≡ false
+pub no_number : (labels : List (List ℕ)) → ends_in_letters labels ≡ true → ends_in_number labels ≡ false
 no_number [] h = cc
 no_number (label ∷ []) h =
     false_from_ne_true (is_number label) (λ n. true≢false (sym (and_parts (nat_lt 0 (length label)) (list_all is_ascii_digit label) n).1 ∙ digits_alone label h))
 no_number (label ∷ next ∷ labels) h = no_number (next ∷ labels) h
 
-name_unbracketed : (text : List ℕ) → list_all is_name_byte text ≡ true → starts_with nat_eq text (codes "[") ≡ false
+pub name_unbracketed : (text : List ℕ) → list_all is_name_byte text ≡ true → starts_with nat_eq text (codes "[") ≡ false
 name_unbracketed [] h = refl
 name_unbracketed (b ∷ text) h =
     let name = (and_parts (is_name_byte b) (list_all is_name_byte text) h).0 in

@@ -16,7 +16,8 @@ use Rattle.dnr_base.specs.View.{is_name_byte}
 use Rattle.dnr_spec.specs.Hosts.{labels_of}
 use Rattle.dnr_spec.specs.Domains.{is_domain, lower_case}
 use Rattle.list_spec.specs.LineKind.{FilterPattern, every_url, plain, regex}
-use Rattle.compile_spec.specs.Alike.{ends_in_letters, is_plain_domain, behind_bars, before_caret, if_plain, plain_domain, ascending}
+use Rattle.plain_domains.specs.PlainDomains.{ends_in_letters, is_plain_domain, behind_bars, before_caret, if_plain}
+use Rattle.compile_spec.specs.Alike.{plain_domain, ascending}
 use Rattle.compile_laws.proofs.Lists.{Has, in_each, each_in}
 use Rattle.compile_laws.proofs.Covered.{take_and_drop}
 
@@ -49,7 +50,7 @@ kept_if : (b : Bool) (x domain : List ℕ) → cond b (Some x) None ≡ Some dom
 kept_if true x domain h = (refl, cc)
 kept_if false x domain h = cc
 
-then_some : (f : List ℕ → Option (List ℕ)) (o : Option (List ℕ)) (domain : List ℕ) → option_and_then f o ≡ Some domain → (x : List ℕ) × (o ≡ Some x) × (f x ≡ Some domain)
+pub then_some : (f : List ℕ → Option (List ℕ)) (o : Option (List ℕ)) (domain : List ℕ) → option_and_then f o ≡ Some domain → (x : List ℕ) × (o ≡ Some x) × (f x ≡ Some domain)
 then_some f None domain h = cc
 then_some f (Some x) domain h = (x, refl, h)
 

@@ -1,49 +1,24 @@
 -- Which filters of a list stand as one in its rules: those of one plain domain each that agree in all else but the case
 -- of letters, which counts nowhere in a domain.
-use Rattle.std.specs.Prelude.{ℕ, ◌-◌, List, [], ◌∷◌, map, fold, length, take, drop, codes, Bool, true, false, not, ◌&&◌, nat_le, nat_eq, Option, Some, None, is_some, option_and_then, if◌then◌else◌}
+use Rattle.std.specs.Prelude.{ℕ, List, [], ◌∷◌, map, fold, Bool, not, ◌&&◌, Option, None, is_some, if◌then◌else◌}
 use Rattle.std.specs.BTreeSet.{insert_key}
 use Rattle.std.specs.Cmp.Lexicographic.{pointwise, slice_cmp}
-use Rattle.std.specs.List.{list_all, list_any, starts_with, ends_with}
+use Rattle.std.specs.List.{list_all}
 use Rattle.std.specs.Option.{option_eq}
 use Rattle.std.specs.Ordering.{nat_cmp}
 use Rattle.std.specs.Str.{bytes_eq}
 use Rattle.dnr_base.specs.declared.kind.Kind.{Kind}
 use Rattle.dnr_base.specs.Kind.{all_kinds, has_kind}
-use Rattle.dnr_base.specs.View.{is_name_byte}
-use Rattle.dnr_spec.specs.Hosts.{labels_of}
-use Rattle.dnr_spec.specs.Domains.{is_domain}
+use Rattle.plain_domains.specs.PlainDomains as patterns
 use Rattle.list_spec.specs.declared.domain_entry.DomainEntry.{DomainEntry}
 use Rattle.list_spec.specs.LineKind.{FilterPattern, every_url, plain, regex, FilterLine}
 
 -- ---- patterns of one plain domain
 
-abbrev pub is_lower_letter : ℕ → Bool
-is_lower_letter b = nat_le 97 b && nat_le b 122
-
--- the last of the labels has a letter
-abbrev pub ends_in_letters : List (List ℕ) → Bool
-ends_in_letters [] = false
-ends_in_letters (label ∷ []) = list_any is_lower_letter label
-ends_in_letters (label ∷ next ∷ labels) = ends_in_letters (next ∷ labels)
-
--- labels of lower-case letters, digits, `-` and `_` with a dot between each two, which are the name of no address
-abbrev pub is_plain_domain : List ℕ → Bool
-is_plain_domain text = list_all is_name_byte text && is_domain text && ends_in_letters (labels_of text)
-
--- what stands behind a `||`, and before a `^` at the end
-abbrev pub behind_bars : List ℕ → Option (List ℕ)
-behind_bars text = if starts_with nat_eq text (codes "||") then Some (drop 2 text) else None
-
-abbrev pub before_caret : List ℕ → Option (List ℕ)
-before_caret text = if ends_with nat_eq text (codes "^") then Some (take (length text - 1) text) else None
-
-abbrev pub if_plain : List ℕ → Option (List ℕ)
-if_plain text = if is_plain_domain text then Some text else None
-
 -- the domain of a pattern that is `||`, a plain domain and `^`; other patterns have none
 abbrev pub plain_domain : FilterPattern → Option (List ℕ)
 plain_domain every_url = None
-plain_domain (plain text) = option_and_then if_plain (option_and_then before_caret (behind_bars text))
+plain_domain (plain text) = patterns.plain_domain text
 plain_domain (regex text) = None
 
 -- ---- sets of texts

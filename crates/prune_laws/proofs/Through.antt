@@ -19,7 +19,7 @@ use Rattle.dnr_spec.specs.HeaderTests.{HeaderTest}
 use Rattle.rule_spec.specs.Rule.{Condition, Rule}
 use Rattle.rule_spec.specs.IsRule.{IsRule}
 use Rattle.rule_spec.specs.Holds.{has_tab}
-use Rattle.prune_spec.specs.PlainDomains.{plain_domain}
+use Rattle.plain_domains.specs.PlainDomains.{plain_domain}
 use Rattle.prune_spec.specs.Shadows.{same_answer, same_text, has_no_filter, has_same_url_filter, filter_domain, lies_under, has_wider_domain, has_same_regex_filter, has_weaker_filter, includes_domains, asks_no_other_party, includes_methods, includes_tabs, same_test, has_no_tests, tests_no_others, asks_less, same_safe_action, shadows}
 use Rattle.compile_laws.proofs.Lists.{each_passes, all_pass, each_weaker}
 use Rattle.compile_laws.proofs.Covered.{take_and_drop}

@@ -26,13 +26,13 @@ use Rattle.dnr_spec.specs.Suffixes.{SuffixRule}
 use Rattle.dnr_spec.specs.UrlFilter.{fits}
 use Rattle.rule_spec.specs.Rule.{Condition}
 use Rattle.rule_spec.specs.Holds.{fits_url, has_match, is_among, is_from, is_not_from, is_party, has_methods, is_by, is_not_by, has_tab, is_in, has_response, has_no_response, holds_on}
-use Rattle.prune_spec.specs.PlainDomains.{plain_domain}
+use Rattle.plain_domains.specs.PlainDomains.{plain_domain}
 use Rattle.prune_spec.specs.Shadows.{same_answer, same_text, has_no_filter, has_same_url_filter, lies_under, has_wider_domain, has_same_regex_filter, has_weaker_filter, includes_domains, excludes_less_domains, asks_no_other_party, includes_kinds, includes_methods, excludes_less_methods, includes_tabs, excludes_less_tabs, same_test, has_no_tests, tests_no_others, asks_less}
 use Rattle.compile_laws.proofs.Lists.{each_passes, each_in, any_in, any_out}
 use Rattle.compile_laws.proofs.Covered.{Covered, reads_covers, is_covered, take_and_drop}
-use Rattle.compile_laws.proofs.Plain.{IsPlain}
+use Rattle.compile_laws.proofs.Plain.{IsPlain, then_some}
 use Rattle.compile_laws.proofs.Fitting.{fits_view}
-use Rattle.prune_laws.proofs.Domains.{has_domain, then_some, no_address}
+use Rattle.prune_laws.proofs.Domains.{has_domain, no_address}
 use Rattle.prune_laws.proofs.Fold.{fits_folded}
 
 -- ---- tests

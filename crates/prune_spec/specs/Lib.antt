@@ -1,4 +1,3 @@
-pub mod PlainDomains
 pub mod Shadows
 pub mod Pruned
 pub mod Examples

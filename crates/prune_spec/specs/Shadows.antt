@@ -17,7 +17,7 @@ use Rattle.dnr_spec.specs.HeaderTests.{HeaderTest}
 use Rattle.dnr_spec.specs.Order.{place_of}
 use Rattle.rule_spec.specs.Rule.{Condition, Action, Rule, verb_of, is_unsafe}
 use Rattle.rule_spec.specs.Holds.{has_tab}
-use Rattle.prune_spec.specs.PlainDomains.{plain_domain}
+use Rattle.plain_domains.specs.PlainDomains.{plain_domain}
 
 abbrev pub same_answer : Bool → Bool → Bool
 same_answer one other = if one then other else not other

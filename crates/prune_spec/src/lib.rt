@@ -1,7 +1,7 @@
 //! Which static rules another rule makes needless, and what a list of removals must show.
 //!
-//! The definitions stand in `specs/`: `PlainDomains` for patterns of one domain, `Shadows` for when
-//! a rule makes another needless, `Pruned` for what a list can do without.
+//! The definitions stand in `specs/`: `Shadows` for when a rule makes another needless, `Pruned` for
+//! what a list can do without.
 #![tactic(auto)]
 
 mod check_refusal;

@@ -1,4 +1,3 @@
-pub mod Turned
 pub mod Sets
 pub mod Faults
 pub mod Known

@@ -10,7 +10,6 @@ mod filters;
 mod finds;
 mod lists;
 mod outdone;
-mod plain;
 mod shadowing;
 
 pub use checks::check;

@@ -10,9 +10,9 @@ use crate::lists::{
     excludes_less_domains, excludes_less_methods, excludes_less_tabs, includes_domains,
     includes_kinds, includes_methods, includes_tabs,
 };
-use crate::plain::plain_domain;
 use dnr_base::{Items, Text};
 use dnr_rules::{Action, Condition, HeaderTest, Rule, ValuePattern};
+use plain_domains::plain_domain;
 use url_filter::Pattern;
 
 // ---- filters

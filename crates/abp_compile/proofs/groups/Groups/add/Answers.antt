@@ -9,10 +9,10 @@ pub returns-in_ok-begin-in-None-clause-found : goal.returns-in_ok-begin-in-None-
 returns-in_ok-begin-in-None-clause-found c =
     let list = c.in_ok-begin-in-None.ensures.list
     ∙ ap (λ (d : List (String Global)). map told c.args.self.now.list.items ++ record { filter = filter_seen c.args.filter; lines = c.args.line ∷ []; domains = map string_bytes d } ∷ []) c.new.ensures.items in
-    found_other c.args.line (filter_seen c.args.filter) c.args.self.now c.begin.new.self (sym c.plain_domain.ensures ∙ ap option_copied c.in-None.is) c.requires c.in_ok-begin-in-None.ensures.places list
+    found_other c.args.line (filter_seen c.args.filter) c.args.self.now c.begin.new.self (sym c.domain_of.ensures ∙ ap option_copied c.in-None.is) c.requires c.in_ok-begin-in-None.ensures.places list
 
 pub returns-in_ok-begin-in-None-clause-takes : goal.returns-in_ok-begin-in-None-clause-takes
 returns-in_ok-begin-in-None-clause-takes c =
     let list = c.in_ok-begin-in-None.ensures.list
     ∙ ap (λ (d : List (String Global)). map told c.args.self.now.list.items ++ record { filter = filter_seen c.args.filter; lines = c.args.line ∷ []; domains = map string_bytes d } ∷ []) c.new.ensures.items in
-    takes_other c.args.line (filter_seen c.args.filter) c.args.self.now c.begin.new.self (sym c.plain_domain.ensures ∙ ap option_copied c.in-None.is) list
+    takes_other c.args.line (filter_seen c.args.filter) c.args.self.now c.begin.new.self (sym c.domain_of.ensures ∙ ap option_copied c.in-None.is) list

@@ -1,12 +1,11 @@
 -- What stands before a `^`, and the last label.
-use Rattle.std.proofs.Common.{◌≡◌, ℕ, ◌-◌, List, [], ◌∷◌, ◌++◌, take, drop, length, true, cond, Some, None, refl, sym, ap, ◌∙◌, ⊎_elim, arith, length-append}
+use Rattle.std.proofs.Common.{◌≡◌, ℕ, ◌-◌, List, [], ◌∷◌, ◌++◌, take, drop, length, Bool, true, false, cond, Some, None, refl, sym, ap, ◌∙◌, arith, length-append}
 use Rattle.std.specs.Prelude.{codes, nat_eq}
 use Rattle.std.specs.List.{ends_with, list_any}
 use Rattle.std.proofs.Math.Seq.{drop-append_seam}
 use Rattle.std.proofs.lemmas.List.{take-append-drop}
 use Rattle.std.proofs.lemmas.Slice.Eq.{bytes_eq-Decides}
-use Rattle.prune_spec.specs.PlainDomains.{is_lower_letter, ends_in_letters, before_caret}
-use Rattle.compile_laws.proofs.Lists.{true_or_false}
+use Rattle.plain_domains.specs.PlainDomains.{is_lower_letter, ends_in_letters, before_caret}
 
 take_seam : (xs ys : List ℕ) → take (length xs) (xs ++ ys) ≡ xs
 take_seam [] [] = refl
@@ -20,13 +19,14 @@ caret_some text =
     (bytes_eq-Decides (codes "^") (drop (length (text ++ 94 ∷ []) - 1) (text ++ 94 ∷ []))).1 (sym (ap (λ k. drop k (text ++ 94 ∷ [])) n ∙ drop-append_seam text (94 ∷ []))) in
     (λ i. cond (ends i) (Some (take (n i) (text ++ 94 ∷ []))) None) ∙ ap Some (take_seam text (94 ∷ []))
 
+cut_back : (text : List ℕ) (ends : Bool) → ends_with nat_eq text (codes "^") ≡ ends → ((front : List ℕ) → text ≡ front ++ 94 ∷ [] → ⊥) → before_caret text ≡ None
+cut_back text true there never =
+    absurd (never (take (length text - 1) text) (sym (take-append-drop (length text - 1) text)
+    ∙ ap (λ r. take (length text - 1) text ++ r) (sym ((bytes_eq-Decides (codes "^") (drop (length text - 1) text)).0 there))))
+cut_back text false other never = ap (λ b. cond b (Some (take (length text - 1) text)) None) other
+
 pub caret_none : (text : List ℕ) → ((front : List ℕ) → text ≡ front ++ 94 ∷ [] → ⊥) → before_caret text ≡ None
-caret_none text never =
-    ⊎_elim
-    (λ yes. absurd (never (take (length text - 1) text) (sym (take-append-drop (length text - 1) text)
-    ∙ ap (λ r. take (length text - 1) text ++ r) (sym ((bytes_eq-Decides (codes "^") (drop (length text - 1) text)).0 yes)))))
-    (λ other. ap (λ b. cond b (Some (take (length text - 1) text)) None) other)
-    (true_or_false (ends_with nat_eq text (codes "^")))
+caret_none text never = cut_back text (ends_with nat_eq text (codes "^")) refl never
 
 pub caret_at : (text front : List ℕ) → text ≡ front ++ 94 ∷ [] → before_caret text ≡ Some front
 caret_at text front e = ap before_caret e ∙ caret_some front

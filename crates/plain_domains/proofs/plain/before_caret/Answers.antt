@@ -1,9 +1,9 @@
 use Rattle.std.proofs.Common.{◌≡◌, ℕ, ◌++◌, ◌∷◌, [], List, Option, Some, None, lit<, sym}
 use Rattle.std.specs.Prelude.{option_copied, MatchOption}
 use Rattle.std.proofs.lemmas.Str.Pattern.{strip_suffix_char}
-use Rattle.compile_spec.specs.Alike.{before_caret}
-use Rattle.abp_compile.proofs.Turned.{caret_none, caret_at}
-use Rattle.abp_compile.proofs.alike.before_caret.Goals as goal
+use Rattle.plain_domains.specs.PlainDomains.{before_caret}
+use Rattle.plain_domains.proofs.Ends.{caret_none, caret_at}
+use Rattle.plain_domains.proofs.plain.before_caret.Goals as goal
 use denote.Ref.{Bor}
 
 as_cut : (text : List ℕ) (r : Option (Bor (List ℕ))) → MatchOption r ((front : List ℕ) → text ≡ front ++ 94 ∷ [] → ⊥) (λ x. text ≡ x.now ++ 94 ∷ []) → option_copied r ≡ before_caret text
