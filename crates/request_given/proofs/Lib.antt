@@ -1,4 +1,2 @@
 pub mod Texts
-pub mod Names
-pub mod Stops
 pub mod Each

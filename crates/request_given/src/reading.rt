@@ -1,31 +1,24 @@
 // The request of parts. They are tested in the order in which those of a line are.
-ghost use Rattle.std.specs.Prelude.{◌≡◌, ◌≤◌, not, length, Ok, IfOk, IfErr, option_map};
-ghost use Rattle.std.specs.List.{list_all, list_any, slice_get};
-ghost use Rattle.http_header.specs.Token.{is_token_byte};
+ghost use Rattle.std.specs.Prelude.{◌≡◌, ◌≤◌, length, Ok, IfOk, IfErr, option_map};
+ghost use Rattle.std.specs.List.{slice_get};
 ghost use Rattle.dnr_base.specs.Kind.{all_kinds};
 ghost use Rattle.dnr_base.specs.Method.{all_methods};
 ghost use Rattle.dnr_base.specs.Request.{max_frames};
-ghost use Rattle.dnr_spec.specs.Headers as words;
 ghost use Rattle.line_spec.specs.IsFault.{IsFaultOf};
 ghost use Rattle.line_spec.specs.RequestLine as line;
 ghost use Rattle.request_given.specs.Reads as spec;
 
 use crate::{GivenFrame, GivenHeader, GivenRequest};
-use dnr_base::{Frame, Header, Items, Kind, Method, NoMemory, Request, Text, View};
-use dnr_spec::ViewRefusal;
-use http_header::is_token_char;
+use dnr_base::{Frame, Header, Items, Kind, Method, Request, Text, View};
 use line_spec::{CommandPath, LineFault};
+use request_texts::{asking_host, header_of, view_at};
 use std::alloc::Global;
 use std::str;
-use url_view::parse;
 
 // The most frames of a request, and the most headers of one list.
 const MAX_FRAMES: usize = 64;
 
 const MAX_HEADERS: usize = 512;
-
-// The most bytes of a header's name.
-const MAX_NAME: usize = 256;
 
 // The greatest number of a tab.
 const MAX_TAB: u32 = 2_147_483_647;
@@ -37,7 +30,7 @@ const MAX_TAB: u32 = 2_147_483_647;
 /// - `BadCommand`: this part is the first at fault: it is no text, or no number of its list, or there are too many.
 /// - `BadUrl`: this part is the first at fault, and its text, or the one of a frame, is no URL that is decided.
 /// - `NoMemory`: memory ran out.
-#[tactic(auto, using(crate::proofs::Stops::stops_there), unfolding(crate::specs::Reads::request_of))]
+#[tactic(auto, using(request_texts::proofs::Stops::stops_there), unfolding(crate::specs::Reads::request_of))]
 pub fn read_request(
     alloc: Global,
     number: u32,
@@ -106,17 +99,6 @@ fn url_of(alloc: Global, part: CommandPath, bytes: &[u8]) -> Result<View, LineFa
     }
 }
 
-fn view_at(alloc: Global, part: CommandPath, text: &str) -> Result<View, LineFault>
-    ensures read { IfOk result (λ view. line.view_at part text.now ≡ Ok view) }
-    ensures refused { IfErr result (IsFaultOf (line.view_at part text.now)) }
-{
-    match parse(alloc, text) {
-        Ok(view) => Ok(view),
-        Err(ViewRefusal::NoMemory) => Err(LineFault::NoMemory),
-        Err(why) => Err(LineFault::BadUrl(part, why)),
-    }
-}
-
 // The host of who asks, if anybody does.
 fn asker_of(
     alloc: Global,
@@ -134,19 +116,6 @@ fn asker_of(
         Some(text) => asking_host(alloc, part, text),
         None => Err(LineFault::BadCommand(part)),
     }
-}
-
-#[tactic(auto, using(crate::proofs::Stops::stops_there))]
-fn asking_host(alloc: Global, part: CommandPath, text: &str) -> Result<Option<Text>, LineFault>
-    ensures read { IfOk result (λ host. line.asking_host part text.now ≡ Ok host) }
-    ensures refused { IfErr result (IsFaultOf (line.asking_host part text.now)) }
-{
-    if text == "null" {
-        return Ok(None);
-    }
-    let view = view_at(alloc, part, text)?;
-    let host = String::from_str(alloc, view.host())?;
-    Ok(Some(Text::build(host)))
 }
 
 fn kind_at(place: u32) -> Result<Kind, LineFault>
@@ -221,7 +190,7 @@ fn each_frame(alloc: Global, frames: &[GivenFrame<'_>]) -> Result<Items<Frame>, 
     Ok(Items::build(read))
 }
 
-#[tactic(auto, using(crate::proofs::Stops::stops_there), unfolding(crate::specs::Reads::frame_of))]
+#[tactic(auto, using(request_texts::proofs::Stops::stops_there), unfolding(crate::specs::Reads::frame_of))]
 fn frame_of(alloc: Global, frame: &GivenFrame<'_>) -> Result<Frame, LineFault>
     ensures read { IfOk result (λ read. spec.frame_of frame.now ≡ Ok read) }
     ensures refused { IfErr result (IsFaultOf (spec.frame_of frame.now)) }
@@ -241,7 +210,7 @@ fn frame_of(alloc: Global, frame: &GivenFrame<'_>) -> Result<Frame, LineFault>
     })
 }
 
-#[tactic(auto, using(crate::proofs::Stops::stops_there))]
+#[tactic(auto, using(request_texts::proofs::Stops::stops_there))]
 fn frame_url(alloc: Global, is_given: bool, bytes: &[u8]) -> Result<Option<View>, LineFault>
     ensures read { IfOk result (λ view. spec.frame_url is_given bytes.now ≡ Ok view) }
     ensures refused { IfErr result (IsFaultOf (spec.frame_url is_given bytes.now)) }
@@ -255,7 +224,7 @@ fn frame_url(alloc: Global, is_given: bool, bytes: &[u8]) -> Result<Option<View>
 
 // ---- headers
 
-#[tactic(auto, using(crate::proofs::Stops::stops_there))]
+#[tactic(auto, using(request_texts::proofs::Stops::stops_there))]
 fn headers_of(
     alloc: Global,
     part: CommandPath,
@@ -314,51 +283,4 @@ fn header_at(
         Some(header) => Ok(header),
         None => Err(LineFault::BadCommand(part)),
     }
-}
-
-fn header_of(
-    alloc: Global,
-    name: Option<&str>,
-    value: Option<&str>,
-) -> Result<Option<Header>, NoMemory>
-    ensures { IfOk result (λ header. header ≡ line.header_of (option_map (λ t. t.now) name.entry)
-        (option_map (λ t. t.now) value.entry)) }
-{
-    match (name, value) {
-        (Some(name), Some(value)) if is_name(name) && is_one_value(value) => Ok(Some(Header {
-            name: Text::build(name.to_ascii_lowercase(alloc)?),
-            value: Text::build(String::from_str(alloc, value)?),
-        })),
-        _ => Ok(None),
-    }
-}
-
-// Whether the name is a field name that is not too long.
-#[tactic(auto, using(crate::proofs::Names::is_name_by_bytes))]
-fn is_name(name: &str) -> bool
-    ensures { result ≡ words.is_name name.now }
-{
-    let bytes = name.as_bytes();
-    !bytes.is_empty() && bytes.len() <= MAX_NAME && has_token_bytes(bytes)
-}
-
-fn has_token_bytes(bytes: &[u8]) -> bool
-    ensures { result ≡ list_all is_token_byte bytes.now }
-{
-    bytes.iter().all(|byte| is_token_char(*byte))
-}
-
-// Whether no byte would end the value.
-fn is_one_value(value: &str) -> bool
-    ensures { result ≡ line.is_one_value value.now }
-{
-    !has_end_of_value(value.as_bytes())
-}
-
-fn has_end_of_value(bytes: &[u8]) -> bool
-    ensures { result ≡ list_any words.ends_value bytes.now }
-{
-    bytes
-        .iter()
-        .any(|byte| *byte == b'\r' || *byte == b'\n' || *byte == 0)
 }

@@ -10,11 +10,10 @@ ghost use Rattle.script_read.specs.Fields.{line_keys, place_of, value_at, url_fr
 
 use crate::memo::{Asker, asking_again};
 use dnr_base::{Kind, Method, Text, View};
-use dnr_spec::ViewRefusal;
 use json_fields::{Field, Held};
 use line_spec::{CommandPath, LineFault};
+use request_texts::view_at;
 use std::alloc::Global;
-use url_view::parse;
 
 macro_rules! field {
     ($name:literal) => {
@@ -86,18 +85,6 @@ pub(crate) fn url_in(alloc: Global, url: &Field<'_, '_>) -> Result<View, LineFau
     }
 }
 
-// The URL of a text, which stands in this field.
-pub(crate) fn view_at(alloc: Global, field: CommandPath, text: &str) -> Result<View, LineFault>
-    ensures read { IfOk result (λ url. spec.view_at field text.now ≡ Ok url) }
-    ensures refused { IfErr result (IsFaultOf (spec.view_at field text.now)) }
-{
-    match parse(alloc, text) {
-        Ok(url) => Ok(url),
-        Err(ViewRefusal::NoMemory) => Err(LineFault::NoMemory),
-        Err(why) => Err(LineFault::BadUrl(field, why)),
-    }
-}
-
 // What is asked for.
 #[tactic(auto, unfolding(crate::specs::Fields::kind_from))]
 pub(crate) fn kind_in(kind: &Field<'_, '_>) -> Result<Kind, LineFault>
@@ -139,23 +126,6 @@ pub(crate) fn initiator_in(
         Some(Held::Text(text)) => asking_again(alloc, asker, text),
         Some(_) => Err(LineFault::BadCommand(CommandPath::Initiator)),
     }
-}
-
-// The host of who asks by this text, which stands in this field.
-pub(crate) fn asking_host(
-    alloc: Global,
-    field: CommandPath,
-    text: &str,
-) -> Result<Option<Text>, LineFault>
-    ensures read { IfOk result (λ host. spec.asking_host field text.now ≡ Ok host) }
-    ensures refused { IfErr result (IsFaultOf (spec.asking_host field text.now)) }
-{
-    if text == "null" {
-        return Ok(None);
-    }
-    let url = view_at(alloc, field, text)?;
-    let host = String::from_str(alloc, url.host())?;
-    Ok(Some(Text::build(host)))
 }
 
 // How it is asked for.

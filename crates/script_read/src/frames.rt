@@ -5,10 +5,10 @@ ghost use Rattle.dnr_base.specs.Request.{max_frames};
 ghost use Rattle.line_spec.specs.IsFault.{IsFaultOf};
 ghost use Rattle.line_spec.specs.RequestLine as spec;
 
-use crate::fields::{asking_host, view_at};
 use dnr_base::{Frame, Items, Method, Text, View};
 use json_spec::as_method;
 use line_spec::{CommandPath, LineFault};
+use request_texts::{asking_host, view_at};
 use serde_json::Value;
 use std::alloc::Global;
 

@@ -1,26 +1,19 @@
 // The headers of a request.
-ghost use Rattle.std.specs.Prelude.{◌≡◌, not, Ok, IfOk, IfErr, IfSome, option_map};
-ghost use Rattle.std.specs.List.{list_all, list_any};
-ghost use Rattle.std.specs.Option.{option_copied};
-ghost use Rattle.http_header.specs.Token.{is_token_byte};
+ghost use Rattle.std.specs.Prelude.{◌≡◌, Ok, IfOk, IfErr, IfSome, option_map};
 ghost use Rattle.serde_json.specs.View.{view, items_view};
 ghost use Rattle.dnr_base.specs.Request.{IsHeaderList};
-ghost use Rattle.dnr_spec.specs.Headers as words;
 ghost use Rattle.line_spec.specs.IsFault.{IsFaultOf};
 ghost use Rattle.line_spec.specs.RequestLine as spec;
 ghost use Rattle.json_spec.specs.RuleFields.{each};
 
-use dnr_base::{Header, Items, NoMemory, Text};
-use http_header::is_token_char;
+use dnr_base::{Header, Items, NoMemory};
 use line_spec::{CommandPath, LineFault};
+use request_texts::header_of;
 use serde_json::Value;
 use std::alloc::Global;
 
 // The most headers of one list.
 const MAX_HEADERS: usize = 512;
-
-// The most bytes of a header's name.
-const MAX_NAME: usize = 256;
 
 // The headers of the list at this key, if there is one.
 pub(crate) fn headers_in(
@@ -80,51 +73,4 @@ fn as_header(alloc: Global, value: &Value) -> Result<Option<Header>, NoMemory>
         return Ok(None);
     };
     header_of(alloc, name.as_str(), value.as_str())
-}
-
-fn header_of(
-    alloc: Global,
-    name: Option<&str>,
-    value: Option<&str>,
-) -> Result<Option<Header>, NoMemory>
-    ensures { IfOk result (λ header. header ≡ spec.header_of (option_copied name.entry) (option_copied value.entry)) }
-{
-    match (name, value) {
-        (Some(name), Some(value)) if is_name(name) && is_one_value(value) => Ok(Some(Header {
-            name: Text::build(name.to_ascii_lowercase(alloc)?),
-            value: Text::build(String::from_str(alloc, value)?),
-        })),
-        _ => Ok(None),
-    }
-}
-
-// Whether the name is a field name that is not too long.
-#[tactic(auto, using(crate::proofs::Names::is_name_by_bytes))]
-fn is_name(name: &str) -> bool
-    ensures { result ≡ words.is_name name.now }
-{
-    let bytes = name.as_bytes();
-    !bytes.is_empty() && bytes.len() <= MAX_NAME && has_token_bytes(bytes)
-}
-
-// Whether each byte may stand in a token.
-fn has_token_bytes(bytes: &[u8]) -> bool
-    ensures { result ≡ list_all is_token_byte bytes.now }
-{
-    bytes.iter().all(|byte| is_token_char(*byte))
-}
-
-// Whether no byte would end the value.
-fn is_one_value(value: &str) -> bool
-    ensures { result ≡ spec.is_one_value value.now }
-{
-    !has_end_of_value(value.as_bytes())
-}
-
-fn has_end_of_value(bytes: &[u8]) -> bool
-    ensures { result ≡ list_any words.ends_value bytes.now }
-{
-    bytes
-        .iter()
-        .any(|byte| *byte == b'\r' || *byte == b'\n' || *byte == 0)
 }

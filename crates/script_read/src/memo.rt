@@ -3,10 +3,10 @@ ghost use Rattle.std.specs.Prelude.{◌≡◌, Ok, IfOk, IfErr, IsTrue};
 ghost use Rattle.line_spec.specs.IsFault.{IsFaultOf};
 ghost use Rattle.line_spec.specs.RequestLine as spec;
 
-use crate::fields::asking_host;
 use dnr_base::{NoMemory, Text};
 use json::Scratch;
 use line_spec::{CommandPath, LineFault};
+use request_texts::asking_host;
 use std::alloc::Global;
 use std::marker::Model;
 

@@ -241,7 +241,7 @@ fn request_in(
 }
 
 // The request with these frames and headers. Its fields are tested in the order in which they stand here.
-#[tactic(auto, using(crate::proofs::Stops::stops_there), unfolding(crate::specs::Fields::request_from))]
+#[tactic(auto, using(request_texts::proofs::Stops::stops_there), unfolding(crate::specs::Fields::request_from))]
 fn request_with(
     alloc: Global,
     line: u32,
