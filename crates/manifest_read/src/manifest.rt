@@ -1,15 +1,15 @@
 // What a manifest names: rulesets, and the match patterns of what the extension may touch.
 ghost use Rattle.std.specs.Prelude.{◌≡◌, [], Ok, Some, IfOk, IfErr, is_some};
-ghost use Rattle.serde_json.specs.Find.{as_object, as_array, as_str};
+ghost use Rattle.serde_json.specs.Find.{as_object, as_array};
 ghost use Rattle.serde_json.specs.View.{view, items_view};
 ghost use Rattle.json_spec.specs.Json.{tree_of};
-ghost use Rattle.json_spec.specs.RuleFields as form;
 ghost use Rattle.load_spec.specs.Manifest as spec;
 ghost use Rattle.manifest_read.specs.Reading.{IsFaultOf, IsFaultOfBytes};
 
 use crate::fault::Fault;
 use crate::resource::{Resource, resource_in, take_id};
-use dnr_base::{Items, NoMemory};
+use access_read::patterns_in;
+use dnr_base::Items;
 use json_spec::read_tree;
 use load_spec::ManifestPath;
 use match_patterns::MatchPattern;
@@ -71,29 +71,6 @@ fn access_in(alloc: Global, tree: &Value) -> Result<Option<Items<MatchPattern>>,
         Some(patterns) => Ok(Some(patterns)),
         None => Err(Fault::At(ManifestPath::HostPermissions)),
     }
-}
-
-fn patterns_in(alloc: Global, list: &Value) -> Result<Option<Items<MatchPattern>>, NoMemory>
-    ensures { IfOk result (λ patterns. patterns ≡ form.as_texts (view list.now)) }
-{
-    match list.as_array() {
-        Some(values) => each_pattern(alloc, values),
-        None => Ok(None),
-    }
-}
-
-fn each_pattern(alloc: Global, values: &[Value]) -> Result<Option<Items<MatchPattern>>, NoMemory>
-    ensures { IfOk result (λ patterns. patterns ≡ form.each as_str (items_view values.now)) }
-{
-    let mut patterns = Vec::with_capacity(alloc, values.len())?;
-    for value in values {
-        let Some(text) = value.as_str() else {
-            return Ok(None);
-        };
-        let pattern = MatchPattern::read(alloc, text)?;
-        patterns.push(pattern)?;
-    }
-    Ok(Some(Items::build(patterns)))
 }
 
 // The rulesets that the manifest names, if it speaks of requests.

@@ -3,11 +3,9 @@ ghost use Rattle.std.specs.Prelude.{◌≡◌, ◌≤◌, Ok, IfOk, IfErr, OnOk,
 ghost use Rattle.std.specs.List.{list_all};
 ghost use Rattle.std.specs.Option.{option_copied};
 ghost use Rattle.serde_json.specs.Data.{Data};
-ghost use Rattle.serde_json.specs.Find.{as_str};
-ghost use Rattle.serde_json.specs.View.{view, items_view};
+ghost use Rattle.serde_json.specs.View.{view};
 ghost use Rattle.dnr_base.specs.Faults.{Rose};
 ghost use Rattle.json_spec.specs.Json.{tree_of};
-ghost use Rattle.json_spec.specs.RuleFields.{each, as_texts};
 ghost use Rattle.line_spec.specs.Names.{is_name_byte, is_extension_name};
 ghost use Rattle.line_spec.specs.Updates as spec;
 ghost use Rattle.line_spec.specs.Stops.{StopsInAdded, StopsInInstall, StopsInUpdate};
@@ -20,7 +18,8 @@ ghost use Rattle.script_read.specs.Updates.{made_by};
 use crate::rules::{add_in, add_of};
 use crate::rulesets::sets_in;
 use crate::update_fields::{remove_in, text_in, texts_in, wholes_in};
-use dnr_base::{Items, NoMemory, Text};
+use access_read::patterns_in;
+use dnr_base::{Items, Text};
 use dnr_rules::RuleKind;
 use json::Scratch;
 use line_spec::{UpdateFault, UpdateField, UpdateName};
@@ -275,27 +274,4 @@ fn access_in(alloc: Global, tree: &Value) -> Result<Option<Items<MatchPattern>>,
         Some(patterns) => Ok(Some(patterns)),
         None => Err(UpdateFault::BadField(UpdateField::HostPermissions)),
     }
-}
-
-fn patterns_in(alloc: Global, list: &Value) -> Result<Option<Items<MatchPattern>>, NoMemory>
-    ensures { IfOk result (λ patterns. patterns ≡ as_texts (view list.now)) }
-{
-    match list.as_array() {
-        Some(values) => each_pattern(alloc, values),
-        None => Ok(None),
-    }
-}
-
-fn each_pattern(alloc: Global, values: &[Value]) -> Result<Option<Items<MatchPattern>>, NoMemory>
-    ensures { IfOk result (λ patterns. patterns ≡ each as_str (items_view values.now)) }
-{
-    let mut patterns = Vec::with_capacity(alloc, values.len())?;
-    for value in values {
-        let Some(text) = value.as_str() else {
-            return Ok(None);
-        };
-        let pattern = MatchPattern::read(alloc, text)?;
-        patterns.push(pattern)?;
-    }
-    Ok(Some(Items::build(patterns)))
 }

@@ -1,7 +1,7 @@
 use Rattle.std.proofs.Common.{◌+◌, List, ℕ, Some, sym, ap, ◌∙◌, subst}
 use Rattle.serde_json.specs.Find.{as_str}
 use Rattle.json_spec.proofs.Each.{IsReadSoFar, read_goes}
-use Rattle.script_read.proofs.updates.each_pattern.Goals as goal
+use Rattle.access_read.proofs.patterns.each_pattern.Goals as goal
 
 pub loop-value-preserved : goal.loop-value-preserved
 loop-value-preserved c =

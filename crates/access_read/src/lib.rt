@@ -1,0 +1,6 @@
+//! What an extension may touch, from JSON: a list of match patterns.
+#![tactic(auto)]
+
+mod patterns;
+
+pub use patterns::patterns_in;
