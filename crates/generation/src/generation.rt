@@ -22,6 +22,7 @@ use crate::plain::PlainScan;
 use crate::plain_rules::all_are_plain;
 use crate::scan::Scan;
 use crate::segments::most_segments;
+use crate::uncounted::{explanation_over, verdict_over};
 use crate::{BatchRefusal, DecideRefusal, FirstRefusal, Refusal, Update};
 use dnr_base::{Items, Request, Steps};
 use dnr_verdict::{Explanation, Verdict};
@@ -29,9 +30,9 @@ use regex_host::RegexHost;
 use rule_spec::Outcome;
 use ruleset_store::{Extension, InstalledExtension, Store};
 use std::alloc::Global;
-use std::marker::Model;
+use std::marker::{Brand, Model};
 use std::sync::Arc;
-use std::sync::ledger::Ledger;
+use std::sync::ledger::{Blank, Ledger};
 use suffix_list::SuffixList;
 
 /// The extensions that are installed, oldest first, after a number of updates, and the suffix list by which parties
@@ -193,6 +194,43 @@ impl Generation {
             Ok(kepts) => self.explained(alloc, request, kepts.as_slice(), host),
             Err(refusal) => Err(refusal),
         }
+    }
+
+    /// What becomes of a request, as `decide` says it. No steps are counted.
+    ///
+    /// # Errors
+    ///
+    /// Those of `decide`.
+    pub fn decide_uncounted<H: RegexHost>(
+        &self,
+        alloc: Global,
+        request: &Request,
+        host: &mut H,
+    ) -> Result<Verdict, DecideRefusal>
+        requires { length request.now.frames ≤ max_frames }
+        ensures verdict { IfOk result (λ verdict. verdict ≡ scan self.now.suffixes self.now.state request.now) }
+        ensures ends { Ends (NamesPattern self.now.state) (H.faults host.old) (H.faults host.new) result }
+    {
+        verdict_over::<H, Brand>(alloc, self, request, host, Blank::new(1))
+    }
+
+    /// What becomes of a request and why, as `explain` says it. No steps are counted.
+    ///
+    /// # Errors
+    ///
+    /// Those of `decide`.
+    pub fn explain_uncounted<H: RegexHost>(
+        &self,
+        alloc: Global,
+        request: &Request,
+        host: &mut H,
+    ) -> Result<Explanation, DecideRefusal>
+        requires { length request.now.frames ≤ max_frames }
+        ensures explanation { IfOk result (λ explanation. explanation
+            ≡ explanation_of self.now.suffixes self.now.state request.now) }
+        ensures ends { Ends (NamesPattern self.now.state) (H.faults host.old) (H.faults host.new) result }
+    {
+        explanation_over::<H, Brand>(alloc, self, request, host, Blank::new(1))
     }
 
     /// Whether no rule in force has a `regexFilter` or is a redirect. It walks the rules that are installed, and takes no

@@ -25,6 +25,7 @@ mod scan;
 mod segments;
 mod sorted;
 mod targets;
+mod uncounted;
 
 pub use dnr_verdict::{Explanation, NamedOp, Verdict, Why, WhyRule};
 pub use first::FirstRefusal;
