@@ -1,20 +1,16 @@
 //! What becomes of a request that is given by its parts.
 ghost use Rattle.std.specs.Prelude.{◌≡◌, ◌≤◌, length, IfOk, IfErr};
 ghost use Rattle.dnr_base.specs.Request.{max_frames};
-ghost use Rattle.generation.specs.Refused.{Ends};
 ghost use Rattle.request_given.specs.Reads.{request_of};
-ghost use Rattle.rule_spec.specs.PatternRule.{NamesPattern};
 ghost use Rattle.rule_spec.specs.Scan.{scan};
 ghost use Rattle.engine.specs.Decided.{Fails, IsDecidedBy, IsUndecidedBy};
 
-use dnr_base::{Request, RuleName, Steps};
+use dnr_base::{Request, RuleName};
 use generation::{DecideRefusal, Generation, Verdict};
 use line_spec::LineFault;
 use regex_host::RegexHost;
 use request_given::{GivenRequest, read_request};
 use std::alloc::Global;
-use std::marker::Brand;
-use std::sync::ledger::{Blank, Ledger};
 
 /// Why a request is not decided.
 #[derive(Debug, Drop)]
@@ -64,41 +60,9 @@ fn judge<H: RegexHost>(
 {
     // The count is a `u64`, so it has not fallen where it rose.
     let _failed = host.faults();
-    match verdict_of(alloc, generation, request, host) {
+    match generation.decide_uncounted(alloc, request, host) {
         Ok(verdict) => Ok(verdict),
         Err(DecideRefusal::HostFault(rule)) => Err(Undecided::HostFault(rule)),
         Err(DecideRefusal::NoMemory) => Err(Undecided::NoMemory),
     }
-}
-
-// The same, or why there is no verdict. No steps are counted.
-fn verdict_of<H: RegexHost>(
-    alloc: Global,
-    generation: &Generation,
-    request: &Request,
-    host: &mut H,
-) -> Result<Verdict, DecideRefusal>
-    requires { length request.now.frames ≤ max_frames }
-    ensures verdict { IfOk result (λ verdict. verdict ≡ scan generation.now.suffixes generation.now.state request.now) }
-    ensures ends { Ends (NamesPattern generation.now.state) (H.faults host.old) (H.faults host.new) result }
-{
-    verdict_over::<H, Brand>(alloc, generation, request, host, Blank::new(1))
-}
-
-fn verdict_over<H: RegexHost, L: Ledger>(
-    alloc: Global,
-    generation: &Generation,
-    request: &Request,
-    host: &mut H,
-    blank: Blank,
-) -> Result<Verdict, DecideRefusal>
-    requires frames { length request.now.frames ≤ max_frames }
-    requires name { blank.name ≡ L.name }
-    requires parts { blank.parts ≡ L.parts }
-    requires one { blank.parts ≡ 1 }
-    ensures verdict { IfOk result (λ verdict. verdict ≡ scan generation.now.suffixes generation.now.state request.now) }
-    ensures ends { Ends (NamesPattern generation.now.state) (H.faults host.old) (H.faults host.new) result }
-{
-    let mut steps = Steps::<L>::open(blank);
-    generation.decide(alloc, request, host, &mut steps)
 }

@@ -1,4 +1,0 @@
-use Rattle.engine.proofs.deciding.verdict_of.Given as goal
-
-abbrev pub ghosts-verdict_over : goal.ghosts-verdict_over
-ghosts-verdict_over g a = record { name = a.blank.name; parts = a.blank.parts }
