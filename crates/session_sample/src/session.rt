@@ -10,7 +10,7 @@ ghost use Rattle.update_spec.specs.Entries.{one};
 
 use crate::counts::{with_outcome, with_request};
 use crate::draws::{draw_rule, draw_url};
-use dnr_base::{Items, Kind, Method, NoMemory, Request, Steps, Text, View};
+use dnr_base::{Items, Kind, Method, NoMemory, Request, Text, View};
 use dnr_rules::Rule;
 use dnr_spec::ViewRefusal;
 use generation::{Generation, Refusal, Update};
@@ -20,8 +20,6 @@ use rule_spec::Outcome;
 use ruleset_store::SharedRule;
 use session_spec::Tally;
 use std::alloc::Global;
-use std::marker::Brand;
-use std::sync::ledger::{Blank, Ledger};
 use url_view::parse;
 
 // The generator, what is in force, what was counted, and a host that is asked for nothing: no rule has a pattern.
@@ -136,25 +134,7 @@ fn outcome_of(
     ensures { IfOk result (λ outcome. outcome
         ≡ (scan generation.now.suffixes generation.now.state request.now).outcome) }
 {
-    outcome_over::<Brand>(alloc, generation, request, host, Blank::new(1))
-}
-
-fn outcome_over<L: Ledger>(
-    alloc: Global,
-    generation: &Generation,
-    request: &Request,
-    host: &mut PackHost,
-    blank: Blank,
-) -> Result<Outcome, NoMemory>
-    requires frames { request.now.frames ≡ [] }
-    requires name { blank.name ≡ L.name }
-    requires parts { blank.parts ≡ L.parts }
-    requires one { blank.parts ≡ 1 }
-    ensures { IfOk result (λ outcome. outcome
-        ≡ (scan generation.now.suffixes generation.now.state request.now).outcome) }
-{
-    let mut steps = Steps::<L>::open(blank);
-    match generation.decide(alloc, request, host, &mut steps) {
+    match generation.decide_uncounted(alloc, request, host) {
         Ok(verdict) => Ok(verdict.outcome),
         Err(_) => Err(NoMemory),
     }

@@ -1,4 +1,0 @@
-use Rattle.session_sample.proofs.session.outcome_of.Given as goal
-
-abbrev pub ghosts-outcome_over : goal.ghosts-outcome_over
-ghosts-outcome_over a = record { name = a.blank.name; parts = a.blank.parts }
