@@ -7,3 +7,4 @@ pub mod Taking
 pub mod Said
 pub mod Log
 pub mod Told
+pub mod Edges

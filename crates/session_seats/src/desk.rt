@@ -159,7 +159,7 @@ impl<P: Pair> Desk<P> {
     fn serve<H: RegexHost, G: Gate>(
         &mut self,
         place: usize,
-        round: &Deal<'_>,
+        round: &Deal,
         host: &mut H,
         gate: &G,
     )
@@ -241,7 +241,7 @@ impl<P: Pair> Desk<P> {
         line: &ReadLine,
         host: &mut H,
         gate: &G,
-        round: &Deal<'_>,
+        round: &Deal,
     )
         requires line { IsLine line.now }
         requires asks { is_asking line.now ≡ true }
@@ -268,7 +268,7 @@ impl<P: Pair> Desk<P> {
     }
 }
 
-impl<'a, P: Pair, H: RegexHost> ToolSeat<Deal<'a>, H> for Desk<P> {
+impl<P: Pair, H: RegexHost> ToolSeat<Deal, H> for Desk<P> {
     ghost use Rattle.std.specs.Prelude.{◌≡◌, ◌≤◌, ◌<◌, []};
     ghost use Rattle.session_seats.specs.Seats.{HasWorked};
 
@@ -278,11 +278,11 @@ impl<'a, P: Pair, H: RegexHost> ToolSeat<Deal<'a>, H> for Desk<P> {
 
     ghost used = { λ before now. H.faults before ≤ H.faults now };
 
-    fn is_idle(&self, round: &Deal<'a>) -> bool {
+    fn is_idle(&self, round: &Deal) -> bool {
         round.places().len() <= self.seat
     }
 
-    fn work<G: Gate>(&mut self, round: &Deal<'a>, host: &mut H, gate: &G) {
+    fn work<G: Gate>(&mut self, round: &Deal, host: &mut H, gate: &G) {
         let dealt = round.places();
         let seats = self.seats;
         let mut turn = self.seat;

@@ -25,6 +25,7 @@ mod cutting;
 mod deal;
 mod desk;
 mod gathering;
+mod kept;
 mod office;
 mod reading;
 mod round_line;

@@ -286,7 +286,7 @@ impl<P: Pair> Office<P> {
     }
 }
 
-impl<'a, P: Pair> SharedWriter<Deal<'a>> for Office<P> {
+impl<P: Pair> SharedWriter<Deal> for Office<P> {
     ghost use Rattle.std.specs.Prelude.{◌≡◌, [], false};
     ghost use Rattle.session_seats.specs.Writing.{HasWritten};
 
@@ -294,11 +294,11 @@ impl<'a, P: Pair> SharedWriter<Deal<'a>> for Office<P> {
 
     ghost wrote = { λ round o p. HasWritten P.opening o.list round.lines p };
 
-    fn is_quick(&self, round: &Deal<'a>) -> bool {
+    fn is_quick(&self, round: &Deal) -> bool {
         !round.updates()
     }
 
-    fn write<R: Wait, G: Gate>(&mut self, rt: &R, round: &Deal<'a>, gate: &G) {
+    fn write<R: Wait, G: Gate>(&mut self, rt: &R, round: &Deal, gate: &G) {
         self.stopped = self.write_all(rt, round.lines(), gate).is_err();
     }
 }

@@ -1,9 +1,11 @@
 //! A script, served from its first line to its last by seats beside a writer.
 ghost use Rattle.std.specs.Prelude.{◌≡◌, ◌<◌, ◌≤◌, ◌∷◌, [], false, length, map, is_some, IfOk, IfSome, OnOk, vec_len};
+ghost use Rattle.std.specs.Thread.{IsSend, IsSync};
 ghost use Rattle.dnr_base.specs.Faults.{HasCauseOf};
 ghost use Rattle.session_laws.specs.Turns.{NoneFell, counts_between};
 ghost use Rattle.session_rounds.specs.Read.{serving};
 ghost use Rattle.session_seats.specs.Cutting.{CutsReady};
+ghost use Rattle.session_seats.specs.Edges.{ServesAll, edges};
 ghost use Rattle.session_seats.specs.Seats.{AreSeats, HavePasses};
 ghost use Rattle.session_seats.specs.Taking.{AreShort, StopsServing, TakesLines, standing};
 ghost use Rattle.session_serve.specs.Serving.{EndsServing};
@@ -11,6 +13,7 @@ ghost use Rattle.session_spec.specs.Rounds.{is_full};
 
 use crate::cutting::{Cutter, ask_cut};
 use crate::desk::Desk;
+use crate::kept::{SeatOpening, SeatPool, SeatPost};
 use crate::office::Office;
 use crate::round_lines::RoundLines;
 use crate::rounds::serve_round;
@@ -18,6 +21,7 @@ use crate::taking::serve_cut;
 use dnr_base::NoMemory;
 use dnr_io::{Sink, Source};
 use generation::Generation;
+use kept_pool::Named;
 use lines_ahead::CutLine;
 use lookup_pool::Gate;
 use published::{Opening, Pair, ReaderPass, publish_pair};
@@ -56,17 +60,17 @@ pub fn serve_with_seats<
     source: &mut S,
     out: &mut O,
     checker: &mut H,
-    finders: &mut [H],
+    finders: &mut Vec<H>,
     gate: &G,
 ) -> Result<(), ServeStop>
-    requires some { 0 < length finders.old }
-    requires few { length finders.old ≤ 8 }
+    requires some { 0 < length finders.old.items }
+    requires few { length finders.old.items ≤ 8 }
     requires fresh { generation.state.count ≡ 0 }
     ensures served { IfSome (S.left source.old) (λ script. EndsServing (O.taken out.old) (O.taken out.new)
-        (counts_between (H.faults checker.old ∷ map H.faults finders.old) (H.faults checker.new ∷ map H.faults finders.new))
-        (serving generation.suffixes (length finders.old)) generation.state script (S.left source.new) result) }
-    ensures later { NoneFell (H.faults checker.old ∷ map H.faults finders.old)
-        (H.faults checker.new ∷ map H.faults finders.new) }
+        (counts_between (H.faults checker.old ∷ map H.faults finders.old.items) (H.faults checker.new ∷ map H.faults finders.new.items))
+        (serving generation.suffixes (length finders.old.items)) generation.state script (S.left source.new) result) }
+    ensures later { NoneFell (H.faults checker.old ∷ map H.faults finders.old.items)
+        (H.faults checker.new ∷ map H.faults finders.new.items) }
     ensures told { is_some (S.left source.new) ≡ is_some (S.left source.old) }
     ensures starts { S.starts source.new ≡ S.starts source.old }
     ensures read_fault { HasCauseOf ServeStop.ReadFault (S.faults source.old) (S.faults source.new) result }
@@ -101,19 +105,19 @@ fn serve_pair<
     source: &mut S,
     out: &mut O,
     checker: &mut H,
-    finders: &mut [H],
+    finders: &mut Vec<H>,
     gate: &G,
 ) -> Result<(), ServeStop>
-    requires some { 0 < length finders.old }
-    requires few { length finders.old ≤ 8 }
+    requires some { 0 < length finders.old.items }
+    requires few { length finders.old.items ≤ 8 }
     requires book { opened ≡ P.book }
     requires opening { generation ≡ P.opening }
     requires fresh { P.opening.state.count ≡ 0 }
     ensures served { IfSome (S.left source.old) (λ script. EndsServing (O.taken out.old) (O.taken out.new)
-        (counts_between (H.faults checker.old ∷ map H.faults finders.old) (H.faults checker.new ∷ map H.faults finders.new))
-        (serving P.opening.suffixes (length finders.old)) P.opening.state script (S.left source.new) result) }
-    ensures later { NoneFell (H.faults checker.old ∷ map H.faults finders.old)
-        (H.faults checker.new ∷ map H.faults finders.new) }
+        (counts_between (H.faults checker.old ∷ map H.faults finders.old.items) (H.faults checker.new ∷ map H.faults finders.new.items))
+        (serving P.opening.suffixes (length finders.old.items)) P.opening.state script (S.left source.new) result) }
+    ensures later { NoneFell (H.faults checker.old ∷ map H.faults finders.old.items)
+        (H.faults checker.new ∷ map H.faults finders.new.items) }
     ensures told { is_some (S.left source.new) ≡ is_some (S.left source.old) }
     ensures starts { S.starts source.new ≡ S.starts source.old }
     ensures read_fault { HasCauseOf ServeStop.ReadFault (S.faults source.old) (S.faults source.new) result }
@@ -153,26 +157,196 @@ fn serve_desks<
     source: &mut S,
     out: &mut O,
     checker: &mut H,
-    finders: &mut [H],
+    finders: &mut Vec<H>,
 ) -> Result<(), ServeStop>
     requires fresh { P.opening.state.count ≡ 0 }
-    requires some { 0 < length finders.old }
+    requires some { 0 < length finders.old.items }
     requires opening { office.old.list ≡ [] }
     requires idle { office.old.staged ≡ [] }
     ensures served { IfSome (S.left source.old) (λ script. EndsServing (O.taken out.old) (O.taken out.new)
-        (counts_between (H.faults checker.old ∷ map H.faults finders.old) (H.faults checker.new ∷ map H.faults finders.new))
-        (serving P.opening.suffixes (length finders.old)) P.opening.state script (S.left source.new) result) }
-    ensures later { NoneFell (H.faults checker.old ∷ map H.faults finders.old)
-        (H.faults checker.new ∷ map H.faults finders.new) }
+        (counts_between (H.faults checker.old ∷ map H.faults finders.old.items) (H.faults checker.new ∷ map H.faults finders.new.items))
+        (serving P.opening.suffixes (length finders.old.items)) P.opening.state script (S.left source.new) result) }
+    ensures later { NoneFell (H.faults checker.old ∷ map H.faults finders.old.items)
+        (H.faults checker.new ∷ map H.faults finders.new.items) }
     ensures told { is_some (S.left source.new) ≡ is_some (S.left source.old) }
     ensures starts { S.starts source.new ≡ S.starts source.old }
     ensures read_fault { HasCauseOf ServeStop.ReadFault (S.faults source.old) (S.faults source.new) result }
     ensures write_fault { HasCauseOf ServeStop.WriteFault (O.faults out.old) (O.faults out.new) result }
 {
     let mut desks = desks_of(alloc, passes, finders.len())?;
-    serve_lines(
-        rt, alloc, gate, office, &mut desks, source, out, checker, finders,
+    serve_kept::<Brand, P, R, S, O, H, G>(
+        rt,
+        alloc,
+        gate,
+        SeatOpening::new(),
+        office,
+        &mut desks,
+        source,
+        out,
+        checker,
+        finders,
     )
+}
+
+// The same by a thread for each seat but one, which lives until the session has ended.
+fn serve_kept<
+    N: Named + Send,
+    P: Pair + Send + Sync,
+    R: Threads + Wait + Sync,
+    S: Source,
+    O: Sink,
+    H: RegexHost + Send,
+    G: Gate + Sync,
+>(
+    rt: &R,
+    alloc: Global,
+    gate: &G,
+    opened: SeatOpening<P, H>,
+    office: &mut Office<P>,
+    desks: &mut Vec<Desk<P>>,
+    source: &mut S,
+    out: &mut O,
+    checker: &mut H,
+    finders: &mut Vec<H>,
+) -> Result<(), ServeStop>
+    requires book { opened ≡ N.book }
+    requires fresh { P.opening.state.count ≡ 0 }
+    requires some { 0 < length desks.old.items }
+    requires finders { length finders.old.items ≡ length desks.old.items }
+    requires seats { AreSeats (length desks.old.items) desks.old.items }
+    requires opening { office.old.list ≡ [] }
+    requires idle { office.old.staged ≡ [] }
+    ensures { ServesAll P.opening (length finders.old.items)
+        (edges (S.left source.old) (S.starts source.old) (S.faults source.old) (O.taken out.old) (O.faults out.old)
+        (H.faults checker.old) (map H.faults finders.old.items))
+        (edges (S.left source.new) (S.starts source.new) (S.faults source.new) (O.taken out.new) (O.faults out.new)
+        (H.faults checker.new) (map H.faults finders.new.items)) result }
+{
+    let others = desks.len().saturating_sub(1);
+    let pool = SeatPool::<P, H, N>::new(alloc, opened, others)?;
+    let served = start(
+        rt,
+        &alloc,
+        gate,
+        pool.posts(),
+        &pool,
+        office,
+        desks,
+        source,
+        out,
+        checker,
+        finders,
+    );
+    pool.leave(rt);
+    served
+}
+
+// Starts a thread for each post that is left, and serves the lines that the source has left beside them.
+#[cycle(starting)]
+fn start<
+    P: Pair + Send + Sync,
+    R: Threads + Wait + Sync,
+    S: Source,
+    O: Sink,
+    H: RegexHost + Send,
+    G: Gate + Sync,
+    N: Named + Send,
+>(
+    rt: &R,
+    alloc: &Global,
+    gate: &G,
+    left: &[SeatPost<P, H, N>],
+    pool: &SeatPool<P, H, N>,
+    office: &mut Office<P>,
+    desks: &mut Vec<Desk<P>>,
+    source: &mut S,
+    out: &mut O,
+    checker: &mut H,
+    finders: &mut Vec<H>,
+) -> Result<(), ServeStop>
+    requires fresh { P.opening.state.count ≡ 0 }
+    requires some { 0 < length desks.old.items }
+    requires finders { length finders.old.items ≡ length desks.old.items }
+    requires seats { AreSeats (length desks.old.items) desks.old.items }
+    requires opening { office.old.list ≡ [] }
+    requires idle { office.old.staged ≡ [] }
+    ensures { ServesAll P.opening (length finders.old.items)
+        (edges (S.left source.old) (S.starts source.old) (S.faults source.old) (O.taken out.old) (O.faults out.old)
+        (H.faults checker.old) (map H.faults finders.old.items))
+        (edges (S.left source.new) (S.starts source.new) (S.faults source.new) (O.taken out.new) (O.faults out.new)
+        (H.faults checker.new) (map H.faults finders.new.items)) result }
+{
+    let Some((first, rest)) = left.split_first() else {
+        let served = serve_lines(
+            rt, *alloc, gate, pool, office, desks, source, out, checker, finders,
+        );
+        pool.close(rt);
+        return served;
+    };
+    start_beside(
+        rt, alloc, gate, first, rest, pool, office, desks, source, out, checker, finders,
+    )
+}
+
+// A thread at this post, beside those at what is left.
+#[cycle(starting)]
+fn start_beside<
+    P: Pair + Send + Sync,
+    R: Threads + Wait + Sync,
+    S: Source,
+    O: Sink,
+    H: RegexHost + Send,
+    G: Gate + Sync,
+    N: Named + Send,
+>(
+    rt: &R,
+    alloc: &Global,
+    gate: &G,
+    first: &SeatPost<P, H, N>,
+    rest: &[SeatPost<P, H, N>],
+    pool: &SeatPool<P, H, N>,
+    office: &mut Office<P>,
+    desks: &mut Vec<Desk<P>>,
+    source: &mut S,
+    out: &mut O,
+    checker: &mut H,
+    finders: &mut Vec<H>,
+) -> Result<(), ServeStop>
+    requires fresh { P.opening.state.count ≡ 0 }
+    requires some { 0 < length desks.old.items }
+    requires finders { length finders.old.items ≡ length desks.old.items }
+    requires seats { AreSeats (length desks.old.items) desks.old.items }
+    requires opening { office.old.list ≡ [] }
+    requires idle { office.old.staged ≡ [] }
+    ensures { ServesAll P.opening (length finders.old.items)
+        (edges (S.left source.old) (S.starts source.old) (S.faults source.old) (O.taken out.old) (O.faults out.old)
+        (H.faults checker.old) (map H.faults finders.old.items))
+        (edges (S.left source.new) (S.starts source.new) (S.faults source.new) (O.taken out.new) (O.faults out.new)
+        (H.faults checker.new) (map H.faults finders.new.items)) result }
+{
+    let (_, served) = join_mut(
+        rt,
+        &mut || first.keep(rt, gate),
+        &mut ||
+            requires { IsSync R.row × IsSync G.row × IsSend H.row × IsSend P.row × IsSync P.row
+                × (P.opening.state.count ≡ 0) × (0 < length desks.now.items)
+                × (length finders.now.items ≡ length desks.now.items)
+                × AreSeats (length desks.now.items) desks.now.items
+                × (office.now.list ≡ []) × (office.now.staged ≡ []) }
+            ensures { ServesAll P.opening (length finders.entry.now.items)
+                (edges (S.left source.entry.now) (S.starts source.entry.now) (S.faults source.entry.now)
+                (O.taken out.entry.now) (O.faults out.entry.now) (H.faults checker.entry.now)
+                (map H.faults finders.entry.now.items))
+                (edges (S.left source.exit.now) (S.starts source.exit.now) (S.faults source.exit.now)
+                (O.taken out.exit.now) (O.faults out.exit.now) (H.faults checker.exit.now)
+                (map H.faults finders.exit.now.items)) result }
+        {
+            start(
+                rt, alloc, gate, rest, pool, office, desks, source, out, checker, finders,
+            )
+        },
+    );
+    served
 }
 
 // So many seats, each with a pass while there are any.
@@ -201,28 +375,30 @@ fn serve_lines<
     O: Sink,
     H: RegexHost + Send,
     G: Gate + Sync,
+    N: Named + Send,
 >(
     rt: &R,
     alloc: Global,
     gate: &G,
+    pool: &SeatPool<P, H, N>,
     office: &mut Office<P>,
-    desks: &mut [Desk<P>],
+    desks: &mut Vec<Desk<P>>,
     source: &mut S,
     out: &mut O,
     checker: &mut H,
-    finders: &mut [H],
+    finders: &mut Vec<H>,
 ) -> Result<(), ServeStop>
     requires fresh { P.opening.state.count ≡ 0 }
-    requires some { 0 < length desks.old }
-    requires finders { length finders.old ≡ length desks.old }
-    requires seats { AreSeats (length desks.old) desks.old }
+    requires some { 0 < length desks.old.items }
+    requires finders { length finders.old.items ≡ length desks.old.items }
+    requires seats { AreSeats (length desks.old.items) desks.old.items }
     requires opening { office.old.list ≡ [] }
     requires idle { office.old.staged ≡ [] }
     ensures served { IfSome (S.left source.old) (λ script. EndsServing (O.taken out.old) (O.taken out.new)
-        (counts_between (H.faults checker.old ∷ map H.faults finders.old) (H.faults checker.new ∷ map H.faults finders.new))
-        (serving P.opening.suffixes (length finders.old)) P.opening.state script (S.left source.new) result) }
-    ensures later { NoneFell (H.faults checker.old ∷ map H.faults finders.old)
-        (H.faults checker.new ∷ map H.faults finders.new) }
+        (counts_between (H.faults checker.old ∷ map H.faults finders.old.items) (H.faults checker.new ∷ map H.faults finders.new.items))
+        (serving P.opening.suffixes (length finders.old.items)) P.opening.state script (S.left source.new) result) }
+    ensures later { NoneFell (H.faults checker.old ∷ map H.faults finders.old.items)
+        (H.faults checker.new ∷ map H.faults finders.new.items) }
     ensures told { is_some (S.left source.new) ≡ is_some (S.left source.old) }
     ensures starts { S.starts source.new ≡ S.starts source.old }
     ensures read_fault { HasCauseOf ServeStop.ReadFault (S.faults source.old) (S.faults source.new) result }
@@ -239,6 +415,7 @@ fn serve_lines<
             rt,
             &alloc,
             gate,
+            pool,
             &mut cutter,
             &mut cut,
             office,
@@ -257,7 +434,9 @@ fn serve_lines<
     if round.is_empty() {
         return Ok(());
     }
-    serve_round(rt, alloc, gate, &round, office, desks, finders, out)
+    serve_round(
+        rt, alloc, gate, pool, &mut round, office, desks, finders, out,
+    )
 }
 
 // Serves the lines that were cut, as `serve_cut` does. Where they are many, and there are seats beside one another, a thread
@@ -268,10 +447,12 @@ fn serve_beside<
     O: Sink,
     H: RegexHost + Send,
     G: Gate + Sync,
+    N: Named + Send,
 >(
     rt: &R,
     alloc: &Global,
     gate: &G,
+    pool: &SeatPool<P, H, N>,
     cutter: &mut Cutter,
     cut: &mut Vec<CutLine>,
     office: &mut Office<P>,
@@ -279,38 +460,38 @@ fn serve_beside<
     round: &mut RoundLines,
     out: &mut O,
     checker: &mut H,
-    desks: &mut [Desk<P>],
-    finders: &mut [H],
+    desks: &mut Vec<Desk<P>>,
+    finders: &mut Vec<H>,
 ) -> Result<(), ServeStop>
     requires fresh { P.opening.state.count ≡ 0 }
-    requires some { 0 < length desks.old }
-    requires finders { length finders.old ≡ length desks.old }
-    requires seats { AreSeats (length desks.old) desks.old }
+    requires some { 0 < length desks.old.items }
+    requires finders { length finders.old.items ≡ length desks.old.items }
+    requires seats { AreSeats (length desks.old.items) desks.old.items }
     requires idle { office.old.staged ≡ [] }
     requires short { AreShort cut.old.items }
     requires room { is_full round.old.held ≡ false }
     requires taken { cutter.old.lines ≡ [] }
     ensures ready { CutsReady cutter.old cutter.new }
-    ensures takes { OnOk result (TakesLines P.opening (length desks.old)
-        (standing (O.taken out.old) (H.faults checker.old) (map H.faults finders.old) round.old office.old.list)
-        (standing (O.taken out.new) (H.faults checker.new) (map H.faults finders.new) round.new office.new.list)
+    ensures takes { OnOk result (TakesLines P.opening (length desks.old.items)
+        (standing (O.taken out.old) (H.faults checker.old) (map H.faults finders.old.items) round.old office.old.list)
+        (standing (O.taken out.new) (H.faults checker.new) (map H.faults finders.new.items) round.new office.new.list)
         cut.old.items) }
-    ensures stops { StopsServing P.opening (length desks.old)
-        (standing (O.taken out.old) (H.faults checker.old) (map H.faults finders.old) round.old office.old.list)
-        (O.taken out.new) (H.faults checker.new) (map H.faults finders.new) cut.old.items result }
+    ensures stops { StopsServing P.opening (length desks.old.items)
+        (standing (O.taken out.old) (H.faults checker.old) (map H.faults finders.old.items) round.old office.old.list)
+        (O.taken out.new) (H.faults checker.new) (map H.faults finders.new.items) cut.old.items result }
     ensures idle { OnOk result (office.new.staged ≡ []) }
     ensures room { OnOk result (is_full round.new.held ≡ false) }
-    ensures count { length desks.new ≡ length desks.old }
-    ensures seats { AreSeats (length desks.old) desks.new }
-    ensures finders { length finders.new ≡ length finders.old }
+    ensures count { length desks.new.items ≡ length desks.old.items }
+    ensures seats { AreSeats (length desks.old.items) desks.new.items }
+    ensures finders { length finders.new.items ≡ length finders.old.items }
     ensures later { H.faults checker.old ≤ H.faults checker.new }
-    ensures fell { NoneFell (map H.faults finders.old) (map H.faults finders.new) }
+    ensures fell { NoneFell (map H.faults finders.old.items) (map H.faults finders.new.items) }
     ensures cause { HasCauseOf ServeStop.WriteFault (O.faults out.old) (O.faults out.new) result }
 {
     let is_worth = 1 < desks.len() && FEW_LINES <= cut.len() && cutter.is_ready();
     if !is_worth {
         return serve_cut(
-            rt, *alloc, gate, cut, office, memo, round, out, checker, desks, finders,
+            rt, *alloc, gate, pool, cut, office, memo, round, out, checker, desks, finders,
         );
     }
     let (_, served) = join_mut(
@@ -319,11 +500,11 @@ fn serve_beside<
             requires { cutter.now.lines ≡ [] }
         { cutter.cut_ready(*alloc) },
         &mut ||
-            requires { (P.opening.state.count ≡ 0) × (0 < length desks.now) × (length finders.now ≡ length desks.now) × AreSeats (length desks.now) desks.now
+            requires { (P.opening.state.count ≡ 0) × (0 < length desks.now.items) × (length finders.now.items ≡ length desks.now.items) × AreSeats (length desks.now.items) desks.now.items
                 × (office.now.staged ≡ []) × AreShort cut.now.items × (is_full round.now.held ≡ false) }
         {
             serve_cut(
-                rt, *alloc, gate, cut, office, memo, round, out, checker, desks, finders,
+                rt, *alloc, gate, pool, cut, office, memo, round, out, checker, desks, finders,
             )
         },
     );

@@ -8,12 +8,14 @@ ghost use Rattle.session_seats.specs.Seats.{AreSeats};
 ghost use Rattle.session_seats.specs.Taking.{AreShort, IsShort, StopsLine, StopsServing, TakesLine, TakesLines, standing};
 
 use crate::desk::Desk;
+use crate::kept::SeatPool;
 use crate::office::Office;
 use crate::reading::take_line;
 use crate::round_lines::RoundLines;
 use crate::rounds::serve_round;
 use dnr_base::NoMemory;
 use dnr_io::Sink;
+use kept_pool::Named;
 use lines_ahead::CutLine;
 use lookup_pool::Gate;
 use published::Pair;
@@ -23,7 +25,6 @@ use session_serve::ServeStop;
 use std::alloc::Global;
 use std::mem::replace;
 use std::sync::Wait;
-use std::thread::Threads;
 
 /// Takes the lines that were cut, all of them, into their rounds, in order, and serves each round that ends with one.
 ///
@@ -31,103 +32,92 @@ use std::thread::Threads;
 ///
 /// - `WriteFault`: the sink failed, and has taken some first bytes of what a round says.
 /// - `NoMemory`: memory ran out. Some first rounds are written.
-pub fn serve_cut<
-    P: Pair + Send + Sync,
-    R: Threads + Wait + Sync,
-    O: Sink,
-    H: RegexHost + Send,
-    G: Gate + Sync,
->(
+pub fn serve_cut<R: Wait, P: Pair, O: Sink, H: RegexHost, G: Gate, N: Named>(
     rt: &R,
     alloc: Global,
     gate: &G,
+    pool: &SeatPool<P, H, N>,
     cut: &mut Vec<CutLine>,
     office: &mut Office<P>,
     memo: &mut Memo,
     round: &mut RoundLines,
     out: &mut O,
     checker: &mut H,
-    desks: &mut [Desk<P>],
-    finders: &mut [H],
+    desks: &mut Vec<Desk<P>>,
+    finders: &mut Vec<H>,
 ) -> Result<(), ServeStop>
     requires fresh { P.opening.state.count ≡ 0 }
-    requires some { 0 < length desks.old }
-    requires finders { length finders.old ≡ length desks.old }
-    requires seats { AreSeats (length desks.old) desks.old }
+    requires some { 0 < length desks.old.items }
+    requires finders { length finders.old.items ≡ length desks.old.items }
+    requires seats { AreSeats (length desks.old.items) desks.old.items }
     requires idle { office.old.staged ≡ [] }
     requires short { AreShort cut.old.items }
     requires room { is_full round.old.held ≡ false }
-    ensures takes { OnOk result (TakesLines P.opening (length desks.old)
-        (standing (O.taken out.old) (H.faults checker.old) (map H.faults finders.old) round.old office.old.list)
-        (standing (O.taken out.new) (H.faults checker.new) (map H.faults finders.new) round.new office.new.list)
+    ensures takes { OnOk result (TakesLines P.opening (length desks.old.items)
+        (standing (O.taken out.old) (H.faults checker.old) (map H.faults finders.old.items) round.old office.old.list)
+        (standing (O.taken out.new) (H.faults checker.new) (map H.faults finders.new.items) round.new office.new.list)
         cut.old.items) }
-    ensures stops { StopsServing P.opening (length desks.old)
-        (standing (O.taken out.old) (H.faults checker.old) (map H.faults finders.old) round.old office.old.list)
-        (O.taken out.new) (H.faults checker.new) (map H.faults finders.new) cut.old.items result }
+    ensures stops { StopsServing P.opening (length desks.old.items)
+        (standing (O.taken out.old) (H.faults checker.old) (map H.faults finders.old.items) round.old office.old.list)
+        (O.taken out.new) (H.faults checker.new) (map H.faults finders.new.items) cut.old.items result }
     ensures idle { OnOk result (office.new.staged ≡ []) }
     ensures room { OnOk result (is_full round.new.held ≡ false) }
-    ensures count { length desks.new ≡ length desks.old }
-    ensures seats { AreSeats (length desks.old) desks.new }
-    ensures finders { length finders.new ≡ length finders.old }
+    ensures count { length desks.new.items ≡ length desks.old.items }
+    ensures seats { AreSeats (length desks.old.items) desks.new.items }
+    ensures finders { length finders.new.items ≡ length finders.old.items }
     ensures later { H.faults checker.old ≤ H.faults checker.new }
-    ensures fell { NoneFell (map H.faults finders.old) (map H.faults finders.new) }
+    ensures fell { NoneFell (map H.faults finders.old.items) (map H.faults finders.new.items) }
     ensures cause { HasCauseOf ServeStop.WriteFault (O.faults out.old) (O.faults out.new) result }
 {
     let lines = replace(cut, Vec::new(alloc));
     for line in lines {
         serve_line(
-            rt, alloc, gate, line, office, desks, memo, round, out, checker, finders,
+            rt, alloc, gate, pool, line, office, desks, memo, round, out, checker, finders,
         )?;
     }
     Ok(())
 }
 
 // Takes a line into the round, and serves the round where it ends with it.
-fn serve_line<
-    P: Pair + Send + Sync,
-    R: Threads + Wait + Sync,
-    O: Sink,
-    H: RegexHost + Send,
-    G: Gate + Sync,
->(
+fn serve_line<R: Wait, P: Pair, O: Sink, H: RegexHost, G: Gate, N: Named>(
     rt: &R,
     alloc: Global,
     gate: &G,
+    pool: &SeatPool<P, H, N>,
     line: CutLine,
     office: &mut Office<P>,
-    desks: &mut [Desk<P>],
+    desks: &mut Vec<Desk<P>>,
     memo: &mut Memo,
     round: &mut RoundLines,
     out: &mut O,
     checker: &mut H,
-    finders: &mut [H],
+    finders: &mut Vec<H>,
 ) -> Result<(), ServeStop>
     requires fresh { P.opening.state.count ≡ 0 }
-    requires some { 0 < length desks.old }
-    requires finders { length finders.old ≡ length desks.old }
-    requires seats { AreSeats (length desks.old) desks.old }
+    requires some { 0 < length desks.old.items }
+    requires finders { length finders.old.items ≡ length desks.old.items }
+    requires seats { AreSeats (length desks.old.items) desks.old.items }
     requires idle { office.old.staged ≡ [] }
     requires short { IsShort line }
     requires room { is_full round.old.held ≡ false }
-    ensures takes { OnOk result (TakesLine P.opening (length desks.old) line
-        (standing (O.taken out.old) (H.faults checker.old) (map H.faults finders.old) round.old office.old.list)
-        (standing (O.taken out.new) (H.faults checker.new) (map H.faults finders.new) round.new office.new.list)) }
-    ensures stops { IfErr result (λ why. StopsLine P.opening (length desks.old) line
-        (standing (O.taken out.old) (H.faults checker.old) (map H.faults finders.old) round.old office.old.list)
-        (O.taken out.new) (H.faults checker.new) (map H.faults finders.new) why) }
+    ensures takes { OnOk result (TakesLine P.opening (length desks.old.items) line
+        (standing (O.taken out.old) (H.faults checker.old) (map H.faults finders.old.items) round.old office.old.list)
+        (standing (O.taken out.new) (H.faults checker.new) (map H.faults finders.new.items) round.new office.new.list)) }
+    ensures stops { IfErr result (λ why. StopsLine P.opening (length desks.old.items) line
+        (standing (O.taken out.old) (H.faults checker.old) (map H.faults finders.old.items) round.old office.old.list)
+        (O.taken out.new) (H.faults checker.new) (map H.faults finders.new.items) why) }
     ensures idle { OnOk result (office.new.staged ≡ []) }
     ensures room { OnOk result (is_full round.new.held ≡ false) }
-    ensures count { length desks.new ≡ length desks.old }
-    ensures seats { AreSeats (length desks.old) desks.new }
-    ensures finders { length finders.new ≡ length finders.old }
+    ensures count { length desks.new.items ≡ length desks.old.items }
+    ensures seats { AreSeats (length desks.old.items) desks.new.items }
+    ensures finders { length finders.new.items ≡ length finders.old.items }
     ensures later { H.faults checker.old ≤ H.faults checker.new }
-    ensures fell { NoneFell (map H.faults finders.old) (map H.faults finders.new) }
+    ensures fell { NoneFell (map H.faults finders.old.items) (map H.faults finders.new.items) }
     ensures cause { HasCauseOf ServeStop.WriteFault (O.faults out.old) (O.faults out.new) result }
 {
     let ends = take_cut(alloc, line, memo, checker, round)?;
     if ends {
-        serve_round(rt, alloc, gate, round, office, desks, finders, out)?;
-        round.clear();
+        serve_round(rt, alloc, gate, pool, round, office, desks, finders, out)?;
     }
     Ok(())
 }
