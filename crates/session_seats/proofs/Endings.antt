@@ -26,6 +26,7 @@ use Rattle.session_serve.specs.declared.stop.ServeStop.TheVariants as stop
 use Rattle.session_spec.specs.Answers.{Setting, Serves}
 use Rattle.session_spec.specs.Rounds.{Held, holds_nothing, ends_round, rounds_of, whole_rounds_of, short_lines, ended_lines}
 use Rattle.update_spec.specs.Entries.{Entry, replay}
+use Rattle.session_seats.specs.Edges.{Edges, ServesAll}
 use Rattle.session_seats.specs.Reading.{ReadRound, ReadsLine, nothing_read}
 use Rattle.session_seats.specs.Rounds.{WritesRound, CutsRound, StopsRound}
 use Rattle.session_seats.proofs.SoFar.{IsServedSoFar, SoFar, line_taken, served_on, appends_append, start}
@@ -323,3 +324,29 @@ last_round opening seats many before middle now was checker finders others known
 pub not_of_source : (opening : Basis) (many : ℕ) (reads : List ReadLine) (list : List Entry) (before now : Option (List ℕ)) (finders others : List ℕ) (result : Result (Unit {0}) ServeStop)
     → IfErr result (StopsRound opening many reads list before now finders others) → IsErrOf result stop.ReadFault → ⊥
 not_of_source opening many reads list before now finders others result stops is = subst (λ (r : Result (Unit {0}) ServeStop). IfErr r (StopsRound opening many reads list before now finders others)) is stops
+
+-- ---- before the first line
+
+-- memory ran out
+IsMemory : Result (Unit {0}) ServeStop → Type 0
+IsMemory (Ok done) = ⊥
+IsMemory (Err stop.ReadFault) = ⊥
+IsMemory (Err stop.WriteFault) = ⊥
+IsMemory (Err stop.TooLong) = ⊥
+IsMemory (Err stop.NoMemory) = Unit {0}
+
+is_memory : (result : Result (Unit {0}) ServeStop) → IsErrAnd result (λ e. e ≡ stop.NoMemory) → IsMemory result
+is_memory (Ok done) is = absurd is
+is_memory (Err e) is = subst (λ (x : ServeStop). IsMemory (Err x)) (sym is) tt
+
+-- nothing was begun, since memory ran out
+pub nothing_begun : (opening : Basis) (seats : ℕ) (before : Edges) (result : Result (Unit {0}) ServeStop) → IsErrAnd result (λ e. e ≡ stop.NoMemory) → ServesAll opening seats before before result
+nothing_begun opening seats before result is = record {
+  served = stop_said before.left before.left before.taken before.taken (counts_between (before.checker ∷ before.finders) (before.checker ∷ before.finders)) (serving opening.suffixes seats) opening.state
+      result (λ e. e ≡ stop.NoMemory) is (λ e same. nothing_served opening seats before.taken before.checker before.finders before.left before.left e same);
+  later = none_fell_yet (before.checker ∷ before.finders);
+  told = refl;
+  starts = refl;
+  read_fault = record { later = omega arith; failed = λ same. absurd (subst IsMemory same (is_memory result is)) };
+  write_fault = record { later = omega arith; failed = λ same. absurd (subst IsMemory same (is_memory result is)) };
+}

@@ -1,5 +1,5 @@
 use Rattle.std.proofs.Common.{length}
 use Rattle.session_seats.proofs.rounds.+ending.Given as goal
 
-abbrev pub decreases-end_all : goal.decreases-end_all
-decreases-end_all g l = length l.desks.now
+abbrev pub decreases-end_each : goal.decreases-end_each
+decreases-end_each g l = length l.desks.now

@@ -10,12 +10,12 @@ returns-in_err-answer_round-clause-stops g c =
 pub returns-in_err-write_all-clause-stops : goal.returns-in_err-write_all-clause-stops
 returns-in_err-write_all-clause-stops g c =
     let p = err_from_is_err_and c.from_residual-in_err-write_all.result c.from_residual-in_err-write_all.ensures.1 in
-    rw (p.1, p.2) (cuts_round g.P.Pair.opening (length c.args.desks.now) c.args.lines.now.reads c.args.office.now.list c.answer_round.new.office.list (g.O.Sink.taken c.args.out.now) (g.O.Sink.taken c.write_all.new.sink)
-    (string_bytes c.new-text.result) (string_bytes c.answer_round.new.into) c.as_bytes.result.now (map g.H.RegexHost.faults c.args.finders.now) (map g.H.RegexHost.faults c.answer_round.new.finders)
+    rw (p.1, p.2) (cuts_round g.P.Pair.opening (length c.args.desks.now.items) c.args.round.now.reads c.args.office.now.list c.answer_round.new.office.list (g.O.Sink.taken c.args.out.now) (g.O.Sink.taken c.write_all.new.sink)
+    (string_bytes c.new-text.result) (string_bytes c.answer_round.new.into) c.as_bytes.result.now (map g.H.RegexHost.faults c.args.finders.now.items) (map g.H.RegexHost.faults c.answer_round.new.finders)
     c.new-text.ensures.bytes c.as_bytes.ensures.value c.in_ok-answer_round.ensures.answered c.in_err-write_all.ensures.part)
 
 pub returns-clause-written : goal.returns-clause-written
 returns-clause-written g c =
-    writes_round g.P.Pair.opening (length c.args.desks.now) c.args.lines.now.reads c.args.office.now.list c.answer_round.new.office.list (g.O.Sink.taken c.args.out.now) (g.O.Sink.taken c.write_all.new.sink)
-    (string_bytes c.new-text.result) (string_bytes c.answer_round.new.into) c.as_bytes.result.now (map g.H.RegexHost.faults c.args.finders.now) (map g.H.RegexHost.faults c.answer_round.new.finders)
+    writes_round g.P.Pair.opening (length c.args.desks.now.items) c.args.round.now.reads c.args.office.now.list c.answer_round.new.office.list (g.O.Sink.taken c.args.out.now) (g.O.Sink.taken c.write_all.new.sink)
+    (string_bytes c.new-text.result) (string_bytes c.answer_round.new.into) c.as_bytes.result.now (map g.H.RegexHost.faults c.args.finders.now.items) (map g.H.RegexHost.faults c.answer_round.new.finders)
     c.new-text.ensures.bytes c.as_bytes.ensures.value c.in_ok-answer_round.ensures.answered c.in_ok-write_all.ensures.written

@@ -5,37 +5,37 @@ use Rattle.session_seats.proofs.Excuses.{all_excused, all_keep}
 use Rattle.session_seats.proofs.Parts.{have_begun, have_passed_none}
 use Rattle.session_seats.proofs.rounds.work_beside.Goals as goal
 
-pub round_with_tools-requires-clause-seats : goal.round_with_tools-requires-clause-seats
-round_with_tools-requires-clause-seats g c κs within =
-    may_work c.args.floor.now (length c.args.desks.now) c.args.desks.now c.begin_all.new.desks c.requires.some c.begin_all.ensures c.requires.seats
+pub round-requires-clause-seats : goal.round-requires-clause-seats
+round-requires-clause-seats g c κs within =
+    may_work c.args.floor.now (length c.args.desks.now.items) c.args.desks.now.items c.begin_all.new.desks.items c.requires.some c.begin_all.ensures c.requires.seats
 
 pub returns-clause-wrote : goal.returns-clause-wrote
 returns-clause-wrote g c =
-    written_from g.P.Pair.opening c.args.office.now.list c.begin.new.self.list c.args.deal.now.lines c.round_with_tools.new.writer c.begin.ensures.list c.round_with_tools.ensures.wrote
+    written_from g.P.Pair.opening c.args.office.now.list c.begin.new.self.list c.args.deal.now.lines c.round.new.writer c.begin.ensures.list c.round.ensures.wrote
 
 pub returns-clause-answered : goal.returns-clause-answered
 returns-clause-answered g c =
-    all_answered g.P.Pair.opening c.args.deal.now c.begin_all.new.desks c.round_with_tools.new.seats c.round_with_tools.ensures.worked
+    all_answered g.P.Pair.opening c.args.deal.now c.begin_all.new.desks.items c.round.new.seats.items c.round.ensures.worked
 
 pub returns-clause-all : goal.returns-clause-all
 returns-clause-all g c =
-    all_answered_all g.P.Pair.opening c.args.deal.now c.begin_all.new.desks c.round_with_tools.new.seats (have_begun c.args.floor.now c.args.desks.now c.begin_all.new.desks c.begin_all.ensures) c.round_with_tools.ensures.worked
+    all_answered_all g.P.Pair.opening c.args.deal.now c.begin_all.new.desks.items c.round.new.seats.items (have_begun c.args.floor.now c.args.desks.now.items c.begin_all.new.desks.items c.begin_all.ensures) c.round.ensures.worked
 
 pub returns-clause-passed : goal.returns-clause-passed
 returns-clause-passed g c =
-    all_passed_over g.P.Pair.opening c.args.deal.now c.begin_all.new.desks c.round_with_tools.new.seats (have_passed_none c.args.floor.now c.args.desks.now c.begin_all.new.desks c.begin_all.ensures) c.round_with_tools.ensures.worked
+    all_passed_over g.P.Pair.opening c.args.deal.now c.begin_all.new.desks.items c.round.new.seats.items (have_passed_none c.args.floor.now c.args.desks.now.items c.begin_all.new.desks.items c.begin_all.ensures) c.round.ensures.worked
 
 pub returns-clause-passes : goal.returns-clause-passes
 returns-clause-passes g c =
-    all_keep g.P.Pair.opening c.args.deal.now c.args.floor.now c.args.desks.now c.begin_all.new.desks c.round_with_tools.new.seats c.begin_all.ensures c.round_with_tools.ensures.worked
+    all_keep g.P.Pair.opening c.args.deal.now c.args.floor.now c.args.desks.now.items c.begin_all.new.desks.items c.round.new.seats.items c.begin_all.ensures c.round.ensures.worked
 
 pub returns-clause-excused : goal.returns-clause-excused
 returns-clause-excused g c =
-    all_excused g.P.Pair.opening c.args.deal.now c.args.floor.now c.args.desks.now c.begin_all.new.desks c.round_with_tools.new.seats c.begin_all.ensures c.round_with_tools.ensures.worked
+    all_excused g.P.Pair.opening c.args.deal.now c.args.floor.now c.args.desks.now.items c.begin_all.new.desks.items c.round.new.seats.items c.begin_all.ensures c.round.ensures.worked
 
 pub returns-clause-seats : goal.returns-clause-seats
 returns-clause-seats g c =
-    seats_worked g.P.Pair.opening c.args.deal.now c.args.floor.now (length c.args.desks.now) c.args.desks.now c.begin_all.new.desks c.round_with_tools.new.seats c.begin_all.ensures c.round_with_tools.ensures.worked c.requires.seats
+    seats_worked g.P.Pair.opening c.args.deal.now c.args.floor.now (length c.args.desks.now.items) c.args.desks.now.items c.begin_all.new.desks.items c.round.new.seats.items c.begin_all.ensures c.round.ensures.worked c.requires.seats
 
 pub returns-clause-later : goal.returns-clause-later
-returns-clause-later g c = none_fell g.H.RegexHost.faults c.args.finders.now c.round_with_tools.new.tools c.round_with_tools.ensures.used
+returns-clause-later g c = none_fell g.H.RegexHost.faults c.args.finders.now.items c.round.new.tools.items c.round.ensures.used

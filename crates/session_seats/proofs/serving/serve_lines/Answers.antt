@@ -15,17 +15,17 @@ use Rattle.session_seats.proofs.serving.serve_lines.Goals as goal
 
 pub returns-in_err-cutter-clause-served : goal.returns-in_err-cutter-clause-served
 returns-in_err-cutter-clause-served g c =
-    stop_said _ _ _ _ _ _ _ _ _ c.from_residual.ensures.1 (λ e same. nothing_served g.P.Pair.opening (length c.args.finders.now) (g.O.Sink.taken c.args.out.now)
-    (g.H.RegexHost.faults c.args.checker.now) (map g.H.RegexHost.faults c.args.finders.now) (g.S.Source.left c.args.source.now) (g.S.Source.left c.args.source.now) e same)
+    stop_said _ _ _ _ _ _ _ _ _ c.from_residual.ensures.1 (λ e same. nothing_served g.P.Pair.opening (length c.args.finders.now.items) (g.O.Sink.taken c.args.out.now)
+    (g.H.RegexHost.faults c.args.checker.now) (map g.H.RegexHost.faults c.args.finders.now.items) (g.S.Source.left c.args.source.now) (g.S.Source.left c.args.source.now) e same)
 
 pub returns-in_err-cutter-clause-later : goal.returns-in_err-cutter-clause-later
-returns-in_err-cutter-clause-later g c = none_fell_yet (g.H.RegexHost.faults c.args.checker.now ∷ map g.H.RegexHost.faults c.args.finders.now)
+returns-in_err-cutter-clause-later g c = none_fell_yet (g.H.RegexHost.faults c.args.checker.now ∷ map g.H.RegexHost.faults c.args.finders.now.items)
 
 pub rounds-init : goal.rounds-init
 rounds-init g c =
     let fresh : c.in_ok-cutter.cutter ≡ cuts_nothing = c.in_ok-cutter.ensures in
     record {
-      so_far = started g.P.Pair.opening (length c.args.finders.now) (g.O.Sink.taken c.args.out.now) (g.H.RegexHost.faults c.args.checker.now) (map g.H.RegexHost.faults c.args.finders.now)
+      so_far = started g.P.Pair.opening (length c.args.finders.now.items) (g.O.Sink.taken c.args.out.now) (g.H.RegexHost.faults c.args.checker.now) (map g.H.RegexHost.faults c.args.finders.now.items)
           (g.S.Source.left c.args.source.now) c.in_ok-cutter.cutter c.new-round.result c.args.office.now.list fresh c.new-round.ensures c.requires.opening;
       room = subst (λ (r : ReadRound). is_full r.held ≡ false) (sym c.new-round.ensures) refl;
       count = refl;
@@ -35,7 +35,7 @@ rounds-init g c =
       live = ap (λ (k : CutterSeen). k.reading.live) fresh;
       lf = none_ended (g.S.Source.left c.args.source.now) c.in_ok-cutter.cutter fresh;
       checker = omega arith;
-      fell = none_fell_yet (map g.H.RegexHost.faults c.args.finders.now);
+      fell = none_fell_yet (map g.H.RegexHost.faults c.args.finders.now.items);
       told = refl;
       starts = refl;
       read = omega arith;
@@ -43,7 +43,7 @@ rounds-init g c =
     }
 
 pub serve_beside-requires-clause-seats : goal.serve_beside-requires-clause-seats
-serve_beside-requires-clause-seats g c κs within = subst (λ n. AreSeats n c.rounds.desks) (sym c.rounds.invariant.count) c.rounds.invariant.seats
+serve_beside-requires-clause-seats g c κs within = subst (λ n. AreSeats n c.rounds.desks.items) (sym c.rounds.invariant.count) c.rounds.invariant.seats
 
 pub serve_beside-requires-clause-short : goal.serve_beside-requires-clause-short
 serve_beside-requires-clause-short g c κs within =
@@ -62,18 +62,18 @@ returns-in_err-serve_beside-clause-served g c =
     let now = ahead cutter.reading left in
     let follow = follows (given_by at.cutter) cutter.reading.count cutter.lines c.take-cut.result.items c.take-cut.ensures.lines c.cut-more.ensures.given c.take-cut.ensures.cut in
     let asked = c.ask_cut.ensures ∙ c.take-cut.ensures.lines in
-    let from = standing (g.O.Sink.taken at.out) (g.H.RegexHost.faults at.checker) (map g.H.RegexHost.faults at.finders) at.round at.office.list in
+    let from = standing (g.O.Sink.taken at.out) (g.H.RegexHost.faults at.checker) (map g.H.RegexHost.faults at.finders.items) at.round at.office.list in
     let all = inv.count ∙ sym c.requires.finders in
     let cut = c.cut-more.ensures in
-    stop_said _ _ _ _ _ _ _ _ _ c.from_residual-in_err-serve_beside.ensures.1 (λ e same. cut_stopped g.P.Pair.opening (length c.args.finders.now) (length at.desks) (g.O.Sink.taken c.args.out.now) (g.O.Sink.taken c.serve_beside.new.out)
-    (g.H.RegexHost.faults c.args.checker.now ∷ map g.H.RegexHost.faults c.args.finders.now) (g.H.RegexHost.faults c.serve_beside.new.checker) (map g.H.RegexHost.faults c.serve_beside.new.finders) (g.S.Source.left c.args.source.now)
+    stop_said _ _ _ _ _ _ _ _ _ c.from_residual-in_err-serve_beside.ensures.1 (λ e same. cut_stopped g.P.Pair.opening (length c.args.finders.now.items) (length at.desks.items) (g.O.Sink.taken c.args.out.now) (g.O.Sink.taken c.serve_beside.new.out)
+    (g.H.RegexHost.faults c.args.checker.now ∷ map g.H.RegexHost.faults c.args.finders.now.items) (g.H.RegexHost.faults c.serve_beside.new.checker) (map g.H.RegexHost.faults c.serve_beside.new.finders.items) (g.S.Source.left c.args.source.now)
     was left (given_by at.cutter) cutter.reading.count at.cutter.lines cutter.lines c.ask_cut.new.cut.items (StandsBehind cutter.reading.count was now left c.cut-more.result) from c.in_err-serve_beside.field-0.0 e same
     c.requires.fresh all asked follow cut.cut inv.so_far c.in_err-serve_beside.ensures.stops)
 
 pub returns-in_err-serve_beside-clause-later : goal.returns-in_err-serve_beside-clause-later
 returns-in_err-serve_beside-clause-later g c = (
   omega (arith, c.rounds.invariant.checker, c.in_err-serve_beside.ensures.later),
-  none_fell_on (map g.H.RegexHost.faults c.args.finders.now) (map g.H.RegexHost.faults c.rounds.finders) (map g.H.RegexHost.faults c.serve_beside.new.finders) c.rounds.invariant.fell c.in_err-serve_beside.ensures.fell,
+  none_fell_on (map g.H.RegexHost.faults c.args.finders.now.items) (map g.H.RegexHost.faults c.rounds.finders.items) (map g.H.RegexHost.faults c.serve_beside.new.finders.items) c.rounds.invariant.fell c.in_err-serve_beside.ensures.fell,
 )
 
 pub returns-in_err-serve_beside-clause-read_fault : goal.returns-in_err-serve_beside-clause-read_fault
@@ -81,8 +81,8 @@ returns-in_err-serve_beside-clause-read_fault g c =
     let at = c.rounds in
     record {
       later = omega (arith, at.invariant.read, c.cut-more.ensures.cause.later);
-      failed = λ is. absurd (not_of_cut g.P.Pair.opening (length at.desks) (standing (g.O.Sink.taken at.out) (g.H.RegexHost.faults at.checker) (map g.H.RegexHost.faults at.finders) at.round at.office.list)
-          (g.O.Sink.taken c.serve_beside.new.out) (g.H.RegexHost.faults c.serve_beside.new.checker) (map g.H.RegexHost.faults c.serve_beside.new.finders) c.in_err-serve_beside.field-0.0 c.ask_cut.new.cut.items _ c.from_residual-in_err-serve_beside.ensures.1
+      failed = λ is. absurd (not_of_cut g.P.Pair.opening (length at.desks.items) (standing (g.O.Sink.taken at.out) (g.H.RegexHost.faults at.checker) (map g.H.RegexHost.faults at.finders.items) at.round at.office.list)
+          (g.O.Sink.taken c.serve_beside.new.out) (g.H.RegexHost.faults c.serve_beside.new.checker) (map g.H.RegexHost.faults c.serve_beside.new.finders.items) c.in_err-serve_beside.field-0.0 c.ask_cut.new.cut.items _ c.from_residual-in_err-serve_beside.ensures.1
           c.in_err-serve_beside.ensures.stops is);
     }
 
@@ -96,27 +96,27 @@ returns-in_err-more-clause-served g c =
     let now = ahead cutter.reading left in
     let follow = follows (given_by at.cutter) cutter.reading.count cutter.lines c.take-cut.result.items c.take-cut.ensures.lines c.cut-more.ensures.given c.take-cut.ensures.cut in
     let asked = c.ask_cut.ensures ∙ c.take-cut.ensures.lines in
-    let from = standing (g.O.Sink.taken at.out) (g.H.RegexHost.faults at.checker) (map g.H.RegexHost.faults at.finders) at.round at.office.list in
+    let from = standing (g.O.Sink.taken at.out) (g.H.RegexHost.faults at.checker) (map g.H.RegexHost.faults at.finders.items) at.round at.office.list in
     let all = inv.count ∙ sym c.requires.finders in
     let cut = c.in_err-more.ensures in
     let why = c.in_err-more.field-0.0 in
-    let to = standing (g.O.Sink.taken c.serve_beside.new.out) (g.H.RegexHost.faults c.serve_beside.new.checker) (map g.H.RegexHost.faults c.serve_beside.new.finders) c.serve_beside.new.round c.serve_beside.new.office.list in
+    let to = standing (g.O.Sink.taken c.serve_beside.new.out) (g.H.RegexHost.faults c.serve_beside.new.checker) (map g.H.RegexHost.faults c.serve_beside.new.finders.items) c.serve_beside.new.round c.serve_beside.new.office.list in
     let served = c.in_ok-serve_beside.ensures in
-    let taken = cut_taken g.P.Pair.opening (length c.args.finders.now) (length at.desks) (g.O.Sink.taken c.args.out.now) (g.H.RegexHost.faults c.args.checker.now ∷ map g.H.RegexHost.faults c.args.finders.now) (g.S.Source.left c.args.source.now)
+    let taken = cut_taken g.P.Pair.opening (length c.args.finders.now.items) (length at.desks.items) (g.O.Sink.taken c.args.out.now) (g.H.RegexHost.faults c.args.checker.now ∷ map g.H.RegexHost.faults c.args.finders.now.items) (g.S.Source.left c.args.source.now)
     was (given_by at.cutter) cutter.reading.count at.cutter.lines cutter.lines c.ask_cut.new.cut.items (StandsBehind cutter.reading.count was now left (Err why)) from to c.requires.fresh all asked follow cut.cut inv.so_far served.takes in
-    stop_said _ _ _ _ _ _ _ _ _ c.from_residual-in_err-more.ensures.1 (λ e same. stops_reading g.P.Pair.opening (length c.args.finders.now) (g.O.Sink.taken c.args.out.now) (g.O.Sink.taken c.serve_beside.new.out)
-    (g.H.RegexHost.faults c.args.checker.now ∷ map g.H.RegexHost.faults c.args.finders.now) (g.H.RegexHost.faults c.serve_beside.new.checker) (map g.H.RegexHost.faults c.serve_beside.new.finders) (g.S.Source.left c.args.source.now)
+    stop_said _ _ _ _ _ _ _ _ _ c.from_residual-in_err-more.ensures.1 (λ e same. stops_reading g.P.Pair.opening (length c.args.finders.now.items) (g.O.Sink.taken c.args.out.now) (g.O.Sink.taken c.serve_beside.new.out)
+    (g.H.RegexHost.faults c.args.checker.now ∷ map g.H.RegexHost.faults c.args.finders.now.items) (g.H.RegexHost.faults c.serve_beside.new.checker) (map g.H.RegexHost.faults c.serve_beside.new.finders.items) (g.S.Source.left c.args.source.now)
     cut.cut.behind left cutter.reading.count c.serve_beside.new.round c.serve_beside.new.office.list why e same follow.few (behind_long cutter.reading.count was now left cut.cut.behind why cut.cut.holds)
     (λ is. let fault = behind_fault cutter.reading.count was now left cut.cut.behind why cut.cut.holds is in (
       fault.0,
-      ended_too g.P.Pair.opening (length c.args.finders.now) (g.O.Sink.taken c.args.out.now) (g.O.Sink.taken at.out) (g.H.RegexHost.faults c.args.checker.now ∷ map g.H.RegexHost.faults c.args.finders.now)
-          (g.H.RegexHost.faults at.checker) (map g.H.RegexHost.faults at.finders) (g.S.Source.left c.args.source.now) was cut.cut.behind (given_by at.cutter) (bytes_of at.cutter.lines) at.round at.office.list inv.so_far inv.lf fault.1,
+      ended_too g.P.Pair.opening (length c.args.finders.now.items) (g.O.Sink.taken c.args.out.now) (g.O.Sink.taken at.out) (g.H.RegexHost.faults c.args.checker.now ∷ map g.H.RegexHost.faults c.args.finders.now.items)
+          (g.H.RegexHost.faults at.checker) (map g.H.RegexHost.faults at.finders.items) (g.S.Source.left c.args.source.now) was cut.cut.behind (given_by at.cutter) (bytes_of at.cutter.lines) at.round at.office.list inv.so_far inv.lf fault.1,
     )) taken)
 
 pub returns-in_err-more-clause-later : goal.returns-in_err-more-clause-later
 returns-in_err-more-clause-later g c = (
   omega (arith, c.rounds.invariant.checker, c.in_ok-serve_beside.ensures.later),
-  none_fell_on (map g.H.RegexHost.faults c.args.finders.now) (map g.H.RegexHost.faults c.rounds.finders) (map g.H.RegexHost.faults c.serve_beside.new.finders) c.rounds.invariant.fell c.in_ok-serve_beside.ensures.fell,
+  none_fell_on (map g.H.RegexHost.faults c.args.finders.now.items) (map g.H.RegexHost.faults c.rounds.finders.items) (map g.H.RegexHost.faults c.serve_beside.new.finders.items) c.rounds.invariant.fell c.in_ok-serve_beside.ensures.fell,
 )
 
 pub rounds-preserved : goal.rounds-preserved
@@ -129,13 +129,13 @@ rounds-preserved g c =
     let now = ahead cutter.reading left in
     let follow = follows (given_by at.cutter) cutter.reading.count cutter.lines c.take-cut.result.items c.take-cut.ensures.lines c.cut-more.ensures.given c.take-cut.ensures.cut in
     let asked = c.ask_cut.ensures ∙ c.take-cut.ensures.lines in
-    let from = standing (g.O.Sink.taken at.out) (g.H.RegexHost.faults at.checker) (map g.H.RegexHost.faults at.finders) at.round at.office.list in
+    let from = standing (g.O.Sink.taken at.out) (g.H.RegexHost.faults at.checker) (map g.H.RegexHost.faults at.finders.items) at.round at.office.list in
     let all = inv.count ∙ sym c.requires.finders in
     let cut = c.in_ok-more.ensures in
     let more = c.in_ok-more.field-0 in
-    let to = standing (g.O.Sink.taken c.serve_beside.new.out) (g.H.RegexHost.faults c.serve_beside.new.checker) (map g.H.RegexHost.faults c.serve_beside.new.finders) c.serve_beside.new.round c.serve_beside.new.office.list in
+    let to = standing (g.O.Sink.taken c.serve_beside.new.out) (g.H.RegexHost.faults c.serve_beside.new.checker) (map g.H.RegexHost.faults c.serve_beside.new.finders.items) c.serve_beside.new.round c.serve_beside.new.office.list in
     let served = c.in_ok-serve_beside.ensures in
-    let taken = cut_taken g.P.Pair.opening (length c.args.finders.now) (length at.desks) (g.O.Sink.taken c.args.out.now) (g.H.RegexHost.faults c.args.checker.now ∷ map g.H.RegexHost.faults c.args.finders.now) (g.S.Source.left c.args.source.now)
+    let taken = cut_taken g.P.Pair.opening (length c.args.finders.now.items) (length at.desks.items) (g.O.Sink.taken c.args.out.now) (g.H.RegexHost.faults c.args.checker.now ∷ map g.H.RegexHost.faults c.args.finders.now.items) (g.S.Source.left c.args.source.now)
     was (given_by at.cutter) cutter.reading.count at.cutter.lines cutter.lines c.ask_cut.new.cut.items (StandsBehind cutter.reading.count was now left (Ok more)) from to c.requires.fresh all asked follow cut.cut inv.so_far served.takes in
     let next = c.serve_beside.new.cutter in
     let holds : (now ≡ cut.cut.behind) × AreEnded was cut.cut.behind = subst (λ b. StandsBehind cutter.reading.count was now left (Ok b) cut.cut.behind) c.if-not-branch.false cut.cut.holds in
@@ -144,27 +144,27 @@ rounds-preserved g c =
     let given = ap Ok c.if-not-branch.false in
     let kept = c.keep_buffers.ensures in
     record {
-      so_far = subst (λ (r : ReadRound). SoFar g.P.Pair.opening (length c.args.finders.now) (g.O.Sink.taken c.args.out.now) (g.O.Sink.taken c.serve_beside.new.out)
-          (g.H.RegexHost.faults c.args.checker.now ∷ map g.H.RegexHost.faults c.args.finders.now) (g.H.RegexHost.faults c.serve_beside.new.checker) (map g.H.RegexHost.faults c.serve_beside.new.finders)
+      so_far = subst (λ (r : ReadRound). SoFar g.P.Pair.opening (length c.args.finders.now.items) (g.O.Sink.taken c.args.out.now) (g.O.Sink.taken c.serve_beside.new.out)
+          (g.H.RegexHost.faults c.args.checker.now ∷ map g.H.RegexHost.faults c.args.finders.now.items) (g.H.RegexHost.faults c.serve_beside.new.checker) (map g.H.RegexHost.faults c.serve_beside.new.finders.items)
           (g.S.Source.left c.args.source.now) (ahead c.keep_buffers.new.self.reading left) (given_by c.keep_buffers.new.self) (bytes_of c.keep_buffers.new.self.lines) r c.serve_beside.new.office.list) (sym kept.round)
-          (subst (λ (k : CutterSeen). SoFar g.P.Pair.opening (length c.args.finders.now) (g.O.Sink.taken c.args.out.now) (g.O.Sink.taken c.serve_beside.new.out)
-          (g.H.RegexHost.faults c.args.checker.now ∷ map g.H.RegexHost.faults c.args.finders.now) (g.H.RegexHost.faults c.serve_beside.new.checker) (map g.H.RegexHost.faults c.serve_beside.new.finders)
+          (subst (λ (k : CutterSeen). SoFar g.P.Pair.opening (length c.args.finders.now.items) (g.O.Sink.taken c.args.out.now) (g.O.Sink.taken c.serve_beside.new.out)
+          (g.H.RegexHost.faults c.args.checker.now ∷ map g.H.RegexHost.faults c.args.finders.now.items) (g.H.RegexHost.faults c.serve_beside.new.checker) (map g.H.RegexHost.faults c.serve_beside.new.finders.items)
           (g.S.Source.left c.args.source.now) (ahead k.reading left) (given_by k) (bytes_of k.lines) c.serve_beside.new.round c.serve_beside.new.office.list) (sym kept.same)
-          (served_ahead g.P.Pair.opening (length c.args.finders.now) (g.O.Sink.taken c.args.out.now) (g.O.Sink.taken c.serve_beside.new.out) (g.H.RegexHost.faults c.args.checker.now ∷ map g.H.RegexHost.faults c.args.finders.now) (g.H.RegexHost.faults c.serve_beside.new.checker) (map g.H.RegexHost.faults c.serve_beside.new.finders)
+          (served_ahead g.P.Pair.opening (length c.args.finders.now.items) (g.O.Sink.taken c.args.out.now) (g.O.Sink.taken c.serve_beside.new.out) (g.H.RegexHost.faults c.args.checker.now ∷ map g.H.RegexHost.faults c.args.finders.now.items) (g.H.RegexHost.faults c.serve_beside.new.checker) (map g.H.RegexHost.faults c.serve_beside.new.finders.items)
           (g.S.Source.left c.args.source.now) cut.cut.behind left cutter.reading.count c.serve_beside.new.round c.serve_beside.new.office.list c.take-cut.new.self next c.take-cut.ensures.none (ap (λ (r : Reading). r.count) (sym same)) stands served.ready taken));
       room = subst (λ (r : ReadRound). is_full r.held ≡ false) (sym kept.round) served.room;
       count = served.count ∙ inv.count;
-      seats = subst (λ n. AreSeats n c.serve_beside.new.desks) inv.count served.seats;
+      seats = subst (λ n. AreSeats n c.serve_beside.new.desks.items) inv.count served.seats;
       finders = served.finders ∙ inv.finders;
       idle = served.idle;
       live = ap (λ (k : CutterSeen). k.reading.live) kept.same ∙ served.ready.live ∙ ap (λ (r : Reading). r.live) same ∙ cut.live given;
       lf = subst (λ (k : CutterSeen). AreEnded (g.S.Source.left c.args.source.now) (ahead k.reading left)) (sym kept.same)
-          (ended_ahead g.P.Pair.opening (length c.args.finders.now) (g.O.Sink.taken c.args.out.now) (g.O.Sink.taken c.serve_beside.new.out) (g.H.RegexHost.faults c.args.checker.now ∷ map g.H.RegexHost.faults c.args.finders.now) (g.H.RegexHost.faults c.serve_beside.new.checker) (map g.H.RegexHost.faults c.serve_beside.new.finders)
+          (ended_ahead g.P.Pair.opening (length c.args.finders.now.items) (g.O.Sink.taken c.args.out.now) (g.O.Sink.taken c.serve_beside.new.out) (g.H.RegexHost.faults c.args.checker.now ∷ map g.H.RegexHost.faults c.args.finders.now.items) (g.H.RegexHost.faults c.serve_beside.new.checker) (map g.H.RegexHost.faults c.serve_beside.new.finders.items)
           (g.S.Source.left c.args.source.now) cut.cut.behind left cutter.reading.count c.serve_beside.new.round c.serve_beside.new.office.list c.take-cut.new.self next stands served.ready taken
-          (ended_too g.P.Pair.opening (length c.args.finders.now) (g.O.Sink.taken c.args.out.now) (g.O.Sink.taken at.out) (g.H.RegexHost.faults c.args.checker.now ∷ map g.H.RegexHost.faults c.args.finders.now)
-          (g.H.RegexHost.faults at.checker) (map g.H.RegexHost.faults at.finders) (g.S.Source.left c.args.source.now) was cut.cut.behind (given_by at.cutter) (bytes_of at.cutter.lines) at.round at.office.list inv.so_far inv.lf holds.1));
+          (ended_too g.P.Pair.opening (length c.args.finders.now.items) (g.O.Sink.taken c.args.out.now) (g.O.Sink.taken at.out) (g.H.RegexHost.faults c.args.checker.now ∷ map g.H.RegexHost.faults c.args.finders.now.items)
+          (g.H.RegexHost.faults at.checker) (map g.H.RegexHost.faults at.finders.items) (g.S.Source.left c.args.source.now) was cut.cut.behind (given_by at.cutter) (bytes_of at.cutter.lines) at.round at.office.list inv.so_far inv.lf holds.1));
       checker = omega (arith, inv.checker, served.later);
-      fell = none_fell_on (map g.H.RegexHost.faults c.args.finders.now) (map g.H.RegexHost.faults at.finders) (map g.H.RegexHost.faults c.serve_beside.new.finders) inv.fell served.fell;
+      fell = none_fell_on (map g.H.RegexHost.faults c.args.finders.now.items) (map g.H.RegexHost.faults at.finders.items) (map g.H.RegexHost.faults c.serve_beside.new.finders.items) inv.fell served.fell;
       told = cut.told ∙ inv.told;
       starts = cut.starts ∙ inv.starts;
       read = omega (arith, inv.read, cut.cause.later);
@@ -190,29 +190,29 @@ returns-then-is_empty-clause-served g c =
     let now = ahead cutter.reading left in
     let follow = follows (given_by at.cutter) cutter.reading.count cutter.lines c.take-cut.result.items c.take-cut.ensures.lines c.cut-more.ensures.given c.take-cut.ensures.cut in
     let asked = c.ask_cut.ensures ∙ c.take-cut.ensures.lines in
-    let from = standing (g.O.Sink.taken at.out) (g.H.RegexHost.faults at.checker) (map g.H.RegexHost.faults at.finders) at.round at.office.list in
+    let from = standing (g.O.Sink.taken at.out) (g.H.RegexHost.faults at.checker) (map g.H.RegexHost.faults at.finders.items) at.round at.office.list in
     let all = inv.count ∙ sym c.requires.finders in
     let cut = c.in_ok-more.ensures in
     let more = c.in_ok-more.field-0 in
-    let to = standing (g.O.Sink.taken c.serve_beside.new.out) (g.H.RegexHost.faults c.serve_beside.new.checker) (map g.H.RegexHost.faults c.serve_beside.new.finders) c.serve_beside.new.round c.serve_beside.new.office.list in
+    let to = standing (g.O.Sink.taken c.serve_beside.new.out) (g.H.RegexHost.faults c.serve_beside.new.checker) (map g.H.RegexHost.faults c.serve_beside.new.finders.items) c.serve_beside.new.round c.serve_beside.new.office.list in
     let served = c.in_ok-serve_beside.ensures in
-    let taken = cut_taken g.P.Pair.opening (length c.args.finders.now) (length at.desks) (g.O.Sink.taken c.args.out.now) (g.H.RegexHost.faults c.args.checker.now ∷ map g.H.RegexHost.faults c.args.finders.now) (g.S.Source.left c.args.source.now)
+    let taken = cut_taken g.P.Pair.opening (length c.args.finders.now.items) (length at.desks.items) (g.O.Sink.taken c.args.out.now) (g.H.RegexHost.faults c.args.checker.now ∷ map g.H.RegexHost.faults c.args.finders.now.items) (g.S.Source.left c.args.source.now)
     was (given_by at.cutter) cutter.reading.count at.cutter.lines cutter.lines c.ask_cut.new.cut.items (StandsBehind cutter.reading.count was now left (Ok more)) from to c.requires.fresh all asked follow cut.cut inv.so_far served.takes in
     let stands : IsAtEnd cut.cut.behind = subst (λ b. StandsBehind cutter.reading.count was now left (Ok b) cut.cut.behind) c.if-not-branch.true cut.cut.holds in
-    all_served g.P.Pair.opening (length c.args.finders.now) (g.O.Sink.taken c.args.out.now) (g.O.Sink.taken c.serve_beside.new.out)
-    (g.H.RegexHost.faults c.args.checker.now ∷ map g.H.RegexHost.faults c.args.finders.now) (g.H.RegexHost.faults c.serve_beside.new.checker) (map g.H.RegexHost.faults c.serve_beside.new.finders) (g.S.Source.left c.args.source.now)
+    all_served g.P.Pair.opening (length c.args.finders.now.items) (g.O.Sink.taken c.args.out.now) (g.O.Sink.taken c.serve_beside.new.out)
+    (g.H.RegexHost.faults c.args.checker.now ∷ map g.H.RegexHost.faults c.args.finders.now.items) (g.H.RegexHost.faults c.serve_beside.new.checker) (map g.H.RegexHost.faults c.serve_beside.new.finders.items) (g.S.Source.left c.args.source.now)
     cut.cut.behind left cutter.reading.count c.serve_beside.new.round c.serve_beside.new.office.list follow.few stands (c.if-is_empty.ensures.none refl) taken
 
 pub returns-then-is_empty-clause-later : goal.returns-then-is_empty-clause-later
 returns-then-is_empty-clause-later g c = (
   omega (arith, c.rounds.invariant.checker, c.in_ok-serve_beside.ensures.later),
-  none_fell_on (map g.H.RegexHost.faults c.args.finders.now) (map g.H.RegexHost.faults c.rounds.finders) (map g.H.RegexHost.faults c.serve_beside.new.finders) c.rounds.invariant.fell c.in_ok-serve_beside.ensures.fell,
+  none_fell_on (map g.H.RegexHost.faults c.args.finders.now.items) (map g.H.RegexHost.faults c.rounds.finders.items) (map g.H.RegexHost.faults c.serve_beside.new.finders.items) c.rounds.invariant.fell c.in_ok-serve_beside.ensures.fell,
 )
 
 pub serve_round-requires-clause-seats : goal.serve_round-requires-clause-seats
 serve_round-requires-clause-seats g c κs within =
     let served = c.in_ok-serve_beside.ensures in
-    subst (λ n. AreSeats n c.serve_beside.new.desks) (sym served.count) served.seats
+    subst (λ n. AreSeats n c.serve_beside.new.desks.items) (sym served.count) served.seats
 
 pub returns-clause-served : goal.returns-clause-served
 returns-clause-served g c =
@@ -224,31 +224,31 @@ returns-clause-served g c =
     let now = ahead cutter.reading left in
     let follow = follows (given_by at.cutter) cutter.reading.count cutter.lines c.take-cut.result.items c.take-cut.ensures.lines c.cut-more.ensures.given c.take-cut.ensures.cut in
     let asked = c.ask_cut.ensures ∙ c.take-cut.ensures.lines in
-    let from = standing (g.O.Sink.taken at.out) (g.H.RegexHost.faults at.checker) (map g.H.RegexHost.faults at.finders) at.round at.office.list in
+    let from = standing (g.O.Sink.taken at.out) (g.H.RegexHost.faults at.checker) (map g.H.RegexHost.faults at.finders.items) at.round at.office.list in
     let all = inv.count ∙ sym c.requires.finders in
     let cut = c.in_ok-more.ensures in
     let more = c.in_ok-more.field-0 in
     let round = c.serve_round.ensures in
-    let to = standing (g.O.Sink.taken c.serve_beside.new.out) (g.H.RegexHost.faults c.serve_beside.new.checker) (map g.H.RegexHost.faults c.serve_beside.new.finders) c.serve_beside.new.round c.serve_beside.new.office.list in
+    let to = standing (g.O.Sink.taken c.serve_beside.new.out) (g.H.RegexHost.faults c.serve_beside.new.checker) (map g.H.RegexHost.faults c.serve_beside.new.finders.items) c.serve_beside.new.round c.serve_beside.new.office.list in
     let served = c.in_ok-serve_beside.ensures in
-    let taken = cut_taken g.P.Pair.opening (length c.args.finders.now) (length at.desks) (g.O.Sink.taken c.args.out.now) (g.H.RegexHost.faults c.args.checker.now ∷ map g.H.RegexHost.faults c.args.finders.now) (g.S.Source.left c.args.source.now)
+    let taken = cut_taken g.P.Pair.opening (length c.args.finders.now.items) (length at.desks.items) (g.O.Sink.taken c.args.out.now) (g.H.RegexHost.faults c.args.checker.now ∷ map g.H.RegexHost.faults c.args.finders.now.items) (g.S.Source.left c.args.source.now)
     was (given_by at.cutter) cutter.reading.count at.cutter.lines cutter.lines c.ask_cut.new.cut.items (StandsBehind cutter.reading.count was now left (Ok more)) from to c.requires.fresh all asked follow cut.cut inv.so_far served.takes in
     let stands : IsAtEnd cut.cut.behind = subst (λ b. StandsBehind cutter.reading.count was now left (Ok b) cut.cut.behind) c.if-not-branch.true cut.cut.holds in
-    last_round g.P.Pair.opening (length c.args.finders.now) (length c.serve_beside.new.desks) (g.O.Sink.taken c.args.out.now) (g.O.Sink.taken c.serve_beside.new.out) (g.O.Sink.taken c.serve_round.new.out)
-    (g.H.RegexHost.faults c.args.checker.now ∷ map g.H.RegexHost.faults c.args.finders.now) (g.H.RegexHost.faults c.serve_beside.new.checker) (map g.H.RegexHost.faults c.serve_beside.new.finders) (map g.H.RegexHost.faults c.serve_round.new.finders)
+    last_round g.P.Pair.opening (length c.args.finders.now.items) (length c.serve_beside.new.desks.items) (g.O.Sink.taken c.args.out.now) (g.O.Sink.taken c.serve_beside.new.out) (g.O.Sink.taken c.serve_round.new.out)
+    (g.H.RegexHost.faults c.args.checker.now ∷ map g.H.RegexHost.faults c.args.finders.now.items) (g.H.RegexHost.faults c.serve_beside.new.checker) (map g.H.RegexHost.faults c.serve_beside.new.finders.items) (map g.H.RegexHost.faults c.serve_round.new.finders.items)
     (g.S.Source.left c.args.source.now) cut.cut.behind left cutter.reading.count c.serve_beside.new.round c.serve_beside.new.office.list c.serve_round.new.office.list
     c.serve_round.result c.requires.fresh (served.count ∙ inv.count ∙ sym c.requires.finders) follow.few stands (c.if-is_empty.ensures.some refl) round.later taken round.written round.stops
 
 pub returns-clause-later : goal.returns-clause-later
 returns-clause-later g c = (
   omega (arith, c.rounds.invariant.checker, c.in_ok-serve_beside.ensures.later),
-  none_fell_on (map g.H.RegexHost.faults c.args.finders.now) (map g.H.RegexHost.faults c.serve_beside.new.finders) (map g.H.RegexHost.faults c.serve_round.new.finders)
-      (none_fell_on (map g.H.RegexHost.faults c.args.finders.now) (map g.H.RegexHost.faults c.rounds.finders) (map g.H.RegexHost.faults c.serve_beside.new.finders) c.rounds.invariant.fell c.in_ok-serve_beside.ensures.fell) c.serve_round.ensures.later,
+  none_fell_on (map g.H.RegexHost.faults c.args.finders.now.items) (map g.H.RegexHost.faults c.serve_beside.new.finders.items) (map g.H.RegexHost.faults c.serve_round.new.finders.items)
+      (none_fell_on (map g.H.RegexHost.faults c.args.finders.now.items) (map g.H.RegexHost.faults c.rounds.finders.items) (map g.H.RegexHost.faults c.serve_beside.new.finders.items) c.rounds.invariant.fell c.in_ok-serve_beside.ensures.fell) c.serve_round.ensures.later,
 )
 
 pub returns-clause-read_fault : goal.returns-clause-read_fault
 returns-clause-read_fault g c = record {
   later = omega (arith, c.rounds.invariant.read, c.in_ok-more.ensures.cause.later);
-  failed = λ is. absurd (not_of_source g.P.Pair.opening (length c.serve_beside.new.desks) c.serve_beside.new.round.reads c.serve_beside.new.office.list (g.O.Sink.taken c.serve_beside.new.out) (g.O.Sink.taken c.serve_round.new.out)
-      (map g.H.RegexHost.faults c.serve_beside.new.finders) (map g.H.RegexHost.faults c.serve_round.new.finders) c.serve_round.result c.serve_round.ensures.stops is);
+  failed = λ is. absurd (not_of_source g.P.Pair.opening (length c.serve_beside.new.desks.items) c.serve_beside.new.round.reads c.serve_beside.new.office.list (g.O.Sink.taken c.serve_beside.new.out) (g.O.Sink.taken c.serve_round.new.out)
+      (map g.H.RegexHost.faults c.serve_beside.new.finders.items) (map g.H.RegexHost.faults c.serve_round.new.finders.items) c.serve_round.result c.serve_round.ensures.stops is);
 }

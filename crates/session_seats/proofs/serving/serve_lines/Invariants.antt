@@ -11,18 +11,18 @@ use Rattle.session_seats.proofs.serving.serve_lines.Given as goal
 
 abbrev pub invariant-rounds : goal.invariant-rounds
 invariant-rounds g l = record {
-  so_far : SoFar g.P.Pair.opening (length l.fn.finders) (g.O.Sink.taken l.fn.out) (g.O.Sink.taken l.out)
-      (g.H.RegexHost.faults l.fn.checker ∷ map g.H.RegexHost.faults l.fn.finders) (g.H.RegexHost.faults l.checker) (map g.H.RegexHost.faults l.finders)
+  so_far : SoFar g.P.Pair.opening (length l.fn.finders.items) (g.O.Sink.taken l.fn.out) (g.O.Sink.taken l.out)
+      (g.H.RegexHost.faults l.fn.checker ∷ map g.H.RegexHost.faults l.fn.finders.items) (g.H.RegexHost.faults l.checker) (map g.H.RegexHost.faults l.finders.items)
       (g.S.Source.left l.fn.source) (ahead l.cutter.reading (g.S.Source.left l.source)) (given_by l.cutter) (bytes_of l.cutter.lines) l.round l.office.list;
   room : is_full l.round.held ≡ false;
-  count : length l.desks ≡ length l.fn.desks;
-  seats : AreSeats (length l.fn.desks) l.desks;
-  finders : length l.finders ≡ length l.fn.finders;
+  count : length l.desks.items ≡ length l.fn.desks.items;
+  seats : AreSeats (length l.fn.desks.items) l.desks.items;
+  finders : length l.finders.items ≡ length l.fn.finders.items;
   idle : l.office.staged ≡ [];
   live : IsTrue l.cutter.reading.live;
   lf : AreEnded (g.S.Source.left l.fn.source) (ahead l.cutter.reading (g.S.Source.left l.source));
   checker : g.H.RegexHost.faults l.fn.checker ≤ g.H.RegexHost.faults l.checker;
-  fell : NoneFell (map g.H.RegexHost.faults l.fn.finders) (map g.H.RegexHost.faults l.finders);
+  fell : NoneFell (map g.H.RegexHost.faults l.fn.finders.items) (map g.H.RegexHost.faults l.finders.items);
   told : is_some (g.S.Source.left l.source) ≡ is_some (g.S.Source.left l.fn.source);
   starts : g.S.Source.starts l.source ≡ g.S.Source.starts l.fn.source;
   read : g.S.Source.faults l.fn.source ≤ g.S.Source.faults l.source;
