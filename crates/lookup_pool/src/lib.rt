@@ -8,10 +8,8 @@ mod gate;
 mod parts;
 mod pool;
 mod shared;
-mod tools;
 
 pub use gate::{Gate, NoGate};
 pub use parts::{RoundWriter, Seat};
 pub use pool::round;
 pub use shared::{SharedWriter, ToolSeat};
-pub use tools::{round_with_tools, seats_with_tools};

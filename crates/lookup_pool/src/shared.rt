@@ -36,9 +36,6 @@ pub trait SharedWriter<C> {
     /// How the writer stands after its work to what it was before.
     ghost wrote: { C → Self → Self → Type 0 };
 
-    /// Whether its work is so little that it is worth no thread: the thread that calls does it before the seats' work.
-    fn is_quick(&self, shared: &C) -> bool;
-
     /// Does the writer's work of a round.
     fn write<R: Wait, G: Gate>(&mut self, rt: &R, shared: &C, gate: &G)
         requires { can_write shared.now self.old }

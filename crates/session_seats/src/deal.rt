@@ -69,11 +69,6 @@ impl Deal {
     {
         &self.places
     }
-
-    /// Whether a line asks for an update.
-    pub fn updates(&self) -> bool {
-        self.round.updates()
-    }
 }
 
 impl Shared for Deal {

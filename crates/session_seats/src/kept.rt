@@ -1,6 +1,4 @@
 //! The pool of the seats' threads, and a round that has no writer.
-ghost use Rattle.std.specs.Prelude.{◌≡◌};
-
 use crate::deal::Deal;
 use crate::desk::Desk;
 use kept_pool::{Opening, Pool, Post};
@@ -26,10 +24,6 @@ impl SharedWriter<Deal> for NoWriter {
     ghost can_write = { λ deal w. ⊤ };
 
     ghost wrote = { λ deal v w. ⊤ };
-
-    fn is_quick(&self, _deal: &Deal) -> bool {
-        true
-    }
 
     fn write<R: Wait, G: Gate>(&mut self, _rt: &R, _deal: &Deal, _gate: &G) {}
 }

@@ -294,10 +294,6 @@ impl<P: Pair> SharedWriter<Deal> for Office<P> {
 
     ghost wrote = { λ round o p. HasWritten P.opening o.list round.lines p };
 
-    fn is_quick(&self, round: &Deal) -> bool {
-        !round.updates()
-    }
-
     fn write<R: Wait, G: Gate>(&mut self, rt: &R, round: &Deal, gate: &G) {
         self.stopped = self.write_all(rt, round.lines(), gate).is_err();
     }

@@ -38,12 +38,4 @@ impl RoundLine {
             RoundLine::Plain(_) => false,
         }
     }
-
-    /// Whether it asks for an update, or for several.
-    pub fn updates(&self) -> bool {
-        match self {
-            RoundLine::Read(line) => line.updates(),
-            RoundLine::Plain(_) => false,
-        }
-    }
 }

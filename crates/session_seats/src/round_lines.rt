@@ -41,7 +41,6 @@ pub struct RoundLines {
     // The places of the lines that are dealt to seats.
     dealt: Vec<usize>,
     bytes: usize,
-    updates: bool,
     // The memory of earlier lines, which is used again.
     buffers: Vec<Vec<u8>>,
 }
@@ -73,7 +72,6 @@ impl RoundLines {
             lines: Vec::new(alloc),
             dealt: Vec::new(alloc),
             bytes: 0,
-            updates: false,
             buffers: Vec::new(alloc),
         }
     }
@@ -103,7 +101,6 @@ impl RoundLines {
         let is_dealt = line.is_dealt();
         // There is room for its place before the line is taken in, so that it never lies there undealt.
         self.dealt.reserve(1)?;
-        self.updates |= line.updates();
         self.bytes += bytes;
         self.lines.push(line)?;
         mark(&mut self.dealt, place, is_dealt);
@@ -125,7 +122,6 @@ impl RoundLines {
         keep_buffers(&mut self.lines, &mut self.buffers);
         self.dealt.clear();
         self.bytes = 0;
-        self.updates = false;
     }
 
     /// What it still takes.
@@ -152,11 +148,6 @@ impl RoundLines {
         ensures reads { self.now.reads ≡ seen_lines self.now.lines }
     {
         &self.dealt
-    }
-
-    /// Whether a line asks for an update.
-    pub fn updates(&self) -> bool {
-        self.updates
     }
 }
 
