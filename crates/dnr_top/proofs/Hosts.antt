@@ -1,8 +1,8 @@
 -- The counts of hosts, of which a part of a run had some, or had them later.
-use Rattle.std.proofs.Common.{◌≡◌, ℕ, zero, suc, ◌≤◌, List, [], ◌∷◌, ◌++◌, length, map, take, drop, append-nil, Option, Some, None, Result, Ok, Err, refl, sym, ap, ◌∙◌, inl, inr, subst, arith}
+use Rattle.std.proofs.Common.{◌≡◌, ℕ, zero, suc, ◌+◌, ◌≤◌, ◌<◌, List, [], ◌∷◌, ◌++◌, length, map, take, drop, append-nil, Option, Some, None, Result, Ok, Err, refl, sym, ap, ◌∙◌, inl, inr, subst, arith}
 use Rattle.std.specs.Prelude.{IfSome, slice_get, slice_index_or, slice_set}
 use Rattle.std.specs.List.{AllZip}
-use Rattle.std.proofs.lemmas.List.{take_all, drop_all, map-append}
+use Rattle.std.proofs.lemmas.List.{take_all, drop_all, map-append, length-append, length-set}
 use Rattle.dnr_base.specs.Faults.{Rose, Count}
 use Rattle.dnr_spec.specs.declared.status.Status.{Status}
 use Rattle.load_spec.specs.Files.{Files}
@@ -20,7 +20,7 @@ use Rattle.std.specs.Io.KnownBytes.{Appends}
 use Rattle.session_serve.specs.Position.{Position}
 use Rattle.session_serve.specs.Round.{setting_with}
 use Rattle.session_spec.specs.Words.{Task, task_of}
-use Rattle.text_commands.specs.Ends.{MayEnd, outside}
+use Rattle.text_commands.specs.Ends.{MayEnd, MayEndBy, count, outside}
 use Rattle.dnr_top.proofs.Tasks.{out_of}
 
 -- what rose among some hosts rose among them and others, which stay
@@ -171,3 +171,59 @@ run_hosts faults hosts front back later len default checked all split one fell =
     hosts_after hosts front back later len checked all split one (as_many_hosts faults back later fell.1) in
     subst (λ (n : List _). AllZip (λ old new. faults old ≤ faults new) hosts n) (sym are)
     (subst (λ (o : List _). AllZip (λ old new. faults old ≤ faults new) o (checked ∷ later)) (sym was) (each_later faults (slice_index_or front 0 default ∷ back) (checked ∷ later) fell))
+
+-- ---- a run that asks the first host alone, or none
+
+pub still_hosts : {H : Type 0} (faults : H → ℕ) (hosts : List H) → AllZip (λ old new. faults old ≤ faults new) hosts hosts
+still_hosts faults hosts = each_later faults hosts hosts (none_fell_yet (map faults hosts))
+
+pub first_out : {H : Type 0} (faults : H → ℕ) (known : Option Files) (hosts : List H) (first checked : H) (shelf started sink : Count) (left : Option (List ℕ)) (words : List (List ℕ)) (task : Task) (before now : Option (List ℕ)) (ended : Status)
+    → 0 < length hosts → first ≡ slice_index_or hosts 0 first → task_of words ≡ Some task → MayEndBy known task shelf started sink (count (faults first) (faults checked)) left before now ended
+    → IfSome known (λ files. (written : List ℕ) × Appends before now written × Out words files (outside shelf started sink (map faults hosts) (map faults (slice_set hosts 0 checked)) left) ended written)
+first_out faults known [] first checked shelf started sink left words task before now ended some at is ends = absurd (omega (arith, some))
+first_out faults known (host ∷ back) first checked shelf started sink left words task before now ended some at is ends =
+    out_of known (outside shelf started sink (faults host ∷ map faults back) (faults checked ∷ map faults back) left) words task before now ended is
+    (subst (λ (n : ℕ). MayEnd known task (outside shelf started sink (n ∷ map faults back) (faults checked ∷ map faults back) left) before now ended) (ap faults at) (ends (map faults back)))
+
+pub first_later : {H : Type 0} (faults : H → ℕ) (hosts : List H) (first checked : H) → 0 < length hosts → first ≡ slice_index_or hosts 0 first → faults first ≤ faults checked
+    → AllZip (λ old new. faults old ≤ faults new) hosts (slice_set hosts 0 checked)
+first_later faults [] first checked some at later = absurd (omega (arith, some))
+first_later faults (host ∷ back) first checked some at later = (subst (λ (n : ℕ). n ≤ faults checked) (ap faults at) later, still_hosts faults back)
+
+-- ---- hosts of which the finders of seats were taken out, and put back
+
+seated_before : {H : Type 0} (faults : H → ℕ) (hosts front seated others : List H) (first : H) → hosts ≡ front ++ seated ++ others → length front ≡ 1 → first ≡ slice_index_or front 0 first
+    → map faults hosts ≡ faults first ∷ map faults seated ++ map faults others
+seated_before faults hosts [] seated others first split one at = absurd (omega (arith, one))
+seated_before faults hosts (host ∷ second ∷ front) seated others first split one at = absurd (omega (arith, one))
+seated_before faults hosts (host ∷ []) seated others first split one at =
+    ap (map faults) split ∙ ap (λ (n : ℕ). n ∷ map faults (seated ++ others)) (sym (ap faults at)) ∙ ap (λ (ns : List ℕ). faults first ∷ ns) (map-append faults seated others)
+
+seated_after : {H : Type 0} (faults : H → ℕ) (front later others : List H) (checked : H) → length front ≡ 1
+    → map faults (slice_set front 0 checked ++ later ++ others) ≡ faults checked ∷ map faults later ++ map faults others
+seated_after faults [] later others checked one = absurd (omega (arith, one))
+seated_after faults (host ∷ second ∷ front) later others checked one = absurd (omega (arith, one))
+seated_after faults (host ∷ []) later others checked one = ap (λ (ns : List ℕ). faults checked ∷ ns) (map-append faults later others)
+
+pub seated_end : {H : Type 0} (faults : H → ℕ) (known : Option Files) (hosts front seated later others : List H) (first checked : H) (shelf started sink : Count) (left : Option (List ℕ)) (task : Task) (before now : Option (List ℕ)) (ended : Status)
+    → hosts ≡ front ++ seated ++ others → length front ≡ 1 → first ≡ slice_index_or front 0 first
+    → ((more : List ℕ) → MayEnd known task (outside shelf started sink (faults first ∷ map faults seated ++ more) (faults checked ∷ map faults later ++ more) left) before now ended)
+    → MayEnd known task (outside shelf started sink (map faults hosts) (map faults (slice_set front 0 checked ++ later ++ others)) left) before now ended
+seated_end faults known hosts front seated later others first checked shelf started sink left task before now ended split one at ends =
+    subst (λ (ns : List ℕ). MayEnd known task (outside shelf started sink (map faults hosts) ns left) before now ended) (sym (seated_after faults front later others checked one))
+    (subst (λ (os : List ℕ). MayEnd known task (outside shelf started sink os (faults checked ∷ map faults later ++ map faults others) left) before now ended) (sym (seated_before faults hosts front seated others first split one at))
+    (ends (map faults others)))
+
+pub seated_later : {H : Type 0} (faults : H → ℕ) (hosts front seated later others : List H) (first checked : H) → hosts ≡ front ++ seated ++ others → length front ≡ 1 → first ≡ slice_index_or front 0 first
+    → NoneFell (faults first ∷ map faults seated) (faults checked ∷ map faults later) → NoneFell (map faults hosts) (map faults (slice_set front 0 checked ++ later ++ others))
+seated_later faults hosts front seated later others first checked split one at fell =
+    subst (NoneFell (map faults hosts)) (sym (seated_after faults front later others checked one))
+    (subst (λ (os : List ℕ). NoneFell os (faults checked ∷ map faults later ++ map faults others)) (sym (seated_before faults hosts front seated others first split one at))
+    (fell_among (faults first ∷ map faults seated) (faults checked ∷ map faults later) (map faults others) fell))
+
+pub seated_fit : {H : Type 0} (faults : H → ℕ) (hosts front seated later others : List H) (first last : ℕ) (checked : H) (room : ℕ) → hosts ≡ front ++ seated ++ others → NoneFell (first ∷ map faults seated) (last ∷ map faults later) → length hosts ≤ room
+    → length (slice_set front 0 checked) + length later + length others ≤ room
+seated_fit faults hosts front seated later others first last checked room split fell fits =
+    let all : length hosts ≡ length front + (length seated + length others) = ap length split ∙ length-append front (seated ++ others) ∙ ap (λ (n : ℕ). length front + n) (length-append seated others) in
+    let kept : length (slice_set front 0 checked) ≡ length front = length-set front 0 checked in
+    omega (arith, all, kept, as_many_hosts faults seated later fell.1, fits)

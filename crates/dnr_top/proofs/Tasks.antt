@@ -95,22 +95,15 @@ not_started_too whole part less unstarted = subst (λ (c : Count). c.now ≡ c.b
 started_too : (whole part : Outside) → SaysNoLess whole part → HasStarted part → HasStarted whole
 started_too whole part less started = subst (λ (c : Count). c.now ≡ next_count c.before) (sym less.same_started) started
 
--- an extension is not installed
-pub not_installed : (known : Option Files) (loaded : Loaded) (updates follows : Bool) (workers : ℕ) (script : List ℕ) (before now : Option (List ℕ)) (part : Outside) (s : Stop) (ended : Status)
-    → HasNotStarted part → StopsAs (PrintsInstall loaded) ⊥ s → (s ≡ stop.ReadFault → ⊥) → EndsStop before now part.sink s ended → MayServe known loaded updates follows workers script before now part ended
-not_installed None loaded updates follows workers script before now part s ended unstarted why no_fault ends = tt
-not_installed (Some files) loaded updates follows workers script before now part s ended unstarted why no_fault ends = λ session whole loads takes leads works less.
+-- an extension is not installed, or the script is not opened
+pub not_begun : (known : Option Files) (loaded : Loaded) (updates follows : Bool) (workers : ℕ) (script : List ℕ) (before now : Option (List ℕ)) (part : Outside) (s : Stop) (ended : Status)
+    → HasNotStarted part → StopsAs (PrintsInstall loaded) ⊥ s → (s ≡ stop.ReadFault → Rose part.shelf.before part.shelf.now) → EndsStop before now part.sink s ended → MayServe known loaded updates follows workers script before now part ended
+not_begun None loaded updates follows workers script before now part s ended unstarted why fault ends = tt
+not_begun (Some files) loaded updates follows workers script before now part s ended unstarted why fault ends = λ session whole loads takes leads works less.
     session_stops files whole session script before now s ended (not_started_too whole part less unstarted)
     (stops_map (PrintsInstall loaded) (RefusesSession files whole session) ⊥ (HasLongFileOf files session) s
     (λ line install. inr (record { loaded = loaded; read = loads; refused = install.refused; judged = install.judged; output = install.same })) (λ none. absurd none) why)
-    (λ is. absurd (no_fault is)) (subst (λ (sink : Count). EndsStop before now sink s ended) (sym less.same_sink) ends)
-
--- the script is not opened
-pub not_started : (known : Option Files) (loaded : Loaded) (updates follows : Bool) (workers : ℕ) (script : List ℕ) (before : Option (List ℕ)) (part : Outside)
-    → HasNotStarted part → Rose part.shelf.before part.shelf.now → MayServe known loaded updates follows workers script before before part status.ReadFault
-not_started None loaded updates follows workers script before part unstarted rose = tt
-not_started (Some files) loaded updates follows workers script before part unstarted rose = λ session whole loads takes leads works less.
-    ([], still_nothing before before refl, (less.shelf_rose rose, inl (not_started_too whole part less unstarted, refl)))
+    (λ is. less.shelf_rose (fault is)) (subst (λ (sink : Count). EndsStop before now sink s ended) (sym less.same_sink) ends)
 
 left_told : (left : Option (List ℕ)) (told : List ℕ) → is_some left ≡ true → told ≡ unwrap_or left [] → left ≡ Some told
 left_told None told some same = absurd (cc some)

@@ -1,5 +1,5 @@
 //! The commands: what is read, answered and written, in order.
-ghost use Rattle.std.specs.Prelude.{◌≡◌, ◌≢◌, ◌<◌, ◌≤◌, ◌↔◌, ℕ, List, [], ◌∷◌, None, map, length, IfSome, string_bytes};
+ghost use Rattle.std.specs.Prelude.{◌≡◌, ◌≢◌, ◌<◌, ◌≤◌, ◌↔◌, ℕ, List, [], ◌∷◌, ◌++◌, None, map, length, IfSome, string_bytes};
 ghost use Rattle.std.specs.List.{AllZip};
 ghost use Rattle.std.specs.Io.KnownBytes.{Appends};
 ghost use Rattle.dnr_base.specs.Faults.{Rose};
@@ -10,7 +10,8 @@ ghost use Rattle.session_spec.specs.Words.{serve_script, task_of};
 ghost use Rattle.text_commands.specs.Ends.{MayEnd, count, outside};
 ghost use Rattle.dnr_top.specs.Asked.{MayAskFor, requests_task};
 
-use crate::session::serve;
+use crate::session::{answer, serve};
+use crate::taking::{put_back, take_seated};
 use dnr_io::{Shelf, Sink, Status};
 use dnr_words::{Serving, Task, read_words};
 use lookup_pool::Gate;
@@ -76,40 +77,31 @@ pub fn run<R: Threads + Wait + Sync, F: Shelf, O: Sink, H: RegexHost + Send, G: 
     ensures read_fault { result ≡ Status.ReadFault → Rose (F.Source.faults shelf.old) (F.Source.faults shelf.new) }
     ensures write_fault { result ≡ Status.WriteFault → Rose (O.faults out.old) (O.faults out.new) }
 {
-    let (checkers, finders) = hosts.split_at_mut(1);
-    let checker = &mut checkers[0];
     match read_words(words) {
         Some(Task::Match(rules, script)) => {
-            answer_requests(
-                rt, alloc, rules, script, false, shelf, out, checker, finders, gate,
-            )
+            let (checkers, finders) = hosts.split_at_mut(1);
+            let checker = &mut checkers[0];
+            answer_requests(alloc, rules, script, false, shelf, out, checker, finders)
         }
         Some(Task::Follow(rules, script)) => {
-            answer_requests(
-                rt, alloc, rules, script, true, shelf, out, checker, finders, gate,
-            )
+            let (checkers, finders) = hosts.split_at_mut(1);
+            let checker = &mut checkers[0];
+            answer_requests(alloc, rules, script, true, shelf, out, checker, finders)
         }
-        Some(Task::Check(kind, rules)) => check_rules(alloc, kind, rules, shelf, out, checker),
-        Some(Task::Compile(list)) => compile_list(alloc, list, shelf, out, checker),
-        Some(Task::Serve(serving)) => {
-            serve_script(rt, alloc, &serving, shelf, out, checker, finders, gate)
+        Some(Task::Check(kind, rules)) => {
+            check_rules(alloc, kind, rules, shelf, out, &mut hosts[0])
         }
+        Some(Task::Compile(list)) => compile_list(alloc, list, shelf, out, &mut hosts[0]),
+        Some(Task::Serve(serving)) => serve_script(rt, alloc, &serving, shelf, out, hosts, gate),
         Some(Task::Sample(sample)) => make_sample(alloc, &sample, out),
         Some(Task::Hide(list, host)) => hide_page(alloc, list, host, shelf, out),
-        Some(Task::Prune(rules)) => prune_rules(alloc, rules, shelf, out, checker),
+        Some(Task::Prune(rules)) => prune_rules(alloc, rules, shelf, out, &mut hosts[0]),
         None => Status::Usage,
     }
 }
 
 // Answers the requests of a file by the rules of a file, and follows them or not.
-fn answer_requests<
-    R: Threads + Wait + Sync,
-    F: Shelf,
-    O: Sink,
-    H: RegexHost + Send,
-    G: Gate + Sync,
->(
-    rt: &R,
+fn answer_requests<F: Shelf, O: Sink, H: RegexHost>(
     alloc: Global,
     rules: &str,
     script: &str,
@@ -118,7 +110,6 @@ fn answer_requests<
     out: &mut O,
     checker: &mut H,
     finders: &mut [H],
-    gate: &G,
 ) -> Status
     requires seats { 0 < length finders.old }
     requires names { F.allows rules.now × F.allows script.now }
@@ -135,34 +126,30 @@ fn answer_requests<
     ensures write_fault { result ≡ Status.WriteFault → Rose (O.faults out.old) (O.faults out.new) }
 {
     match load_local(alloc, rules, shelf, checker) {
-        Ok(loaded) => serve(
-            rt, alloc, loaded, script, false, follows, 1, shelf, out, checker, finders, gate,
-        ),
+        Ok(loaded) => answer(alloc, loaded, script, follows, shelf, out, checker, finders),
         Err(stop) => stop_with(&stop, out),
     }
 }
 
+// Serves a script. The threads of its seats own their finders, so that these are taken out of the hosts meanwhile.
 fn serve_script<R: Threads + Wait + Sync, F: Shelf, O: Sink, H: RegexHost + Send, G: Gate + Sync>(
     rt: &R,
     alloc: Global,
     serving: &Serving<'_>,
     shelf: &mut F,
     out: &mut O,
-    checker: &mut H,
-    finders: &mut [H],
+    hosts: &mut Vec<H>,
     gate: &G,
 ) -> Status
-    requires seats { serving.now.workers ≤ length finders.old }
+    requires hosts { serving.now.workers < length hosts.old.items }
     requires names { MayAskServing F.allows (F.Source.files shelf.old) serving.now × F.allows serving.now.script }
     ensures no_usage { result ≢ Status.Usage }
     ensures allowed { MayEnd (F.Source.files shelf.old) (serve_script serving.now)
         (outside (count (F.Source.faults shelf.old) (F.Source.faults shelf.new))
         (count (F.Source.starts shelf.old) (F.Source.starts shelf.new)) (count (O.faults out.old) (O.faults out.new))
-        (H.faults checker.old ∷ map H.faults finders.old) (H.faults checker.new ∷ map H.faults finders.new)
-        (F.Source.left shelf.new))
+        (map H.faults hosts.old.items) (map H.faults hosts.new.items) (F.Source.left shelf.new))
         (O.taken out.old) (O.taken out.new) result }
-    ensures later { NoneFell (H.faults checker.old ∷ map H.faults finders.old)
-        (H.faults checker.new ∷ map H.faults finders.new) }
+    ensures later { NoneFell (map H.faults hosts.old.items) (map H.faults hosts.new.items) }
     ensures read_fault { result ≡ Status.ReadFault → Rose (F.Source.faults shelf.old) (F.Source.faults shelf.new) }
     ensures write_fault { result ≡ Status.WriteFault → Rose (O.faults out.old) (O.faults out.new) }
 {
@@ -171,19 +158,53 @@ fn serve_script<R: Threads + Wait + Sync, F: Shelf, O: Sink, H: RegexHost + Send
         // No words say so.
         return Status::NoMemory;
     }
+    let Ok(mut taken) = take_seated(hosts, workers) else {
+        return Status::NoMemory;
+    };
+    let checker = &mut hosts[0];
+    let seated = &mut taken.seated;
+    let status = serve_seated(rt, alloc, serving, shelf, out, checker, seated, gate);
+    put_back(hosts, taken);
+    status
+}
+
+// The same with the finders of its workers, whatever the counts of the other hosts.
+fn serve_seated<R: Threads + Wait + Sync, F: Shelf, O: Sink, H: RegexHost + Send, G: Gate + Sync>(
+    rt: &R,
+    alloc: Global,
+    serving: &Serving<'_>,
+    shelf: &mut F,
+    out: &mut O,
+    checker: &mut H,
+    seated: &mut Vec<H>,
+    gate: &G,
+) -> Status
+    requires some { 0 < length seated.old.items }
+    requires few { length seated.old.items ≤ 8 }
+    requires seats { length seated.old.items ≡ serving.now.workers }
+    requires names { MayAskServing F.allows (F.Source.files shelf.old) serving.now × F.allows serving.now.script }
+    ensures no_usage { result ≢ Status.Usage }
+    ensures allowed { (others : List ℕ) → MayEnd (F.Source.files shelf.old) (serve_script serving.now)
+        (outside (count (F.Source.faults shelf.old) (F.Source.faults shelf.new))
+        (count (F.Source.starts shelf.old) (F.Source.starts shelf.new)) (count (O.faults out.old) (O.faults out.new))
+        (H.faults checker.old ∷ map H.faults seated.old.items ++ others)
+        (H.faults checker.new ∷ map H.faults seated.new.items ++ others) (F.Source.left shelf.new))
+        (O.taken out.old) (O.taken out.new) result }
+    ensures later { NoneFell (H.faults checker.old ∷ map H.faults seated.old.items)
+        (H.faults checker.new ∷ map H.faults seated.new.items) }
+    ensures read_fault { result ≡ Status.ReadFault → Rose (F.Source.faults shelf.old) (F.Source.faults shelf.new) }
+    ensures write_fault { result ≡ Status.WriteFault → Rose (O.faults out.old) (O.faults out.new) }
+{
     match load_serving(alloc, serving, shelf, checker) {
         Ok(loaded) => serve(
             rt,
             alloc,
             loaded,
             serving.script(),
-            true,
-            false,
-            workers,
             shelf,
             out,
             checker,
-            finders,
+            seated,
             gate,
         ),
         Err(stop) => stop_with(&stop, out),

@@ -3,5 +3,6 @@
 
 mod commands;
 mod session;
+mod taking;
 
 pub use commands::run;

@@ -1,9 +1,9 @@
 //! A session: what was loaded is installed, and the script is served.
-ghost use Rattle.std.specs.Prelude.{◌≡◌, ◌≢◌, ◌≤◌, ◌<◌, ◌∷◌, length, map, is_some, true, false, Err, IfOk, IfErr, IfSome};
-ghost use Rattle.dnr_base.specs.Faults.{Rose, HasCause, HasCauseOf};
+ghost use Rattle.std.specs.Prelude.{◌≡◌, ◌≢◌, ◌≤◌, ◌<◌, ◌∷◌, length, map, is_some, true, false, Err, IfOk, IfErr, IfSome, OnOk, OnErr};
+ghost use Rattle.dnr_base.specs.Faults.{Rose, HasCauseOf, next_count};
+ghost use Rattle.dnr_io.specs.Shelf.{IsStarted};
 ghost use Rattle.session_load.specs.Stops.{Prints, StopsAs};
 ghost use Rattle.session_laws.specs.Turns.{NoneFell, counts_between};
-ghost use Rattle.session_serve.specs.Round.{setting_with};
 ghost use Rattle.session_serve.specs.Serving.{EndsServing};
 ghost use Rattle.session_spec.specs.Refusals.{install_line};
 ghost use Rattle.text_commands.specs.Ends.{count, outside};
@@ -24,29 +24,22 @@ use std::thread::Threads;
 use text_commands::stop_with;
 use update_spec::Refusal;
 
-/// Installs what was loaded, and serves the script with so many of the finders, each for a seat beside the writer. Without
-/// updates it knows requests alone, and answers them in turn, each with where it leads where they are followed.
-pub fn serve<R: Threads + Wait + Sync, F: Shelf, O: Sink, H: RegexHost + Send, G: Gate + Sync>(
-    rt: &R,
+/// Installs what was loaded, and answers the requests of the script in turn, each with where it leads where they are followed.
+/// The first of the finders finds the matches; updates are not known.
+pub fn answer<F: Shelf, O: Sink, H: RegexHost>(
     alloc: Global,
     loaded: Loaded,
     script: &str,
-    updates: bool,
     follows: bool,
-    workers: usize,
     shelf: &mut F,
     out: &mut O,
     checker: &mut H,
     finders: &mut [H],
-    gate: &G,
 ) -> Status
-    requires some { 0 < workers }
-    requires few { workers ≤ 8 }
-    requires enough { workers ≤ length finders.old }
+    requires some { 0 < length finders.old }
     requires named { F.allows script.now }
-    requires either { updates ≡ true → follows ≡ false }
     ensures no_usage { result ≢ Status.Usage }
-    ensures allowed { MayServe (F.Source.files shelf.old) loaded updates follows workers script.now
+    ensures allowed { MayServe (F.Source.files shelf.old) loaded false follows 1 script.now
         (O.taken out.old) (O.taken out.new)
         (outside (count (F.Source.faults shelf.old) (F.Source.faults shelf.new))
         (count (F.Source.starts shelf.old) (F.Source.starts shelf.new)) (count (O.faults out.old) (O.faults out.new))
@@ -58,104 +51,63 @@ pub fn serve<R: Threads + Wait + Sync, F: Shelf, O: Sink, H: RegexHost + Send, G
     ensures read_fault { result ≡ Status.ReadFault → Rose (F.Source.faults shelf.old) (F.Source.faults shelf.new) }
     ensures write_fault { result ≡ Status.WriteFault → Rose (O.faults out.old) (O.faults out.new) }
 {
-    let generation = match install(alloc, loaded) {
+    match start_script(alloc, loaded, script, shelf) {
+        Ok(generation) => ended(serve_in_turn(
+            alloc, generation, follows, shelf, out, checker, finders,
+        )),
+        Err(stop) => stop_with(&stop, out),
+    }
+}
+
+/// Installs what was loaded, and serves the script by a seat for each finder, beside the writer of updates.
+pub fn serve<R: Threads + Wait + Sync, F: Shelf, O: Sink, H: RegexHost + Send, G: Gate + Sync>(
+    rt: &R,
+    alloc: Global,
+    loaded: Loaded,
+    script: &str,
+    shelf: &mut F,
+    out: &mut O,
+    checker: &mut H,
+    seated: &mut Vec<H>,
+    gate: &G,
+) -> Status
+    requires some { 0 < length seated.old.items }
+    requires few { length seated.old.items ≤ 8 }
+    requires named { F.allows script.now }
+    ensures no_usage { result ≢ Status.Usage }
+    ensures allowed { MayServe (F.Source.files shelf.old) loaded true false (length seated.old.items) script.now
+        (O.taken out.old) (O.taken out.new)
+        (outside (count (F.Source.faults shelf.old) (F.Source.faults shelf.new))
+        (count (F.Source.starts shelf.old) (F.Source.starts shelf.new)) (count (O.faults out.old) (O.faults out.new))
+        (H.faults checker.old ∷ map H.faults seated.old.items) (H.faults checker.new ∷ map H.faults seated.new.items)
+        (F.Source.left shelf.new)) result }
+    ensures later { NoneFell (H.faults checker.old ∷ map H.faults seated.old.items)
+        (H.faults checker.new ∷ map H.faults seated.new.items) }
+    ensures shelf_later { F.Source.faults shelf.old ≤ F.Source.faults shelf.new }
+    ensures read_fault { result ≡ Status.ReadFault → Rose (F.Source.faults shelf.old) (F.Source.faults shelf.new) }
+    ensures write_fault { result ≡ Status.WriteFault → Rose (O.faults out.old) (O.faults out.new) }
+{
+    let generation = match start_script(alloc, loaded, script, shelf) {
         Ok(generation) => generation,
         Err(stop) => return stop_with(&stop, out),
     };
-    match shelf.start(script) {
-        Ok(()) => ended(serve_started(
-            rt, alloc, generation, updates, follows, workers, shelf, out, checker, finders, gate,
-        )),
-        Err(_) => Status::ReadFault,
-    }
+    ended(serve_with_seats(rt, alloc, generation, shelf, out, checker, seated, gate))
 }
 
-// Serves what the source has left with so many of the finders.
-fn serve_started<R: Threads + Wait + Sync, S: Source, O: Sink, H: RegexHost + Send, G: Gate + Sync>(
-    rt: &R,
-    alloc: Global,
-    generation: Generation,
-    updates: bool,
-    follows: bool,
-    workers: usize,
-    source: &mut S,
-    out: &mut O,
-    checker: &mut H,
-    finders: &mut [H],
-    gate: &G,
-) -> Result<(), ServeStop>
-    requires some { 0 < workers }
-    requires few { workers ≤ 8 }
-    requires enough { workers ≤ length finders.old }
-    requires fresh { generation.state.count ≡ 0 }
-    requires either { updates ≡ true → follows ≡ false }
-    ensures served { IfSome (S.left source.old) (λ script. EndsServing (O.taken out.old) (O.taken out.new)
-        (counts_between (H.faults checker.old ∷ map H.faults finders.old) (H.faults checker.new ∷ map H.faults finders.new))
-        (record { suffixes = generation.suffixes; workers = workers; updates = updates; follows = follows }) generation.state script (S.left source.new) result) }
-    ensures later { NoneFell (H.faults checker.old ∷ map H.faults finders.old)
-        (H.faults checker.new ∷ map H.faults finders.new) }
-    ensures told { is_some (S.left source.new) ≡ is_some (S.left source.old) }
-    ensures starts { S.starts source.new ≡ S.starts source.old }
-    ensures read_fault { HasCauseOf ServeStop.ReadFault (S.faults source.old) (S.faults source.new) result }
-    ensures write_fault { HasCauseOf ServeStop.WriteFault (O.faults out.old) (O.faults out.new) result }
-{
-    if updates {
-        serve_beside(
-            rt, alloc, generation, workers, source, out, checker, finders, gate,
-        )
-    } else {
-        serve_in_turn(
-            alloc, generation, follows, workers, source, out, checker, finders,
-        )
-    }
-}
-
-// By seats beside the writer of updates.
-fn serve_beside<R: Threads + Wait + Sync, S: Source, O: Sink, H: RegexHost + Send, G: Gate + Sync>(
-    rt: &R,
-    alloc: Global,
-    generation: Generation,
-    workers: usize,
-    source: &mut S,
-    out: &mut O,
-    checker: &mut H,
-    finders: &mut [H],
-    gate: &G,
-) -> Result<(), ServeStop>
-    requires some { 0 < workers }
-    requires few { workers ≤ 8 }
-    requires enough { workers ≤ length finders.old }
-    requires fresh { generation.state.count ≡ 0 }
-    ensures served { IfSome (S.left source.old) (λ script. EndsServing (O.taken out.old) (O.taken out.new)
-        (counts_between (H.faults checker.old ∷ map H.faults finders.old) (H.faults checker.new ∷ map H.faults finders.new))
-        (record { suffixes = generation.suffixes; workers = workers; updates = true; follows = false }) generation.state script (S.left source.new) result) }
-    ensures later { NoneFell (H.faults checker.old ∷ map H.faults finders.old)
-        (H.faults checker.new ∷ map H.faults finders.new) }
-    ensures told { is_some (S.left source.new) ≡ is_some (S.left source.old) }
-    ensures starts { S.starts source.new ≡ S.starts source.old }
-    ensures read_fault { HasCauseOf ServeStop.ReadFault (S.faults source.old) (S.faults source.new) result }
-    ensures write_fault { HasCauseOf ServeStop.WriteFault (O.faults out.old) (O.faults out.new) result }
-{
-    let (seats, _) = finders.split_at_mut(workers);
-    serve_with_seats(rt, alloc, generation, source, out, checker, seats, gate)
-}
-
-// Without updates, one request after another.
+// Without updates, one request after another, with the first of the finders.
 fn serve_in_turn<S: Source, O: Sink, H: RegexHost>(
     alloc: Global,
     generation: Generation,
     follows: bool,
-    workers: usize,
     source: &mut S,
     out: &mut O,
     checker: &mut H,
     finders: &mut [H],
 ) -> Result<(), ServeStop>
-    requires some { 0 < workers }
-    requires enough { workers ≤ length finders.old }
+    requires some { 0 < length finders.old }
     ensures served { IfSome (S.left source.old) (λ script. EndsServing (O.taken out.old) (O.taken out.new)
         (counts_between (H.faults checker.old ∷ map H.faults finders.old) (H.faults checker.new ∷ map H.faults finders.new))
-        (record { suffixes = generation.suffixes; workers = workers; updates = false; follows = follows }) generation.state script (S.left source.new) result) }
+        (record { suffixes = generation.suffixes; workers = 1; updates = false; follows = follows }) generation.state script (S.left source.new) result) }
     ensures later { NoneFell (H.faults checker.old ∷ map H.faults finders.old)
         (H.faults checker.new ∷ map H.faults finders.new) }
     ensures told { is_some (S.left source.new) ≡ is_some (S.left source.old) }
@@ -164,7 +116,7 @@ fn serve_in_turn<S: Source, O: Sink, H: RegexHost>(
     ensures write_fault { HasCauseOf ServeStop.WriteFault (O.faults out.old) (O.faults out.new) result }
 {
     let session = Session::new(alloc, generation, false, follows);
-    let (seats, _) = finders.split_at_mut(workers);
+    let (seats, _) = finders.split_at_mut(1);
     serve_lines(alloc, session, source, out, checker, seats)
 }
 
@@ -179,6 +131,28 @@ fn ended(served: Result<(), ServeStop>) -> Status
         Err(ServeStop::WriteFault) => Status::WriteFault,
         Err(ServeStop::TooLong) => Status::FileTooLong,
         Err(ServeStop::NoMemory) => Status::NoMemory,
+    }
+}
+
+// Installs what was loaded, and starts the script.
+fn start_script<F: Shelf>(
+    alloc: Global,
+    loaded: Loaded,
+    script: &str,
+    shelf: &mut F,
+) -> Result<Generation, Stop>
+    requires { F.allows script.now }
+    ensures opens { IfOk result (IsOpened loaded) }
+    ensures started { OnOk result (IsStarted (F.Source.files shelf.old) script.now (F.Source.left shelf.new)) }
+    ensures counted { OnOk result (F.Source.starts shelf.new ≡ next_count (F.Source.starts shelf.old)) }
+    ensures stops { IfErr result (StopsAs (PrintsInstall loaded) ⊥) }
+    ensures uncounted { OnErr result (F.Source.starts shelf.new ≡ F.Source.starts shelf.old) }
+    ensures cause { HasCauseOf Stop.ReadFault (F.Source.faults shelf.old) (F.Source.faults shelf.new) result }
+{
+    let generation = install(alloc, loaded)?;
+    match shelf.start(script) {
+        Ok(()) => Ok(generation),
+        Err(_) => Err(Stop::ReadFault),
     }
 }
 

@@ -56,17 +56,17 @@ pub fn serve_with_seats<
     source: &mut S,
     out: &mut O,
     checker: &mut H,
-    finders: &mut [H],
+    finders: &mut Vec<H>,
     gate: &G,
 ) -> Result<(), ServeStop>
-    requires some { 0 < length finders.old }
-    requires few { length finders.old ≤ 8 }
+    requires some { 0 < length finders.old.items }
+    requires few { length finders.old.items ≤ 8 }
     requires fresh { generation.state.count ≡ 0 }
     ensures served { IfSome (S.left source.old) (λ script. EndsServing (O.taken out.old) (O.taken out.new)
-        (counts_between (H.faults checker.old ∷ map H.faults finders.old) (H.faults checker.new ∷ map H.faults finders.new))
-        (serving generation.suffixes (length finders.old)) generation.state script (S.left source.new) result) }
-    ensures later { NoneFell (H.faults checker.old ∷ map H.faults finders.old)
-        (H.faults checker.new ∷ map H.faults finders.new) }
+        (counts_between (H.faults checker.old ∷ map H.faults finders.old.items) (H.faults checker.new ∷ map H.faults finders.new.items))
+        (serving generation.suffixes (length finders.old.items)) generation.state script (S.left source.new) result) }
+    ensures later { NoneFell (H.faults checker.old ∷ map H.faults finders.old.items)
+        (H.faults checker.new ∷ map H.faults finders.new.items) }
     ensures told { is_some (S.left source.new) ≡ is_some (S.left source.old) }
     ensures starts { S.starts source.new ≡ S.starts source.old }
     ensures read_fault { HasCauseOf ServeStop.ReadFault (S.faults source.old) (S.faults source.new) result }
@@ -80,7 +80,7 @@ pub fn serve_with_seats<
         source,
         out,
         checker,
-        finders,
+        finders.as_mut_slice(),
         gate,
     )
 }

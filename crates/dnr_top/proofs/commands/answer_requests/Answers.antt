@@ -8,17 +8,17 @@ use Rattle.dnr_top.proofs.commands.answer_requests.Goals as goal
 pub returns-in-Ok-clause-allowed : goal.returns-in-Ok-clause-allowed
 returns-in-Ok-clause-allowed g c =
     rules_serve c.args.follows (g.F.Source.files c.args.shelf.now) (g.F.Source.files c.load_local.new.shelf)
-    (outside (count (g.F.Source.faults c.args.shelf.now) (g.F.Source.faults c.serve.new.shelf)) (count (g.F.Source.starts c.args.shelf.now) (g.F.Source.starts c.serve.new.shelf)) (count (g.O.Sink.faults c.args.out.now) (g.O.Sink.faults c.serve.new.out))
-    (g.H.RegexHost.faults c.args.checker.now ∷ map g.H.RegexHost.faults c.args.finders.now) (g.H.RegexHost.faults c.serve.new.checker ∷ map g.H.RegexHost.faults c.serve.new.finders) (g.F.Source.left c.serve.new.shelf))
-    (outside (count (g.F.Source.faults c.load_local.new.shelf) (g.F.Source.faults c.serve.new.shelf)) (count (g.F.Source.starts c.load_local.new.shelf) (g.F.Source.starts c.serve.new.shelf)) (count (g.O.Sink.faults c.args.out.now) (g.O.Sink.faults c.serve.new.out))
-    (g.H.RegexHost.faults c.load_local.new.host ∷ map g.H.RegexHost.faults c.args.finders.now) (g.H.RegexHost.faults c.serve.new.checker ∷ map g.H.RegexHost.faults c.serve.new.finders) (g.F.Source.left c.serve.new.shelf))
-    c.args.rules.now c.args.script.now c.in-Ok.loaded (g.O.Sink.taken c.args.out.now) (g.O.Sink.taken c.serve.new.out) c.serve.result
-    c.in-Ok.ensures.files c.in-Ok.ensures.loads c.serve.ensures.allowed (record {
-      shelf_rose = λ rose. rose_since (g.F.Source.faults c.args.shelf.now) (g.F.Source.faults c.load_local.new.shelf) (g.F.Source.faults c.serve.new.shelf) c.in-Ok.ensures.cause.later rose;
-      same_started = ap (λ (n : ℕ). count n (g.F.Source.starts c.serve.new.shelf)) (sym c.in-Ok.ensures.starts);
+    (outside (count (g.F.Source.faults c.args.shelf.now) (g.F.Source.faults c.answer.new.shelf)) (count (g.F.Source.starts c.args.shelf.now) (g.F.Source.starts c.answer.new.shelf)) (count (g.O.Sink.faults c.args.out.now) (g.O.Sink.faults c.answer.new.out))
+    (g.H.RegexHost.faults c.args.checker.now ∷ map g.H.RegexHost.faults c.args.finders.now) (g.H.RegexHost.faults c.answer.new.checker ∷ map g.H.RegexHost.faults c.answer.new.finders) (g.F.Source.left c.answer.new.shelf))
+    (outside (count (g.F.Source.faults c.load_local.new.shelf) (g.F.Source.faults c.answer.new.shelf)) (count (g.F.Source.starts c.load_local.new.shelf) (g.F.Source.starts c.answer.new.shelf)) (count (g.O.Sink.faults c.args.out.now) (g.O.Sink.faults c.answer.new.out))
+    (g.H.RegexHost.faults c.load_local.new.host ∷ map g.H.RegexHost.faults c.args.finders.now) (g.H.RegexHost.faults c.answer.new.checker ∷ map g.H.RegexHost.faults c.answer.new.finders) (g.F.Source.left c.answer.new.shelf))
+    c.args.rules.now c.args.script.now c.in-Ok.loaded (g.O.Sink.taken c.args.out.now) (g.O.Sink.taken c.answer.new.out) c.answer.result
+    c.in-Ok.ensures.files c.in-Ok.ensures.loads c.answer.ensures.allowed (record {
+      shelf_rose = λ rose. rose_since (g.F.Source.faults c.args.shelf.now) (g.F.Source.faults c.load_local.new.shelf) (g.F.Source.faults c.answer.new.shelf) c.in-Ok.ensures.cause.later rose;
+      same_started = ap (λ (n : ℕ). count n (g.F.Source.starts c.answer.new.shelf)) (sym c.in-Ok.ensures.starts);
       same_sink = refl;
-      hosts = since_before (g.H.RegexHost.faults c.args.checker.now) (g.H.RegexHost.faults c.load_local.new.host) (g.H.RegexHost.faults c.serve.new.checker)
-          (map g.H.RegexHost.faults c.args.finders.now) (map g.H.RegexHost.faults c.serve.new.finders) c.in-Ok.ensures.later;
+      hosts = since_before (g.H.RegexHost.faults c.args.checker.now) (g.H.RegexHost.faults c.load_local.new.host) (g.H.RegexHost.faults c.answer.new.checker)
+          (map g.H.RegexHost.faults c.args.finders.now) (map g.H.RegexHost.faults c.answer.new.finders) c.in-Ok.ensures.later;
       same_left = refl;
     })
 
