@@ -13,13 +13,13 @@ use Rattle.session_serve.specs.declared.stop.ServeStop.{ServeStop}
 use Rattle.session_serve.specs.declared.stop.ServeStop.TheVariants as serve
 use Rattle.session_spec.specs.Rounds.{rounds_of, whole_rounds_of, short_lines, ended_lines}
 use Rattle.session_spec.specs.Answers.{Setting, Serves, HostRisesBy}
-use Rattle.session_spec.specs.Out.{Out}
+use Rattle.session_spec.specs.Out.{Out, hosts_needed}
 use Rattle.session_laws.specs.Turns.{NoneFell, counts_between}
 use Rattle.session_laws.proofs.Rises.{nothing_risen, none_fell_yet}
 use Rattle.std.specs.Io.KnownBytes.{Appends}
 use Rattle.session_serve.specs.Position.{Position}
 use Rattle.session_serve.specs.Round.{setting_with}
-use Rattle.session_spec.specs.Words.{Task, task_of}
+use Rattle.session_spec.specs.Words.{Task, task_of, match_files, follow_files, check_file, compile_file, serve_script, make_sample, hide_page, prune_file}
 use Rattle.text_commands.specs.Ends.{MayEnd, MayEndBy, count, outside}
 use Rattle.dnr_top.proofs.Tasks.{out_of}
 
@@ -176,6 +176,17 @@ run_hosts faults hosts front back later len default checked all split one fell =
 
 pub still_hosts : {H : Type 0} (faults : H → ℕ) (hosts : List H) → AllZip (λ old new. faults old ≤ faults new) hosts hosts
 still_hosts faults hosts = each_later faults hosts hosts (none_fell_yet (map faults hosts))
+
+pub some_host : (task : Option Task) (count : ℕ) → hosts_needed task ≤ count → 0 < count
+some_host None count enough = omega (arith, enough)
+some_host (Some (match_files rules script)) count enough = omega (arith, enough)
+some_host (Some (follow_files rules script)) count enough = omega (arith, enough)
+some_host (Some (check_file kind name)) count enough = omega (arith, enough)
+some_host (Some (compile_file name)) count enough = omega (arith, enough)
+some_host (Some (serve_script serving)) count enough = omega (arith, enough)
+some_host (Some (make_sample sample)) count enough = omega (arith, enough)
+some_host (Some (hide_page list host)) count enough = omega (arith, enough)
+some_host (Some (prune_file name)) count enough = omega (arith, enough)
 
 pub first_out : {H : Type 0} (faults : H → ℕ) (known : Option Files) (hosts : List H) (first checked : H) (shelf started sink : Count) (left : Option (List ℕ)) (words : List (List ℕ)) (task : Task) (before now : Option (List ℕ)) (ended : Status)
     → 0 < length hosts → first ≡ slice_index_or hosts 0 first → task_of words ≡ Some task → MayEndBy known task shelf started sink (count (faults first) (faults checked)) left before now ended
